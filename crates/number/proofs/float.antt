@@ -1,0 +1,4 @@
+-- The laws behind absolute value and ceiling.
+pub mod Absolute
+pub mod Ceiling
+pub mod Large

@@ -1,0 +1,9 @@
+-- The laws behind the square root.
+pub mod Whole
+pub mod Floor
+pub mod Rooted
+pub mod Read
+pub mod Total
+pub mod Bounded
+pub mod Nearest
+pub mod Monotone

@@ -1,0 +1,4 @@
+pub mod Ops
+pub mod Float
+pub mod Root
+pub mod Wide
