@@ -1,3 +1,4 @@
+-- `number::float::round_up` meets its contract: below 2 ^ 52 the whole part is exact, and one more where something was cut off. Assumes nothing.
 use mathlib.Core.Path.{_≡_, sym, ap, _∙_, subst}
 use native.Mathlib.Omega.{arith}
 use mathlib.Core.Bool.{true, false}

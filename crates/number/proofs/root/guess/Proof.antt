@@ -1,3 +1,4 @@
+-- `number::root::guess` meets its contract: each return lies from 2 ^ 52 to 2 ^ 53, by the test before it. Assumes nothing.
 use Rattle.number.proofs.Patterns.{lt-no-nan, no-nan-bits}
 use native.Mathlib.Omega.{arith}
 use borrow.Author.Needs.{needs}

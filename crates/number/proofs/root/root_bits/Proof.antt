@@ -1,3 +1,4 @@
+-- `number::root::root_bits` meets its contract: the nearest whole root of the scaled number is what the definition keeps, and its pattern is the exponent and it. Assumes nothing.
 use mathlib.Core.Path.{sym, ap, _∙_}
 use Prim.Native.Nat.{_+_, _-_, _*_, _/_, _%_, _^_}
 use native.Mathlib.Omega.{arith}

@@ -1,3 +1,4 @@
+-- `number::root::sqrt` meets its contract: NaN, the infinities, -0 and negatives by their cases, the rest by `sqrt_finite`. Assumes nothing.
 use mathlib.Core.Path.{sym, _∙_, subst}
 use lib.Dec.{T}
 use lib.Ieee.{binary64, fits}

@@ -1,3 +1,4 @@
+-- `number::root::sqrt_finite` meets its contract: what is read off the pattern is the number in units of 2 ^ -1074, subnormal or not. Assumes nothing.
 use mathlib.Core.Path.{sym, ap, _∙_, subst}
 use native.Mathlib.Omega.{arith}
 use lib.Dec.{T}

@@ -1,3 +1,4 @@
+-- `number::root::under` meets its contract: the carry of the low part decides as the whole numbers do. Assumes nothing.
 use native.Mathlib.Omega.{arith}
 use borrow.Author.Tests.{leb-true, leb-false}
 use borrow.Author.Needs.{needs}

@@ -1,0 +1,7 @@
+-- What crates above cite too: walks over indices, runs of stores, and the first failing row.
+pub mod And
+pub mod Every
+pub mod Stores
+pub mod Formed
+pub mod Rows
+pub mod Zero

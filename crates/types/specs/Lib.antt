@@ -1,0 +1,5 @@
+pub mod Outcome
+pub mod Vector
+pub mod Lent
+pub mod Domain
+pub mod Midpoint
