@@ -1,18 +1,10 @@
 -- Laws of `everyFrom` in the form in which a loop `for i in 0..e` meets them: e - i indices are left. Assumes nothing.
 use Prim.Native.Nat.{ℕ, suc, _+_, _-_, _≤_, _<_}
-use mathlib.Core.Path.{_≡_, refl, sym, _∙_}
+use mathlib.Core.Path.{_≡_, sym, _∙_}
 use mathlib.Core.Bool.{Bool, true, false, not}
 use native.Mathlib.Omega.{arith}
+use borrow.Author.Tests.{not-true, not-false}
 use Rattle.types.specs.Domain.{everyFrom}
-
--- what a test `if !b` says of b
-pub passed : (b : Bool) → not b ≡ false → b ≡ true
-passed true h = refl
-passed false h = sym h
-
-pub failed : (b : Bool) → not b ≡ true → b ≡ false
-failed true h = sym h
-failed false h = refl
 
 module _ (ok : ℕ → Bool) (e : ℕ) (w : Bool) where
   -- b, the test at i, passed
@@ -20,7 +12,7 @@ module _ (ok : ℕ → Bool) (e : ℕ) (w : Bool) where
   unfolding everyFrom
   every-step i b h q t r =
       let z : e - i ≡ suc (e - (i + 1)) = omega arith in
-      let g : ok i ≡ true = sym q ∙ passed b t in
+      let g : ok i ≡ true = sym q ∙ not-false b t in
       sym (rw (z, g)) ∙ r
 
   -- it failed
@@ -28,7 +20,7 @@ module _ (ok : ℕ → Bool) (e : ℕ) (w : Bool) where
   unfolding everyFrom
   every-stop i b h q t r =
       let z : e - i ≡ suc (e - (i + 1)) = omega arith in
-      let g : ok i ≡ false = sym q ∙ failed b t in
+      let g : ok i ≡ false = sym q ∙ not-true b t in
       sym (rw (z, g)) ∙ r
 
   pub every-start : everyFrom ok e 0 ≡ w → everyFrom ok (e - 0) 0 ≡ w

@@ -2,6 +2,9 @@
 pub mod And
 pub mod Every
 pub mod Stores
+pub mod Flat
 pub mod Formed
+pub mod Placed
 pub mod Rows
+pub mod Walk
 pub mod Zero

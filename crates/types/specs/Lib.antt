@@ -1,5 +1,6 @@
-pub mod Outcome
-pub mod Vector
+pub mod Walk
 pub mod Lent
+pub mod Vector
 pub mod Domain
+pub mod Outcome
 pub mod Midpoint

@@ -1,10 +1,12 @@
 -- What a call comes to: the number of a refusal, or a value. Document 01's table of causes is a list of rows, and the first row that fails decides. Definitions only.
-use Prim.Native.Nat.{ℕ, zero, suc}
+use Prim.Native.Nat.{ℕ, zero, suc, _*_}
 use mathlib.Core.Bool.{Bool}
 use mathlib.Core.List.{List, [], _∷_, _++_}
 use mathlib.Core.Path.{_≡_}
 use lib.ListN.{length, drop}
+use lib.Seq.{sets}
 use Rattle.number.specs.Ops.{if_then_else_}
+use Rattle.types.specs.Lent.{flat}
 use Rattle.types.specs.declared.types.Answer.{Answer}
 use Rattle.types.specs.declared.types.Answer.the-variants.{Written, Refused}
 
@@ -26,7 +28,7 @@ unfoldable pub unless : {A : Type 0} → ℕ → A → Outcome A
 unless zero a = gives a
 unless (suc n) a = refused (suc n)
 
--- ---- a call that writes items to a lent output: `flat` lays an item out as numbers
+-- ---- a call that writes items to a lent output: `lay` lays them out as numbers
 
 -- its answer
 unfoldable pub answer : {A : Type 0} → Outcome (List A) → Answer
@@ -35,10 +37,15 @@ answer (gives xs) = Written (length xs)
 
 -- the output afterwards: the items, and then what stood there; all as it was where the call is refused
 unfoldable pub left : {A B : Type 0} → (List A → List B) → List B → Outcome (List A) → List B
-left flat out (refused n) = out
-left flat out (gives xs) = flat xs ++ drop (length (flat xs)) out
+left lay out (refused n) = out
+left lay out (gives xs) = lay xs ++ drop (length (lay xs)) out
 
 -- both together
-pub record Wrote {A B : Type 0} (flat : List A → List B) (o : Outcome (List A)) (out out′ : List B) (r : Answer) : Type 0 where
+pub record Wrote {A B : Type 0} (lay : List A → List B) (o : Outcome (List A)) (out out′ : List B) (r : Answer) : Type 0 where
   pub says : r ≡ answer o
-  pub leaves : out′ ≡ left flat out o
+  pub leaves : out′ ≡ left lay out o
+
+-- n items written from place `at` on, `width` numbers each
+pub record Placed {A B : Type 0} (item : A → List B) (width : ℕ) (xs : List A) (at n : ℕ) (out out′ : List B) : Type 0 where
+  pub count : n ≡ length xs
+  pub stored : out′ ≡ sets out (width * at) (flat item xs)

@@ -1,0 +1,43 @@
+use mathlib.Core.Path.{_∙_, ap}
+use mathlib.Core.Bool.{true}
+use lib.Ieee.{Float, le}
+use Rattle.types.proofs.And.{and-2, and-2-first}
+use Rattle.bezier.specs.declared.bezier.Chord.{Chord}
+use Rattle.bezier.specs.Flatten.{offChord}
+use Rattle.bezier.specs.Flatten.{isFlat}
+use borrow.Author.Needs.{needs}
+use Rattle.bezier.proofs.bezier.is_flat.Statement.{statement}
+use Rattle.bezier.proofs.bezier.is_flat.Tie as tie
+use Rattle.bezier.proofs.bezier.is_flat.Reads as reads
+use Rattle.bezier.proofs.bezier.is_flat.Lts as lts
+use Rattle.bezier.proofs.bezier.Chord.new.Reads as new-reads
+use Rattle.bezier.proofs.bezier.Chord.off.Reads as off-reads
+
+-- src/bezier.rt:429:9
+new-requires : tie.Need-new-requires
+new-requires c κs = search needs
+
+-- src/bezier.rt:430:8
+off-requires : tie.Need-off-requires
+off-requires c κs = search needs
+
+-- src/bezier.rt:431:16
+off-requires-2 : tie.Need-off-requires-2
+off-requires-2 c κs = search needs
+
+-- src/bezier.rt:431:9
+returns : tie.Need-returns
+unfolding isFlat
+returns c = let a = c .before .before .before .before .args in
+    let first = ap (λ (x : Float). le x (a .tolerance-sq)) (c .before .before .off .ensures ∙ ap (λ (k : Chord). offChord k (a .c1)) (c .before .before .before .new .ensures)) in
+    let second = ap (λ (x : Float). le x (a .tolerance-sq)) (c .off2 .ensures ∙ ap (λ (k : Chord). offChord k (a .c2)) (c .before .before .before .new .ensures)) in
+    and-2 _ _ true _ _ true first (c .before .if1 .taken) second
+
+-- src/bezier.rt:426:1
+returns-2 : tie.Need-returns-2
+unfolding isFlat
+returns-2 c = let a = c .before .before .before .args in
+    and-2-first _ _ _ (ap (λ (x : Float). le x (a .tolerance-sq)) (c .before .off .ensures ∙ ap (λ (k : Chord). offChord k (a .c1)) (c .before .before .new .ensures))) (c .if1 .left)
+
+pub is-flat-spec : {M : Type 1} → statement M
+is-flat-spec = tie.close (tie.spec new-requires off-requires off-requires-2 returns returns-2)

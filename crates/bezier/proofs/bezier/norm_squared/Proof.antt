@@ -1,0 +1,14 @@
+use mathlib.Core.Path.{refl}
+use Rattle.bezier.specs.Flatten.{normSq}
+use Rattle.bezier.proofs.bezier.norm_squared.Statement.{statement}
+use Rattle.bezier.proofs.bezier.norm_squared.Tie as tie
+use Rattle.bezier.proofs.bezier.norm_squared.Reads as reads
+use Rattle.bezier.proofs.bezier.norm_squared.Lts as lts
+
+-- src/bezier.rt:548:1
+returns : tie.Need-returns
+unfolding normSq
+returns c = refl
+
+pub norm-squared-spec : {M : Type 1} → statement M
+norm-squared-spec = tie.close (tie.spec returns)

@@ -1,0 +1,88 @@
+-- The cubic curve fitted to points: the ends are fixed, the two controls are least squares over parameters by chord length. Definitions only.
+use Prim.Native.Nat.{ℕ, zero, suc, _-_, _<_}
+use mathlib.Core.Path.{_≡_}
+use mathlib.Core.List.{List}
+use lib.Dec.{ltb, eqb}
+use lib.ListN.{getD}
+use lib.Ieee.{Float, nan, binary64, ofBits}
+use Rattle.number.specs.Ops.{_⊕_, _⊖_, _⊗_, _⊘_, _≺_, if_then_else_, +0, one, two, three}
+use Rattle.number.specs.Float.{absOf}
+use Rattle.types.specs.declared.types.Point.{Point}
+use Rattle.types.specs.declared.types.CubicBezier.{CubicBezier}
+use Rattle.types.specs.Vector.{distance, lerp}
+use Rattle.types.specs.Walk.{fold}
+use Rattle.bezier.specs.declared.bezier.Sums.{Sums}
+use Rattle.bezier.specs.declared.bezier.FittedCubic.{FittedCubic}
+use Rattle.bezier.specs.declared.bezier.FittedCubic.the-variants.{Curve, None}
+use Rattle.bezier.specs.Curve.{cube}
+
+-- a total length below 1e-12, and a determinant below 1e-18, give no system to solve
+abbrev pub noLength : Float
+noLength = ofBits binary64 0x3d71_9799_812d_ea11
+
+abbrev pub singular : Float
+singular = ofBits binary64 0x3c32_725d_d1d2_43ac
+
+-- the length of the polyline up to point i
+unfoldable pub chordSum : (ℕ → Point) → ℕ → Float
+unfolding distance
+chordSum at zero = +0
+chordSum at (suc i) = chordSum at i ⊕ distance (at (suc i)) (at i)
+
+-- l holds the lengths up to each of n points
+pub record Chords (at : ℕ → Point) (n : ℕ) (l : List Float) : Type 0 where
+  pub at-each : (i : ℕ) → i < n → getD l i nan ≡ chordSum at i
+
+-- what one point q at parameter t adds to the normal equations
+unfoldable pub addPoint : Point → Point → Float → Point → Sums → Sums
+addPoint p0 p3 t q s =
+    let mt = one ⊖ t in
+    let w1 = three ⊗ mt ⊗ mt ⊗ t in
+    let w2 = three ⊗ mt ⊗ t ⊗ t in
+    let rx = q .x ⊖ cube mt ⊗ p0 .x ⊖ cube t ⊗ p3 .x in
+    let ry = q .y ⊖ cube mt ⊗ p0 .y ⊖ cube t ⊗ p3 .y in
+    record {
+      a11 = s .a11 ⊕ w1 ⊗ w1;
+      a12 = s .a12 ⊕ w1 ⊗ w2;
+      a22 = s .a22 ⊕ w2 ⊗ w2;
+      b1x = s .b1x ⊕ w1 ⊗ rx;
+      b1y = s .b1y ⊕ w1 ⊗ ry;
+      b2x = s .b2x ⊕ w2 ⊗ rx;
+      b2y = s .b2y ⊕ w2 ⊗ ry;
+    }
+
+abbrev pub noSums : Sums
+noSums = record { a11 = +0; a12 = +0; a22 = +0; b1x = +0; b1y = +0; b2x = +0; b2y = +0 }
+
+-- the sums over n points
+unfoldable pub sums : (ℕ → Point) → ℕ → Sums
+unfolding fold addPoint chordSum
+sums at n = fold (λ j. addPoint (at 0) (at (n - 1)) (chordSum at j ⊘ chordSum at (n - 1)) (at j)) n 0 noSums
+
+-- the controls that solve the equations; evenly along the chord where the determinant is too small
+unfoldable pub solved : Point → Point → Sums → CubicBezier
+unfolding lerp absOf
+solved p0 p3 s =
+    let det = s .a11 ⊗ s .a22 ⊖ s .a12 ⊗ s .a12 in
+    let inv = one ⊘ det in
+    if absOf det ≺ singular
+    then record { 0 = p0; 1 = lerp p0 p3 (one ⊘ three); 2 = lerp p0 p3 (two ⊘ three); 3 = p3 }
+    else record {
+      0 = p0;
+      1 = record { x = (s .a22 ⊗ s .b1x ⊖ s .a12 ⊗ s .b2x) ⊗ inv; y = (s .a22 ⊗ s .b1y ⊖ s .a12 ⊗ s .b2y) ⊗ inv };
+      2 = record { x = (s .a11 ⊗ s .b2x ⊖ s .a12 ⊗ s .b1x) ⊗ inv; y = (s .a11 ⊗ s .b2y ⊖ s .a12 ⊗ s .b1y) ⊗ inv };
+      3 = p3;
+    }
+
+-- a curve along the chord
+abbrev pub straight : Point → Point → CubicBezier
+straight p0 p3 = record { 0 = p0; 1 = p0; 2 = p3; 3 = p3 }
+
+-- the curve of n points; none below 2
+unfoldable pub fitted : (ℕ → Point) → ℕ → FittedCubic
+unfolding sums solved chordSum
+fitted at n =
+    if ltb n 2 then None
+    else if eqb n 2 then Curve (straight (at 0) (at (n - 1)))
+    else if chordSum at (n - 1) ≺ noLength then Curve (straight (at 0) (at (n - 1)))
+    else Curve (solved (at 0) (at (n - 1)) (sums at n))
