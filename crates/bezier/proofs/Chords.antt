@@ -2,7 +2,7 @@
 use Prim.Native.Nat.{ℕ, zero, suc, _+_, _-_, _≤_, _<_}
 use mathlib.Core.Path.{_≡_, refl, sym, ap, _∙_, subst}
 use mathlib.Core.Logic.{⊎-elim}
-use mathlib.Core.Bool.{Bool, true, false}
+use mathlib.Core.Bool.{true, false}
 use mathlib.Core.List.{List}
 use native.Mathlib.Nat.{eq-or-lt-of-le}
 use native.Mathlib.Omega.{arith}
@@ -12,10 +12,7 @@ use lib.Seq.{getD-set-same, getD-set-other}
 use lib.Ieee.{Float, nan, lt}
 use Rattle.number.specs.Ops.{_⊕_, +0}
 use Rattle.types.specs.declared.types.Point.{Point}
-use Rattle.types.specs.declared.types.CubicBezier.{CubicBezier}
 use Rattle.types.specs.Vector.{distance}
-use Rattle.bezier.specs.declared.bezier.Sums.{Sums}
-use Rattle.bezier.specs.declared.bezier.FittedCubic.{FittedCubic}
 use Rattle.bezier.specs.declared.bezier.FittedCubic.the-variants.{Curve, None}
 use Rattle.bezier.specs.FitCubic.{noLength, chordSum, Chords, sums, solved, straight, fitted}
 

@@ -1,17 +1,17 @@
 -- A count of steps as a float: at least 2, and at most 800 where it is turned into a whole number. Assumes nothing.
-use Prim.Native.Nat.{ℕ, zero, suc, _+_, _-_, _*_, _/_, _^_, _≤_, _<_, min}
-use mathlib.Core.Path.{_≡_, refl, sym, ap, _∙_, subst}
+use Prim.Native.Nat.{ℕ, _+_, _-_, _*_, _^_, _≤_}
+use mathlib.Core.Path.{_≡_, refl, sym, _∙_, subst}
 use mathlib.Core.Logic.{⊎-elim}
-use mathlib.Core.Bool.{Bool, true, false, not}
+use mathlib.Core.Bool.{Bool, true, false}
 use native.Mathlib.Nat.{mul-one, div-le-of-le-mul, le-trans, min-le-left, mul-comm}
 use native.Mathlib.Omega.{arith}
-use lib.Dec.{T, ltb, lt→ltb}
+use lib.Dec.{T, lt→ltb}
 use lib.IntN.{ℤ, pos}
-use lib.Ieee.{Float, nan, inf, fin, binary64, up, down, lt, le, eq, isNan, ofBits, toUnsigned}
+use lib.Ieee.{Float, nan, inf, fin, up, down, lt, le, eq, isNan, ofBits, toUnsigned}
 use lib.Ieee.Fits.{down-pos}
 use Rattle.number.specs.Ops.{two}
 use Rattle.number.specs.Float.{maxOf}
-use Rattle.number.proofs.Order.{clash, either, lt-gap}
+use Rattle.number.proofs.Order.{clash, lt-gap}
 use Rattle.number.proofs.Bounds.{or-le}
 use Rattle.bezier.specs.Calls.{mostSteps}
 

@@ -1,6 +1,6 @@
 -- A subdivision, by the tests that the code makes: where it stops, where it goes on, and that it has at most 2 ^ depth ends. Assumes nothing.
 use Prim.Native.Nat.{ℕ, zero, suc, _+_, _-_, _*_, _^_, _≤_}
-use mathlib.Core.Path.{_≡_, refl, sym, ap, _∙_, subst}
+use mathlib.Core.Path.{_≡_, sym, ap, _∙_}
 use mathlib.Core.Bool.{Bool, true, false, cond}
 use mathlib.Core.List.{List, [], _∷_, _++_}
 use native.Mathlib.Nat.{pow-succ'}
@@ -9,7 +9,6 @@ use lib.Pow.{pow-pos}
 use lib.ListN.{length, length-append}
 use lib.Ieee.{Float, le}
 use Rattle.number.specs.Ops.{_≼_, half}
-use Rattle.types.specs.declared.types.Point.{Point}
 use Rattle.types.specs.declared.types.Point3D.{Point3D}
 use Rattle.types.specs.declared.types.CubicBezier.{CubicBezier}
 use Rattle.types.specs.Vector.{midpoint}

@@ -1,6 +1,6 @@
 -- The public calls: which row of document 01's table refuses them, else what they give; and the answer that says so. Definitions only.
 use Prim.Native.Nat.{ℕ, _+_, _*_, _/_, _^_}
-use mathlib.Core.Bool.{Bool, true, not, _&&_, _||_}
+use mathlib.Core.Bool.{Bool, not, _&&_, _||_}
 use mathlib.Core.List.{List, [], _∷_, _++_}
 use lib.ListN.{length}
 use lib.Dec.{ltb, eqb}
@@ -8,7 +8,6 @@ use lib.Ieee.{Float, binary64, ofBits}
 use Rattle.number.specs.Ops.{_≼_, _⊗_}
 use Rattle.types.specs.declared.types.Point.{Point}
 use Rattle.types.specs.declared.types.Point3D.{Point3D}
-use Rattle.types.specs.declared.types.CubicBezier.{CubicBezier}
 use Rattle.types.specs.Outcome.{Row, row, refusal, Outcome, refused, gives, unless}
 use Rattle.types.specs.Lent.{pairAt}
 use Rattle.types.specs.Domain.{pointIn, point3In, parameter, tolerance, toleranceSq, coordinate, numbersIn, whole}

@@ -3,7 +3,7 @@ use Prim.Native.Nat.{ℕ, zero, suc}
 use mathlib.Core.Bool.{Bool, _&&_}
 use mathlib.Core.List.{List, [], _∷_, _++_}
 use lib.Ieee.{Float, binary64, ofBits}
-use Rattle.number.specs.Ops.{_⊕_, _⊖_, _⊗_, _⊘_, _≺_, _≼_, if_then_else_, half}
+use Rattle.number.specs.Ops.{_⊖_, _⊗_, _⊘_, _≺_, _≼_, if_then_else_, half}
 use Rattle.number.specs.Float.{maxOf}
 use Rattle.types.specs.declared.types.Point.{Point}
 use Rattle.types.specs.declared.types.Point3D.{Point3D}

@@ -1,7 +1,7 @@
 -- Laws of the walks along indices, in the form in which a loop `for i in a..e` meets them: e - i are left. Assumes nothing.
 use Prim.Native.Nat.{ℕ, zero, suc, _+_, _-_, _≤_, _<_}
 use mathlib.Core.Path.{_≡_, refl, sym, ap, _∙_}
-use mathlib.Core.List.{List, [], _∷_}
+use mathlib.Core.List.{[], _∷_}
 use native.Mathlib.Omega.{arith}
 use lib.ListN.{length}
 use Rattle.types.specs.Walk.{fold, listFrom}

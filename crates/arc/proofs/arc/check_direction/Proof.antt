@@ -1,50 +1,50 @@
+-- `arc::arc::check_direction` meets its contract: each return is the first row that fails, by the tests before it. Assumes nothing.
+use mathlib.Core.Path.{sym, ap, _∙_}
+use mathlib.Core.Bool.{true, not}
+use borrow.Author.Tests.{lt-ltb, le-ltb, eq-eqb, ne-eqb, not-true, not-false}
+use Rattle.types.proofs.And.{and-3, and-3-second, and-3-first}
+use Rattle.types.proofs.Rows.{row-fails, row-passes, whole-fails, whole-passes, done}
+use Rattle.arc.specs.Direction.{directionRows}
 use borrow.Author.Needs.{needs}
 use Rattle.arc.proofs.arc.check_direction.Statement.{statement}
 use Rattle.arc.proofs.arc.check_direction.Tie as tie
-use Rattle.arc.proofs.arc.check_direction.Reads as reads
-use Rattle.arc.proofs.arc.check_direction.Lts as lts
-use Rattle.types.proofs.domain.all_coordinates.Reads as all-coordinates-reads
-use Rattle.types.proofs.domain.is_centre.Reads as is-centre-reads
 
--- src/arc.rt:46:9
 returns : tie.Need-returns
-returns c = ?
+unfolding directionRows
+returns c = sym (row-fails _ _ _ (whole-fails 2 _ (c .if1 .taken)))
 
--- src/arc.rt:49:9
 returns-2 : tie.Need-returns-2
-returns-2 c = ?
+unfolding directionRows
+returns-2 c = sym (row-passes _ _ _ (whole-passes 2 _ (c .before .if1 .left)) ∙ row-fails _ _ _ (lt-ltb _ _ (c .if2 .taken)))
 
--- src/arc.rt:51:9
 all-coordinates-requires : tie.Need-all-coordinates-requires
 all-coordinates-requires c κs = search needs
 
--- src/arc.rt:52:9
 returns-3 : tie.Need-returns-3
-returns-3 c = ?
+unfolding directionRows
+returns-3 c = sym (row-passes _ _ _ (whole-passes 2 _ (c .before .before .before .if1 .left)) ∙ row-passes _ _ _ (le-ltb _ _ (c .before .before .if2 .left)) ∙ row-fails _ _ _ (ap not (sym (and-3-first _ _ _ _ (c .before .all-coordinates .ensures) (not-true _ (c .if3 .taken))))))
 
--- src/arc.rt:54:9
 is-centre-requires : tie.Need-is-centre-requires
 is-centre-requires c κs = search needs
 
--- src/arc.rt:55:9
 returns-4 : tie.Need-returns-4
-returns-4 c = ?
+unfolding directionRows
+returns-4 c = sym (row-passes _ _ _ (whole-passes 2 _ (c .before .before .before .before .before .if1 .left)) ∙ row-passes _ _ _ (le-ltb _ _ (c .before .before .before .before .if2 .left)) ∙ row-fails _ _ _ (ap not (sym (and-3-second _ _ _ _ _ true (c .before .before .before .all-coordinates .ensures) (not-false _ (c .before .before .if3 .left)) (c .before .is-centre .ensures) (not-true _ (c .if4 .taken))))))
 
--- src/arc.rt:57:9
 is-centre-requires-2 : tie.Need-is-centre-requires-2
 is-centre-requires-2 c κs = search needs
 
--- src/arc.rt:58:9
 returns-5 : tie.Need-returns-5
-returns-5 c = ?
+unfolding directionRows
+returns-5 c = sym (row-passes _ _ _ (whole-passes 2 _ (c .before .before .before .before .before .before .before .if1 .left)) ∙ row-passes _ _ _ (le-ltb _ _ (c .before .before .before .before .before .before .if2 .left)) ∙ row-fails _ _ _ (ap not (sym (and-3 _ _ _ _ _ _ (c .before .before .before .before .before .all-coordinates .ensures) (not-false _ (c .before .before .before .before .if3 .left)) (c .before .before .before .is-centre .ensures) (not-false _ (c .before .before .if4 .left)) (c .before .is-centre2 .ensures))) ∙ c .if5 .taken))
 
--- src/arc.rt:61:9
 returns-6 : tie.Need-returns-6
-returns-6 c = ?
+unfolding directionRows
+returns-6 c = sym (row-passes _ _ _ (whole-passes 2 _ (c .before .before .before .before .before .before .before .before .if1 .left)) ∙ row-passes _ _ _ (le-ltb _ _ (c .before .before .before .before .before .before .before .if2 .left)) ∙ row-passes _ _ _ (ap not (sym (and-3 _ _ _ _ _ _ (c .before .before .before .before .before .before .all-coordinates .ensures) (not-false _ (c .before .before .before .before .before .if3 .left)) (c .before .before .before .before .is-centre .ensures) (not-false _ (c .before .before .before .if4 .left)) (c .before .before .is-centre2 .ensures))) ∙ c .before .if5 .left) ∙ row-fails _ _ _ (eq-eqb _ _ (c .if6 .taken)))
 
--- src/arc.rt:42:1
 returns-7 : tie.Need-returns-7
-returns-7 c = ?
+unfolding directionRows
+returns-7 c = sym (row-passes _ _ _ (whole-passes 2 _ (c .before .before .before .before .before .before .before .before .if1 .left)) ∙ row-passes _ _ _ (le-ltb _ _ (c .before .before .before .before .before .before .before .if2 .left)) ∙ row-passes _ _ _ (ap not (sym (and-3 _ _ _ _ _ _ (c .before .before .before .before .before .before .all-coordinates .ensures) (not-false _ (c .before .before .before .before .before .if3 .left)) (c .before .before .before .before .is-centre .ensures) (not-false _ (c .before .before .before .if4 .left)) (c .before .before .is-centre2 .ensures))) ∙ c .before .if5 .left) ∙ row-passes _ _ _ (ne-eqb _ _ (c .if6 .left)) ∙ done)
 
 pub check-direction-spec : {M : Type 1} → statement M
 check-direction-spec =

@@ -1,55 +1,54 @@
+-- `arc::arc::sum_turns` meets its contract: the loop's invariant is that the neighbours left decide the whole sum. The measure is how many are left. Assumes nothing.
+use mathlib.Core.Path.{_≡_, ap, _∙_}
+use Prim.Native.Nat.{_+_, _-_}
+use native.Mathlib.Omega.{arith}
+use borrow.Author.Needs.{needs}
+use lib.Ieee.{Float}
+use Rattle.number.specs.Ops.{_⊕_}
+use Rattle.types.specs.Lent.{pairAt}
+use Rattle.types.specs.Walk.{fold}
+use Rattle.types.proofs.Walk.{fold-turn, fold-done}
+use Rattle.arc.specs.Direction.{turnAt, crossSum}
 use Rattle.arc.proofs.arc.sum_turns.Statement.{statement}
 use Rattle.arc.proofs.arc.sum_turns.Tie as tie
-use Rattle.arc.proofs.arc.sum_turns.Reads as reads
-use Rattle.arc.proofs.arc.sum_turns.Lts as lts
-use Rattle.arc.proofs.arc.turn.Reads as turn-reads
-use Rattle.types.proofs.lent.pair_at.Reads as pair-at-reads
 
 abbrev Inv-loop : tie.InvT-loop
-Inv-loop points n center sum₀ i₀ i-end sum i = ?
+Inv-loop points n center sum₀ i₀ i-end sum i = fold (λ k s. s ⊕ turnAt center (pairAt points k) (pairAt points (k + 1))) (n - 1 - i) i sum ≡ crossSum (pairAt points) n center
 
 abbrev μ-loop : tie.MeasureT-loop
-μ-loop points n center sum₀ i₀ i-end sum i = ?
+μ-loop points n center sum₀ i₀ i-end sum i = n - i
 
--- src/arc.rt:35:17
 sub-i-end : tie.Need-sub-i-end Inv-loop μ-loop
-sub-i-end c = ?
+sub-i-end c = omega arith
 
--- src/arc.rt:35:5
 loop-holds : tie.Need-loop-holds Inv-loop μ-loop
-loop-holds c = ?
+unfolding crossSum
+loop-holds c = let e : c .before .args .n - 1 - 0 ≡ c .before .args .n - 1 = omega arith in rw e
 
--- src/arc.rt:36:34
 pair-at-requires : tie.Need-pair-at-requires Inv-loop μ-loop
-pair-at-requires c κs = ?
+pair-at-requires c κs = omega arith
 
--- src/arc.rt:36:70
 add-pair-at : tie.Need-add-pair-at Inv-loop μ-loop
-add-pair-at c = ?
+add-pair-at c = omega arith
 
--- src/arc.rt:36:54
 pair-at-requires-2 : tie.Need-pair-at-requires-2 Inv-loop μ-loop
-pair-at-requires-2 c κs = ?
+pair-at-requires-2 c κs = omega arith
 
--- src/arc.rt:36:21
 turn-requires : tie.Need-turn-requires Inv-loop μ-loop
-turn-requires c κs = ?
+turn-requires c κs = search needs
 
--- src/arc.rt:35:9
 add-i : tie.Need-add-i Inv-loop μ-loop
-add-i c = ?
+add-i c = omega arith
 
--- src/arc.rt:35:5
 loop-less : tie.Need-loop-less Inv-loop μ-loop
-loop-less c = ?
+loop-less c = omega arith
 
--- src/arc.rt:35:5
 loop-again : tie.Need-loop-again Inv-loop μ-loop
-loop-again c = ?
+loop-again c = let a = c .before .before .before .before .before .before .args in
+    fold-turn _ (a .n - 1) _ _ _ _ (c .before .before .before .loop-test .taken) (ap (λ (x : Float). c .before .before .before .before .loop .sum ⊕ x) (c .turn .ensures ∙ rw (c .before .before .pair-at .ensures, c .before .pair-at2 .ensures))) (c .before .before .before .before .loop .inv)
 
--- src/arc.rt:30:1
 returns : tie.Need-returns Inv-loop μ-loop
-returns c = ?
+returns c = fold-done _ (c .before .before .before .args .n - 1) _ _ _ (c .loop-test .left) (c .before .loop .inv)
 
 pub sum-turns-spec : {M : Type 1} → statement M
 sum-turns-spec =

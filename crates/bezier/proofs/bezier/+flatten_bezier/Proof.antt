@@ -1,11 +1,11 @@
-use mathlib.Core.Path.{_≡_, refl, sym, ap, _∙_}
+-- `bezier::bezier::flatten_bezier` meets its contract: one end where it stops, else the left half's ends and the right half's behind them. The measure is the depth. Assumes nothing.
+use mathlib.Core.Path.{refl, _∙_}
 use Prim.Native.Nat.{_-_}
 use native.Mathlib.Omega.{arith}
 use borrow.Author.Needs.{needs}
 use lib.Pow.{pow-pos}
 use Rattle.types.specs.Lent.{triple}
 use Rattle.types.proofs.Placed.{placed-one, placed-both}
-use Rattle.bezier.specs.Flatten.{flattened}
 use Rattle.bezier.proofs.Subdivision.{flattened-length, flattened-end, flattened-flat, flattened-halves, half-power}
 use Prim.Native.Nat.{ℕ, _<_}
 use borrow.Fn.Kinds.{In}
@@ -41,107 +41,84 @@ flatten-bezier-below t =
 abbrev claims : ℕ → flatten-bezier-lts.Claims
 claims t = (put-point-reads.Asked, put-point-reads.Learnt, get-bezier-flatness-sq-reads.Asked, get-bezier-flatness-sq-reads.Learnt, midpoint-3d-reads.Asked, midpoint-3d-reads.Learnt, flatten-bezier-below t, flatten-bezier.Post)
 
--- src/bezier.rt:597:24
 flatten-bezier-mul-put-point : (t : ℕ) → flatten-bezier-lts.Need-mul-put-point (claims t) (flatten-bezier-at t) flatten-bezier.Post
 flatten-bezier-mul-put-point t c = omega (arith, c .before .before .before .pre)
 
--- src/bezier.rt:597:9
 flatten-bezier-put-point-requires : (t : ℕ) → flatten-bezier-lts.Need-put-point-requires (claims t) (flatten-bezier-at t) flatten-bezier.Post
 flatten-bezier-put-point-requires t c κs = omega (arith, c .before .before .before .pre, pow-pos (c .before .before .before .args .depth))
 
--- src/bezier.rt:598:9
 flatten-bezier-same-length : (t : ℕ) → flatten-bezier-lts.Need-same-length (claims t) (flatten-bezier-at t) flatten-bezier.Post
 flatten-bezier-same-length t c = c .before .before .put-point .kept .0
 
--- src/bezier.rt:598:9
 flatten-bezier-returns : (t : ℕ) → flatten-bezier-lts.Need-returns (claims t) (flatten-bezier-at t) flatten-bezier.Post
 flatten-bezier-returns t c = let a = c .before .before .before .before .before .before .args in
     placed-one triple 3 (a .d) _ (a .at) (a .out .now) _ (flattened-end (a .depth) (a .tolerance-sq) (a .a) (a .b) (a .c) (a .d) (c .before .before .before .before .if1 .taken)) (c .before .before .put-point .ensures)
 
--- src/bezier.rt:600:8
 flatten-bezier-get-bezier-flatness-sq-requires :
     (t : ℕ) → flatten-bezier-lts.Need-get-bezier-flatness-sq-requires (claims t) (flatten-bezier-at t) flatten-bezier.Post
 flatten-bezier-get-bezier-flatness-sq-requires t c κs = search needs
 
--- src/bezier.rt:601:24
 flatten-bezier-mul-put-point-2 : (t : ℕ) → flatten-bezier-lts.Need-mul-put-point-2 (claims t) (flatten-bezier-at t) flatten-bezier.Post
 flatten-bezier-mul-put-point-2 t c = omega (arith, c .before .before .before .before .before .pre)
 
--- src/bezier.rt:601:9
 flatten-bezier-put-point-requires-2 : (t : ℕ) → flatten-bezier-lts.Need-put-point-requires-2 (claims t) (flatten-bezier-at t) flatten-bezier.Post
 flatten-bezier-put-point-requires-2 t c κs = omega (arith, c .before .before .before .before .before .pre, pow-pos (c .before .before .before .before .before .args .depth))
 
--- src/bezier.rt:602:9
 flatten-bezier-same-length-2 : (t : ℕ) → flatten-bezier-lts.Need-same-length-2 (claims t) (flatten-bezier-at t) flatten-bezier.Post
 flatten-bezier-same-length-2 t c = c .before .before .put-point2 .kept .0
 
--- src/bezier.rt:602:9
 flatten-bezier-returns-2 : (t : ℕ) → flatten-bezier-lts.Need-returns-2 (claims t) (flatten-bezier-at t) flatten-bezier.Post
 flatten-bezier-returns-2 t c = let a = c .before .before .before .before .before .before .before .before .args in
     placed-one triple 3 (a .d) _ (a .at) (a .out .now) _ (flattened-flat (a .depth) (a .tolerance-sq) (a .a) (a .b) (a .c) (a .d) (c .before .before .before .before .before .before .if1 .left) _ (c .before .before .before .before .before .get-bezier-flatness-sq .ensures) (c .before .before .before .before .if2 .taken)) (c .before .before .put-point2 .ensures)
 
--- src/bezier.rt:604:9
 flatten-bezier-midpoint-3d-requires : (t : ℕ) → flatten-bezier-lts.Need-midpoint-3d-requires (claims t) (flatten-bezier-at t) flatten-bezier.Post
 flatten-bezier-midpoint-3d-requires t c κs = search needs
 
--- src/bezier.rt:605:9
 flatten-bezier-midpoint-3d-requires-2 : (t : ℕ) → flatten-bezier-lts.Need-midpoint-3d-requires-2 (claims t) (flatten-bezier-at t) flatten-bezier.Post
 flatten-bezier-midpoint-3d-requires-2 t c κs = search needs
 
--- src/bezier.rt:606:9
 flatten-bezier-midpoint-3d-requires-3 : (t : ℕ) → flatten-bezier-lts.Need-midpoint-3d-requires-3 (claims t) (flatten-bezier-at t) flatten-bezier.Post
 flatten-bezier-midpoint-3d-requires-3 t c κs = search needs
 
--- src/bezier.rt:607:9
 flatten-bezier-midpoint-3d-requires-4 : (t : ℕ) → flatten-bezier-lts.Need-midpoint-3d-requires-4 (claims t) (flatten-bezier-at t) flatten-bezier.Post
 flatten-bezier-midpoint-3d-requires-4 t c κs = search needs
 
--- src/bezier.rt:608:9
 flatten-bezier-midpoint-3d-requires-5 : (t : ℕ) → flatten-bezier-lts.Need-midpoint-3d-requires-5 (claims t) (flatten-bezier-at t) flatten-bezier.Post
 flatten-bezier-midpoint-3d-requires-5 t c κs = search needs
 
--- src/bezier.rt:609:9
 flatten-bezier-midpoint-3d-requires-6 : (t : ℕ) → flatten-bezier-lts.Need-midpoint-3d-requires-6 (claims t) (flatten-bezier-at t) flatten-bezier.Post
 flatten-bezier-midpoint-3d-requires-6 t c κs = search needs
 
--- src/bezier.rt:610:58
 flatten-bezier-sub-flatten-bezier : (t : ℕ) → flatten-bezier-lts.Need-sub-flatten-bezier (claims t) (flatten-bezier-at t) flatten-bezier.Post
 flatten-bezier-sub-flatten-bezier t c = let h = c .before .before .before .before .before .before .before .before .if1 .left in omega arith
 
--- src/bezier.rt:610:9
 flatten-bezier-flatten-bezier-requires : (t : ℕ) → flatten-bezier-lts.Need-flatten-bezier-requires (claims t) (flatten-bezier-at t) flatten-bezier.Post
 flatten-bezier-flatten-bezier-requires t c κs = let a = c .before .before .before .before .before .before .before .before .before .before .before .args in
     let h = c .before .before .before .before .before .before .before .before .before .if1 .left in
     omega (arith, c .before .before .before .before .before .before .before .before .before .before .before .pre, half-power (a .depth) h)
 
--- src/bezier.rt:611:58
 flatten-bezier-sub-flatten-bezier-2 : (t : ℕ) → flatten-bezier-lts.Need-sub-flatten-bezier-2 (claims t) (flatten-bezier-at t) flatten-bezier.Post
 flatten-bezier-sub-flatten-bezier-2 t c = let h = c .before .before .before .before .before .before .before .before .before .before .before .before .if1 .left in omega arith
 
--- src/bezier.rt:611:74
 flatten-bezier-add-flatten-bezier : (t : ℕ) → flatten-bezier-lts.Need-add-flatten-bezier (claims t) (flatten-bezier-at t) flatten-bezier.Post
 flatten-bezier-add-flatten-bezier t c = let a = c .before .before .before .before .before .before .before .before .before .before .before .before .before .before .before .args in
     let h = c .before .before .before .before .before .before .before .before .before .before .before .before .before .if1 .left in
     omega (arith, c .before .before .before .before .before .before .before .before .before .before .before .before .before .before .before, half-power (a .depth) h, c .before .before .before .flatten-bezier .ensures .count, flattened-length (a .tolerance-sq) (a .depth - 1) (a .a) (c .before .before .before .before .before .before .before .before .before .before .midpoint-3d .result) (c .before .before .before .before .before .before .before .midpoint-3d4 .result) (c .before .before .before .before .before .midpoint-3d6 .result))
 
--- src/bezier.rt:611:9
 flatten-bezier-flatten-bezier-requires-2 :
     (t : ℕ) → flatten-bezier-lts.Need-flatten-bezier-requires-2 (claims t) (flatten-bezier-at t) flatten-bezier.Post
 flatten-bezier-flatten-bezier-requires-2 t c κs = let a = c .before .before .before .before .before .before .before .before .before .before .before .before .before .before .before .args in
     let h = c .before .before .before .before .before .before .before .before .before .before .before .before .before .if1 .left in
     omega (arith, c .before .before .before .before .before .before .before .before .before .before .before .before .before .before .before .pre, half-power (a .depth) h, c .before .before .before .flatten-bezier .ensures .count, flattened-length (a .tolerance-sq) (a .depth - 1) (a .a) (c .before .before .before .before .before .before .before .before .before .before .midpoint-3d .result) (c .before .before .before .before .before .before .before .midpoint-3d4 .result) (c .before .before .before .before .before .midpoint-3d6 .result), c .before .before .before .flatten-bezier .kept .1 .1 .1 .1 .1 .1 .0)
 
--- src/bezier.rt:612:5
 flatten-bezier-add-result : (t : ℕ) → flatten-bezier-lts.Need-add-result (claims t) (flatten-bezier-at t) flatten-bezier.Post
 flatten-bezier-add-result t c = let a = c .before .before .before .before .before .before .before .before .before .before .before .before .before .before .before .before .before .before .args in
     let h = c .before .before .before .before .before .before .before .before .before .before .before .before .before .before .before .before .if1 .left in
     omega (arith, c .before .before .before .before .before .before .before .before .before .before .before .before .before .before .before .before .before .before, half-power (a .depth) h, c .before .before .before .before .before .before .flatten-bezier .ensures .count, c .before .before .flatten-bezier2 .ensures .count, flattened-length (a .tolerance-sq) (a .depth - 1) (a .a) (c .before .before .before .before .before .before .before .before .before .before .before .before .before .midpoint-3d .result) (c .before .before .before .before .before .before .before .before .before .before .midpoint-3d4 .result) (c .before .before .before .before .before .before .before .before .midpoint-3d6 .result), flattened-length (a .tolerance-sq) (a .depth - 1) (c .before .before .before .before .before .before .before .before .midpoint-3d6 .result) (c .before .before .before .before .before .before .before .before .before .midpoint-3d5 .result) (c .before .before .before .before .before .before .before .before .before .before .before .midpoint-3d3 .result) (a .d))
 
--- src/bezier.rt:583:1
 flatten-bezier-same-length-3 : (t : ℕ) → flatten-bezier-lts.Need-same-length-3 (claims t) (flatten-bezier-at t) flatten-bezier.Post
 flatten-bezier-same-length-3 t c = c .before .before .flatten-bezier2 .kept .1 .1 .1 .1 .1 .1 .0 ∙ c .before .before .before .before .before .before .flatten-bezier .kept .1 .1 .1 .1 .1 .1 .0
 
--- src/bezier.rt:583:1
 flatten-bezier-returns-3 : (t : ℕ) → flatten-bezier-lts.Need-returns-3 (claims t) (flatten-bezier-at t) flatten-bezier.Post
 flatten-bezier-returns-3 t c = let a = c .before .before .before .before .before .before .before .before .before .before .before .before .before .before .before .before .before .before .args in
     placed-both triple 3 (λ x. refl) _ _ _ (a .at) _ _ (a .out .now) _ _ (flattened-halves (a .depth) (a .tolerance-sq) (a .a) (a .b) (a .c) (a .d) (c .before .before .before .before .before .before .before .before .before .before .before .before .before .before .before .before .if1 .left) _ _ _ _ _ _ _ (c .before .before .before .before .before .before .before .before .before .before .before .before .before .before .before .get-bezier-flatness-sq .ensures) (c .before .before .before .before .before .before .before .before .before .before .before .before .before .before .if2 .left) (c .before .before .before .before .before .before .before .before .before .before .before .before .before .midpoint-3d .ensures) (c .before .before .before .before .before .before .before .before .before .before .before .before .midpoint-3d2 .ensures) (c .before .before .before .before .before .before .before .before .before .before .before .midpoint-3d3 .ensures) (c .before .before .before .before .before .before .before .before .before .before .midpoint-3d4 .ensures) (c .before .before .before .before .before .before .before .before .before .midpoint-3d5 .ensures) (c .before .before .before .before .before .before .before .before .midpoint-3d6 .ensures)) (c .before .before .before .before .before .before .flatten-bezier .ensures) (c .before .before .flatten-bezier2 .ensures)

@@ -1,16 +1,11 @@
-use mathlib.Core.Path.{_≡_, refl, sym, ap, _∙_, subst}
-use mathlib.Core.List.{List, [], _∷_, _++_}
-use Prim.Native.Nat.{_+_, _-_, _*_, _^_, _≤_}
+-- `bezier::bezier::subdivide` meets its contract: one end where it stops, else the left half's ends and the right half's behind them. The measure is the depth. Assumes nothing.
+use mathlib.Core.Path.{refl, _∙_}
+use Prim.Native.Nat.{_+_, _-_}
 use native.Mathlib.Omega.{arith}
 use borrow.Author.Needs.{needs}
 use lib.Pow.{pow-pos}
-use lib.ListN.{length}
-use Rattle.number.specs.Ops.{half}
-use Rattle.types.specs.declared.types.Point.{Point}
 use Rattle.types.specs.Lent.{pair}
-use Rattle.types.specs.Outcome.{Placed}
 use Rattle.types.proofs.Placed.{placed-one, placed-both}
-use Rattle.bezier.specs.Flatten.{subdivided}
 use Rattle.bezier.proofs.Subdivision.{subdivided-length, subdivided-end, subdivided-flat, subdivided-halves, half-power}
 use Prim.Native.Nat.{ℕ, _<_}
 use borrow.Fn.Kinds.{In}
@@ -37,85 +32,67 @@ subdivide-below t =
 abbrev claims : ℕ → subdivide-lts.Claims
 claims t = (put-pair-reads.Asked, put-pair-reads.Learnt, is-flat-reads.Asked, is-flat-reads.Learnt, split-at-reads.Asked, split-at-reads.Learnt, subdivide-below t, subdivide.Post)
 
--- src/bezier.rt:459:23
 subdivide-mul-put-pair : (t : ℕ) → subdivide-lts.Need-mul-put-pair (claims t) (subdivide-at t) subdivide.Post
 subdivide-mul-put-pair t c = omega (arith, c .before .before .before .before .before .before .before .pre)
 
--- src/bezier.rt:459:9
 subdivide-put-pair-requires : (t : ℕ) → subdivide-lts.Need-put-pair-requires (claims t) (subdivide-at t) subdivide.Post
 subdivide-put-pair-requires t c κs = omega (arith, c .before .before .before .before .before .before .before .pre, pow-pos (c .before .before .before .before .before .before .before .args .depth))
 
--- src/bezier.rt:460:9
 subdivide-same-length : (t : ℕ) → subdivide-lts.Need-same-length (claims t) (subdivide-at t) subdivide.Post
 subdivide-same-length t c = c .before .before .put-pair .kept .0
 
--- src/bezier.rt:460:9
 subdivide-returns : (t : ℕ) → subdivide-lts.Need-returns (claims t) (subdivide-at t) subdivide.Post
 subdivide-returns t c = let a = c .before .before .before .before .before .before .before .before .before .before .args in
     placed-one pair 2 (a .q .3) _ (a .at) (a .out .now) _ (subdivided-end (a .depth) (a .tolerance-sq) (a .q) (c .before .before .before .before .if1 .taken)) (c .before .before .put-pair .ensures)
 
--- src/bezier.rt:462:8
 subdivide-is-flat-requires : (t : ℕ) → subdivide-lts.Need-is-flat-requires (claims t) (subdivide-at t) subdivide.Post
 subdivide-is-flat-requires t c κs = search needs
 
--- src/bezier.rt:463:23
 subdivide-mul-put-pair-2 : (t : ℕ) → subdivide-lts.Need-mul-put-pair-2 (claims t) (subdivide-at t) subdivide.Post
 subdivide-mul-put-pair-2 t c = omega (arith, c .before .before .before .before .before .before .before .before .before .pre)
 
--- src/bezier.rt:463:9
 subdivide-put-pair-requires-2 : (t : ℕ) → subdivide-lts.Need-put-pair-requires-2 (claims t) (subdivide-at t) subdivide.Post
 subdivide-put-pair-requires-2 t c κs = omega (arith, c .before .before .before .before .before .before .before .before .before .pre, pow-pos (c .before .before .before .before .before .before .before .before .before .args .depth))
 
--- src/bezier.rt:464:9
 subdivide-same-length-2 : (t : ℕ) → subdivide-lts.Need-same-length-2 (claims t) (subdivide-at t) subdivide.Post
 subdivide-same-length-2 t c = c .before .before .put-pair2 .kept .0
 
--- src/bezier.rt:464:9
 subdivide-returns-2 : (t : ℕ) → subdivide-lts.Need-returns-2 (claims t) (subdivide-at t) subdivide.Post
 subdivide-returns-2 t c = let a = c .before .before .before .before .before .before .before .before .before .before .before .before .args in
     placed-one pair 2 (a .q .3) _ (a .at) (a .out .now) _ (subdivided-flat (a .depth) (a .tolerance-sq) (a .q) (c .before .before .before .before .before .before .if1 .left) _ (c .before .before .before .before .before .is-flat .ensures) (c .before .before .before .before .if2 .taken)) (c .before .before .put-pair2 .ensures)
 
--- src/bezier.rt:466:9
 subdivide-split-at-requires : (t : ℕ) → subdivide-lts.Need-split-at-requires (claims t) (subdivide-at t) subdivide.Post
 subdivide-split-at-requires t c κs = search needs
 
--- src/bezier.rt:469:23
 subdivide-sub-subdivide : (t : ℕ) → subdivide-lts.Need-sub-subdivide (claims t) (subdivide-at t) subdivide.Post
 subdivide-sub-subdivide t c = let h = c .before .before .before .before .before .if1 .left in omega arith
 
--- src/bezier.rt:469:9
 subdivide-subdivide-requires : (t : ℕ) → subdivide-lts.Need-subdivide-requires (claims t) (subdivide-at t) subdivide.Post
 subdivide-subdivide-requires t c κs = let a = c .before .before .before .before .before .before .before .before .before .before .before .before .args in
     let h = c .before .before .before .before .before .before .if1 .left in
     omega (arith, c .before .before .before .before .before .before .before .before .before .before .before .before .pre, half-power (a .depth) h)
 
--- src/bezier.rt:470:23
 subdivide-sub-subdivide-2 : (t : ℕ) → subdivide-lts.Need-sub-subdivide-2 (claims t) (subdivide-at t) subdivide.Post
 subdivide-sub-subdivide-2 t c = let h = c .before .before .before .before .before .before .before .before .before .if1 .left in omega arith
 
--- src/bezier.rt:470:60
 subdivide-add-subdivide : (t : ℕ) → subdivide-lts.Need-add-subdivide (claims t) (subdivide-at t) subdivide.Post
 subdivide-add-subdivide t c = let a = c .before .before .before .before .before .before .before .before .before .before .before .before .before .before .before .before .args in
     let h = c .before .before .before .before .before .before .before .before .before .before .if1 .left in
     omega (arith, c .before .before .before .before .before .before .before .before .before .before .before .before .before .before .before .before, half-power (a .depth) h, c .before .before .before .subdivide .ensures .count, subdivided-length (a .depth - 1) (a .tolerance-sq) (c .before .before .before .before .before .before .before .split-at .result .left))
 
--- src/bezier.rt:470:9
 subdivide-subdivide-requires-2 : (t : ℕ) → subdivide-lts.Need-subdivide-requires-2 (claims t) (subdivide-at t) subdivide.Post
 subdivide-subdivide-requires-2 t c κs = let a = c .before .before .before .before .before .before .before .before .before .before .before .before .before .before .before .before .args in
     let h = c .before .before .before .before .before .before .before .before .before .before .if1 .left in
     omega (arith, c .before .before .before .before .before .before .before .before .before .before .before .before .before .before .before .before .pre, half-power (a .depth) h, c .before .before .before .subdivide .ensures .count, subdivided-length (a .depth - 1) (a .tolerance-sq) (c .before .before .before .before .before .before .before .split-at .result .left), c .before .before .before .subdivide .kept .1 .1 .1 .0)
 
--- src/bezier.rt:471:5
 subdivide-add-result : (t : ℕ) → subdivide-lts.Need-add-result (claims t) (subdivide-at t) subdivide.Post
 subdivide-add-result t c = let a = c .before .before .before .before .before .before .before .before .before .before .before .before .before .before .before .before .before .before .before .args in
     let h = c .before .before .before .before .before .before .before .before .before .before .before .before .before .if1 .left in
     omega (arith, c .before .before .before .before .before .before .before .before .before .before .before .before .before .before .before .before .before .before .before, half-power (a .depth) h, c .before .before .before .before .before .before .subdivide .ensures .count, c .before .before .subdivide2 .ensures .count, subdivided-length (a .depth - 1) (a .tolerance-sq) (c .before .before .before .before .before .before .before .before .before .before .split-at .result .left), subdivided-length (a .depth - 1) (a .tolerance-sq) (c .before .before .before .before .before .before .before .before .before .before .split-at .result .right))
 
--- src/bezier.rt:450:1
 subdivide-same-length-3 : (t : ℕ) → subdivide-lts.Need-same-length-3 (claims t) (subdivide-at t) subdivide.Post
 subdivide-same-length-3 t c = c .before .before .subdivide2 .kept .1 .1 .1 .0 ∙ c .before .before .before .before .before .before .subdivide .kept .1 .1 .1 .0
 
--- src/bezier.rt:450:1
 subdivide-returns-3 : (t : ℕ) → subdivide-lts.Need-returns-3 (claims t) (subdivide-at t) subdivide.Post
 subdivide-returns-3 t c = let a = c .before .before .before .before .before .before .before .before .before .before .before .before .before .before .before .before .before .before .before .args in
     placed-both pair 2 (λ x. refl) _ _ _ (a .at) _ _ (a .out .now) _ _ (subdivided-halves (a .depth) (a .tolerance-sq) (a .q) (c .before .before .before .before .before .before .before .before .before .before .before .before .before .if1 .left) _ _ _ (c .before .before .before .before .before .before .before .before .before .before .before .before .is-flat .ensures) (c .before .before .before .before .before .before .before .before .before .before .before .if2 .left) (c .before .before .before .before .before .before .before .before .before .before .split-at .ensures .0) (c .before .before .before .before .before .before .before .before .before .before .split-at .ensures .1)) (c .before .before .before .before .before .before .subdivide .ensures) (c .before .before .subdivide2 .ensures)

@@ -1,38 +1,29 @@
+-- `bezier::bezier::check_params` meets its contract: each return is the first row that fails, by the tests before it. Assumes nothing.
 use mathlib.Core.Path.{sym, _∙_}
 use Rattle.types.proofs.Rows.{row-fails, row-passes, not-fails, not-passes, whole-fails, whole-passes, done}
 use Rattle.bezier.specs.Calls.{paramFirstRows}
 use borrow.Author.Needs.{needs}
 use Rattle.bezier.proofs.bezier.check_params.Statement.{statement}
 use Rattle.bezier.proofs.bezier.check_params.Tie as tie
-use Rattle.bezier.proofs.bezier.check_params.Reads as reads
-use Rattle.bezier.proofs.bezier.check_params.Lts as lts
-use Rattle.bezier.proofs.bezier.curve_in_3d.Reads as curve-in-3d-reads
-use Rattle.types.proofs.domain.is_within.Reads as is-within-reads
 
--- src/bezier.rt:347:9
 returns : tie.Need-returns
 unfolding paramFirstRows
 returns c = sym (row-fails _ _ _ (whole-fails 6 _ (c .if1 .taken)))
 
--- src/bezier.rt:349:9
 curve-in-3d-requires : tie.Need-curve-in-3d-requires
 curve-in-3d-requires c κs = search needs
 
--- src/bezier.rt:350:9
 returns-2 : tie.Need-returns-2
 unfolding paramFirstRows
 returns-2 c = sym (row-passes _ _ _ (whole-passes 6 _ (c .before .before .if1 .left)) ∙ row-fails _ _ _ (not-fails _ _ (c .before .curve-in-3d .ensures) (c .if2 .taken)))
 
--- src/bezier.rt:352:9
 is-within-requires : tie.Need-is-within-requires
 is-within-requires c κs = search needs
 
--- src/bezier.rt:353:9
 returns-3 : tie.Need-returns-3
 unfolding paramFirstRows
 returns-3 c = sym (row-passes _ _ _ (whole-passes 6 _ (c .before .before .before .before .if1 .left)) ∙ row-passes _ _ _ (not-passes _ _ (c .before .before .before .curve-in-3d .ensures) (c .before .before .if2 .left)) ∙ row-fails _ _ _ (not-fails _ _ (c .before .is-within .ensures) (c .if3 .taken)))
 
--- src/bezier.rt:336:1
 returns-4 : tie.Need-returns-4
 unfolding paramFirstRows
 returns-4 c = sym (row-passes _ _ _ (whole-passes 6 _ (c .before .before .before .before .if1 .left)) ∙ row-passes _ _ _ (not-passes _ _ (c .before .before .before .curve-in-3d .ensures) (c .before .before .if2 .left)) ∙ row-passes _ _ _ (not-passes _ _ (c .before .is-within .ensures) (c .if3 .left)) ∙ done)

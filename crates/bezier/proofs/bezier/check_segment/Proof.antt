@@ -1,3 +1,4 @@
+-- `bezier::bezier::check_segment` meets its contract: each return is the first row that fails, by the tests before it. Assumes nothing.
 use mathlib.Core.Path.{sym, _∙_}
 use borrow.Author.Tests.{lt-ltb, le-ltb}
 use Rattle.types.proofs.Rows.{row-fails, row-passes, not-fails, not-passes, whole-fails, whole-passes, done}
@@ -5,40 +6,29 @@ use Rattle.bezier.specs.Calls.{segmentRows}
 use borrow.Author.Needs.{needs}
 use Rattle.bezier.proofs.bezier.check_segment.Statement.{statement}
 use Rattle.bezier.proofs.bezier.check_segment.Tie as tie
-use Rattle.bezier.proofs.bezier.check_segment.Reads as reads
-use Rattle.bezier.proofs.bezier.check_segment.Lts as lts
-use Rattle.bezier.proofs.bezier.curve_in_3d.Reads as curve-in-3d-reads
-use Rattle.types.proofs.domain.is_within.Reads as is-within-reads
 
--- src/bezier.rt:634:9
 returns : tie.Need-returns
 unfolding segmentRows
 returns c = sym (row-fails _ _ _ (whole-fails 3 _ (c .if1 .taken)))
 
--- src/bezier.rt:636:9
 curve-in-3d-requires : tie.Need-curve-in-3d-requires
 curve-in-3d-requires c κs = search needs
 
--- src/bezier.rt:637:9
 returns-2 : tie.Need-returns-2
 unfolding segmentRows
 returns-2 c = sym (row-passes _ _ _ (whole-passes 3 _ (c .before .before .if1 .left)) ∙ row-fails _ _ _ (not-fails _ _ (c .before .curve-in-3d .ensures) (c .if2 .taken)))
 
--- src/bezier.rt:639:9
 is-within-requires : tie.Need-is-within-requires
 is-within-requires c κs = search needs
 
--- src/bezier.rt:640:9
 returns-3 : tie.Need-returns-3
 unfolding segmentRows
 returns-3 c = sym (row-passes _ _ _ (whole-passes 3 _ (c .before .before .before .before .if1 .left)) ∙ row-passes _ _ _ (not-passes _ _ (c .before .before .before .curve-in-3d .ensures) (c .before .before .if2 .left)) ∙ row-fails _ _ _ (not-fails _ _ (c .before .is-within .ensures) (c .if3 .taken)))
 
--- src/bezier.rt:643:9
 returns-4 : tie.Need-returns-4
 unfolding segmentRows
 returns-4 c = sym (row-passes _ _ _ (whole-passes 3 _ (c .before .before .before .before .before .if1 .left)) ∙ row-passes _ _ _ (not-passes _ _ (c .before .before .before .before .curve-in-3d .ensures) (c .before .before .before .if2 .left)) ∙ row-passes _ _ _ (not-passes _ _ (c .before .before .is-within .ensures) (c .before .if3 .left)) ∙ row-fails _ _ _ (lt-ltb _ _ (c .if4 .taken)))
 
--- src/bezier.rt:630:1
 returns-5 : tie.Need-returns-5
 unfolding segmentRows
 returns-5 c = sym (row-passes _ _ _ (whole-passes 3 _ (c .before .before .before .before .before .if1 .left)) ∙ row-passes _ _ _ (not-passes _ _ (c .before .before .before .before .curve-in-3d .ensures) (c .before .before .before .if2 .left)) ∙ row-passes _ _ _ (not-passes _ _ (c .before .before .is-within .ensures) (c .before .if3 .left)) ∙ row-passes _ _ _ (le-ltb _ _ (c .if4 .left)) ∙ done)

@@ -1,41 +1,31 @@
+-- `bezier::bezier::curve_in_3d` meets its contract: a conjunction, left at the first test that fails. Assumes nothing.
 use mathlib.Core.Bool.{true}
 use Rattle.types.proofs.And.{all-4, all-4-third, all-4-second, all-4-first}
 use borrow.Author.Needs.{needs}
 use Rattle.bezier.proofs.bezier.curve_in_3d.Statement.{statement}
 use Rattle.bezier.proofs.bezier.curve_in_3d.Tie as tie
-use Rattle.bezier.proofs.bezier.curve_in_3d.Reads as reads
-use Rattle.bezier.proofs.bezier.curve_in_3d.Lts as lts
-use Rattle.types.proofs.domain.point3_in.Reads as point3-in-reads
 
--- src/bezier.rt:143:9
 point3-in-requires : tie.Need-point3-in-requires
 point3-in-requires c κs = search needs
 
--- src/bezier.rt:144:9
 returns : tie.Need-returns
 returns c = all-4-first _ _ _ _ _ true true true (c .before .point3-in .ensures) (c .if1 .taken)
 
--- src/bezier.rt:146:9
 point3-in-requires-2 : tie.Need-point3-in-requires-2
 point3-in-requires-2 c κs = search needs
 
--- src/bezier.rt:147:9
 returns-2 : tie.Need-returns-2
 returns-2 c = all-4-second _ _ _ _ _ _ true true (c .before .before .before .point3-in .ensures) (c .before .before .if1 .left) (c .before .point3-in2 .ensures) (c .if2 .taken)
 
--- src/bezier.rt:149:9
 point3-in-requires-3 : tie.Need-point3-in-requires-3
 point3-in-requires-3 c κs = search needs
 
--- src/bezier.rt:150:9
 returns-3 : tie.Need-returns-3
 returns-3 c = all-4-third _ _ _ _ _ _ _ true (c .before .before .before .before .before .point3-in .ensures) (c .before .before .before .before .if1 .left) (c .before .before .before .point3-in2 .ensures) (c .before .before .if2 .left) (c .before .point3-in3 .ensures) (c .if3 .taken)
 
--- src/bezier.rt:152:5
 point3-in-requires-4 : tie.Need-point3-in-requires-4
 point3-in-requires-4 c κs = search needs
 
--- src/bezier.rt:140:1
 returns-4 : tie.Need-returns-4
 returns-4 c = all-4 _ _ _ _ _ _ _ _ (c .before .before .before .before .before .before .point3-in .ensures) (c .before .before .before .before .before .if1 .left) (c .before .before .before .before .point3-in2 .ensures) (c .before .before .before .if2 .left) (c .before .before .point3-in3 .ensures) (c .before .if3 .left) (c .point3-in4 .ensures)
 

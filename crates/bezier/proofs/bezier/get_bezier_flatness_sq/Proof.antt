@@ -1,61 +1,43 @@
-use mathlib.Core.Path.{_≡_, refl, sym, ap, _∙_}
+-- `bezier::bezier::get_bezier_flatness_sq` meets its contract: by the test on the chord's square. Assumes nothing.
 use Rattle.bezier.specs.Flatten.{flatnessSq}
 use borrow.Author.Needs.{needs}
 use Rattle.bezier.proofs.bezier.get_bezier_flatness_sq.Statement.{statement}
 use Rattle.bezier.proofs.bezier.get_bezier_flatness_sq.Tie as tie
-use Rattle.bezier.proofs.bezier.get_bezier_flatness_sq.Reads as reads
-use Rattle.bezier.proofs.bezier.get_bezier_flatness_sq.Lts as lts
-use Rattle.bezier.proofs.bezier.get_perpendicular_dist_sq.Reads as get-perpendicular-dist-sq-reads
-use Rattle.bezier.proofs.bezier.minus_3d.Reads as minus-3d-reads
-use Rattle.bezier.proofs.bezier.norm_squared.Reads as norm-squared-reads
-use Rattle.number.proofs.float.max.Reads as max-reads
 
--- src/bezier.rt:571:9
 minus-3d-requires : tie.Need-minus-3d-requires
 minus-3d-requires c κs = search needs
 
--- src/bezier.rt:572:9
 norm-squared-requires : tie.Need-norm-squared-requires
 norm-squared-requires c κs = search needs
 
--- src/bezier.rt:574:33
 minus-3d-requires-2 : tie.Need-minus-3d-requires-2
 minus-3d-requires-2 c κs = search needs
 
--- src/bezier.rt:574:20
 norm-squared-requires-2 : tie.Need-norm-squared-requires-2
 norm-squared-requires-2 c κs = search needs
 
--- src/bezier.rt:574:63
 minus-3d-requires-3 : tie.Need-minus-3d-requires-3
 minus-3d-requires-3 c κs = search needs
 
--- src/bezier.rt:574:50
 norm-squared-requires-3 : tie.Need-norm-squared-requires-3
 norm-squared-requires-3 c κs = search needs
 
--- src/bezier.rt:574:9
 max-requires : tie.Need-max-requires
 max-requires c κs = search needs
 
--- src/bezier.rt:574:9
 returns : tie.Need-returns
 unfolding flatnessSq
 returns c = rw (← c .before .before .before .before .before .before .before .minus-3d .ensures, ← c .before .before .before .before .before .before .norm-squared .ensures, c .before .before .before .before .before .if1 .taken, ← c .before .before .before .before .minus-3d2 .ensures, ← c .before .before .before .norm-squared2 .ensures, ← c .before .before .minus-3d3 .ensures, ← c .before .norm-squared3 .ensures) (c .max .ensures)
 
--- src/bezier.rt:576:9
 get-perpendicular-dist-sq-requires : tie.Need-get-perpendicular-dist-sq-requires
 get-perpendicular-dist-sq-requires c κs = search needs
 
--- src/bezier.rt:577:9
 get-perpendicular-dist-sq-requires-2 : tie.Need-get-perpendicular-dist-sq-requires-2
 get-perpendicular-dist-sq-requires-2 c κs = search needs
 
--- src/bezier.rt:578:5
 max-requires-2 : tie.Need-max-requires-2
 max-requires-2 c κs = search needs
 
--- src/bezier.rt:568:1
 returns-2 : tie.Need-returns-2
 unfolding flatnessSq
 returns-2 c = rw (← c .before .before .before .before .before .minus-3d .ensures, ← c .before .before .before .before .norm-squared .ensures, c .before .before .before .if1 .left, ← c .before .before .get-perpendicular-dist-sq .ensures, ← c .before .get-perpendicular-dist-sq2 .ensures) (c .max2 .ensures)

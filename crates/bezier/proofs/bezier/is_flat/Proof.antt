@@ -1,3 +1,4 @@
+-- `bezier::bezier::is_flat` meets its contract: a conjunction, left at the first test that fails. Assumes nothing.
 use mathlib.Core.Path.{_∙_, ap}
 use mathlib.Core.Bool.{true}
 use lib.Ieee.{Float, le}
@@ -8,24 +9,16 @@ use Rattle.bezier.specs.Flatten.{isFlat}
 use borrow.Author.Needs.{needs}
 use Rattle.bezier.proofs.bezier.is_flat.Statement.{statement}
 use Rattle.bezier.proofs.bezier.is_flat.Tie as tie
-use Rattle.bezier.proofs.bezier.is_flat.Reads as reads
-use Rattle.bezier.proofs.bezier.is_flat.Lts as lts
-use Rattle.bezier.proofs.bezier.Chord.new.Reads as new-reads
-use Rattle.bezier.proofs.bezier.Chord.off.Reads as off-reads
 
--- src/bezier.rt:429:9
 new-requires : tie.Need-new-requires
 new-requires c κs = search needs
 
--- src/bezier.rt:430:8
 off-requires : tie.Need-off-requires
 off-requires c κs = search needs
 
--- src/bezier.rt:431:16
 off-requires-2 : tie.Need-off-requires-2
 off-requires-2 c κs = search needs
 
--- src/bezier.rt:431:9
 returns : tie.Need-returns
 unfolding isFlat
 returns c = let a = c .before .before .before .before .args in
@@ -33,7 +26,6 @@ returns c = let a = c .before .before .before .before .args in
     let second = ap (λ (x : Float). le x (a .tolerance-sq)) (c .off2 .ensures ∙ ap (λ (k : Chord). offChord k (a .c2)) (c .before .before .before .new .ensures)) in
     and-2 _ _ true _ _ true first (c .before .if1 .taken) second
 
--- src/bezier.rt:426:1
 returns-2 : tie.Need-returns-2
 unfolding isFlat
 returns-2 c = let a = c .before .before .before .args in

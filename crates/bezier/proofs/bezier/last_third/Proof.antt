@@ -1,11 +1,9 @@
+-- `bezier::bezier::last_third` meets its contract: the definition's operations in the same order. Assumes nothing.
 use mathlib.Core.Path.{refl}
 use Rattle.bezier.specs.Linearize.{lastThird}
 use Rattle.bezier.proofs.bezier.last_third.Statement.{statement}
 use Rattle.bezier.proofs.bezier.last_third.Tie as tie
-use Rattle.bezier.proofs.bezier.last_third.Reads as reads
-use Rattle.bezier.proofs.bezier.last_third.Lts as lts
 
--- src/bezier.rt:317:1
 returns : tie.Need-returns
 unfolding lastThird
 returns c = refl

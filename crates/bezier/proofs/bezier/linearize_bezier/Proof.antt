@@ -1,43 +1,34 @@
-use mathlib.Core.Path.{_≡_, refl, sym, _∙_}
-use Prim.Native.Nat.{_*_, _≤_}
+-- `bezier::bezier::linearize_bezier` meets its contract: a refusal by the check's number, else the steps at the front. Assumes nothing.
+use mathlib.Core.Path.{_≡_, refl, sym}
 use native.Mathlib.Omega.{arith}
 use lib.ListN.{length}
 use Rattle.types.specs.Lent.{flat}
 use Rattle.types.proofs.Walk.{list-length}
 use Rattle.types.proofs.Flat.{flat-length}
 use Rattle.types.proofs.Rows.{accepted, wrote-none, wrote-all}
-use Rattle.bezier.specs.Linearize.{six, steps, stepAt}
+use Rattle.bezier.specs.Linearize.{six, steps}
 use Rattle.bezier.specs.Calls.{linearizeRows, linearizeCall}
 use Rattle.bezier.proofs.Rows.{linearize-passed}
 use borrow.Author.Needs.{needs}
 use Rattle.bezier.proofs.bezier.linearize_bezier.Statement.{statement}
 use Rattle.bezier.proofs.bezier.linearize_bezier.Tie as tie
-use Rattle.bezier.proofs.bezier.linearize_bezier.Reads as reads
-use Rattle.bezier.proofs.bezier.linearize_bezier.Lts as lts
-use Rattle.bezier.proofs.bezier.check_linearize.Reads as check-linearize-reads
-use Rattle.bezier.proofs.bezier.put_steps.Reads as put-steps-reads
 
--- src/bezier.rt:276:9
 check-linearize-requires : tie.Need-check-linearize-requires
 check-linearize-requires c κs = search needs
 
--- src/bezier.rt:278:9
 returns : tie.Need-returns
 unfolding linearizeCall
 returns c =
     let a = c .before .before .before .args in
     wrote-none (flat six) (linearizeRows (a .p0) (a .c1) (a .c2) (a .p1) (a .num-steps) (length (a .out .now))) (steps (a .p0) (a .c1) (a .c2) (a .p1) (a .num-steps)) (a .out .now) _ (c .before .check-linearize .ensures) (c .if1 .taken)
 
--- src/bezier.rt:280:5
 put-steps-requires : tie.Need-put-steps-requires
 put-steps-requires c κs = let a = c .before .before .before .before .args in
     linearize-passed (a .p0) (a .c1) (a .c2) (a .p1) (a .num-steps) _ (accepted _ _ (c .before .before .check-linearize .ensures) (c .before .if1 .left))
 
--- src/bezier.rt:266:1
 same-length : tie.Need-same-length
 same-length c = search needs
 
--- src/bezier.rt:266:1
 returns-2 : tie.Need-returns-2
 unfolding linearizeCall
 returns-2 c = let a = c .before .before .before .before .before .before .before .args in

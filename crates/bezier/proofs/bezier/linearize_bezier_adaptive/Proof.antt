@@ -1,10 +1,8 @@
-use mathlib.Core.Path.{_≡_, refl, sym, _∙_}
-use mathlib.Core.List.{List, _∷_}
-use Prim.Native.Nat.{ℕ, _+_, _*_, _^_, _≤_}
+-- `bezier::bezier::linearize_bezier_adaptive` meets its contract: a refusal by the check's number, else the start and the ends of the parts. Assumes nothing.
+use mathlib.Core.Path.{refl}
+use mathlib.Core.List.{_∷_}
 use native.Mathlib.Omega.{arith}
-use lib.Pow.{pow-mono}
 use lib.ListN.{length}
-use Rattle.types.specs.declared.types.Point.{Point}
 use Rattle.types.specs.declared.types.CubicBezier.{CubicBezier}
 use Rattle.types.specs.Lent.{pair, flat}
 use Rattle.types.proofs.Flat.{flat-length}
@@ -17,45 +15,33 @@ use Rattle.bezier.proofs.Rows.{adaptive-passed}
 use borrow.Author.Needs.{needs}
 use Rattle.bezier.proofs.bezier.linearize_bezier_adaptive.Statement.{statement}
 use Rattle.bezier.proofs.bezier.linearize_bezier_adaptive.Tie as tie
-use Rattle.bezier.proofs.bezier.linearize_bezier_adaptive.Reads as reads
-use Rattle.bezier.proofs.bezier.linearize_bezier_adaptive.Lts as lts
-use Rattle.bezier.proofs.bezier.check_adaptive.Reads as check-adaptive-reads
-use Rattle.bezier.proofs.bezier.subdivide.Reads as subdivide-reads
-use Rattle.types.proofs.lent.put_pair.Reads as put-pair-reads
 
--- src/bezier.rt:528:9
 check-adaptive-requires : tie.Need-check-adaptive-requires
 check-adaptive-requires c κs = search needs
 
--- src/bezier.rt:530:9
 returns : tie.Need-returns
 unfolding adaptiveCall
 returns c = let a = c .before .before .before .args in
     wrote-none (flat pair) (adaptiveRows (a .p0) (a .c1) (a .c2) (a .p1) (a .tolerance-sq) (a .max-depth) (length (a .out .now))) (a .p0 ∷ subdivided (a .max-depth) (a .tolerance-sq) (record { 0 = a .p0; 1 = a .c1; 2 = a .c2; 3 = a .p1 })) (a .out .now) _ (c .before .check-adaptive .ensures) (c .if1 .taken)
 
--- src/bezier.rt:532:5
 put-pair-requires : tie.Need-put-pair-requires
 put-pair-requires c κs = let a = c .before .before .before .before .args in
     let f = adaptive-passed (a .p0) (a .c1) (a .c2) (a .p1) (a .tolerance-sq) (a .max-depth) _ (accepted _ _ (c .before .before .check-adaptive .ensures) (c .before .if1 .left)) in
     omega arith
 
--- src/bezier.rt:533:9
 subdivide-requires : tie.Need-subdivide-requires
 subdivide-requires c κs = let a = c .before .before .before .before .before .before .before .before .args in
     let f = adaptive-passed (a .p0) (a .c1) (a .c2) (a .p1) (a .tolerance-sq) (a .max-depth) _ (accepted _ _ (c .before .before .before .before .before .before .check-adaptive .ensures) (c .before .before .before .before .before .if1 .left)) in
     omega (arith, c .before .before .before .put-pair .kept .0)
 
--- src/bezier.rt:534:21
 add-t10 : tie.Need-add-t10
 add-t10 c = let a = c .before .before .before .before .before .before .before .before .before .before .before .args in
     let f = adaptive-passed (a .p0) (a .c1) (a .c2) (a .p1) (a .tolerance-sq) (a .max-depth) _ (accepted _ _ (c .before .before .before .before .before .before .before .before .before .check-adaptive .ensures) (c .before .before .before .before .before .before .before .before .if1 .left)) in
     omega (arith, c .before .before .before .before .before .before .before .before .before .before .before, c .before .before .subdivide .ensures .count, subdivided-length (a .max-depth) (a .tolerance-sq) (record { 0 = a .p0; 1 = a .c1; 2 = a .c2; 3 = a .p1 }))
 
--- src/bezier.rt:517:1
 same-length : tie.Need-same-length
 same-length c = search needs
 
--- src/bezier.rt:517:1
 returns-2 : tie.Need-returns-2
 unfolding adaptiveCall
 returns-2 c = let a = c .before .before .before .before .before .before .before .before .before .before .before .args in

@@ -1,59 +1,41 @@
+-- `bezier::bezier::linearize_bezier_from_params` meets its contract: the first rows by their check, then the count of steps, then the room; else the steps at the front. Assumes nothing.
 use Rattle.bezier.proofs.Rows.{param-refused, param-many, param-no-room, param-accepted, param-length}
-use mathlib.Core.Path.{_≡_, refl, sym, ap, _∙_, subst}
-use mathlib.Core.Bool.{true, false, not}
-use mathlib.Core.List.{List, [], _∷_, _++_}
+use mathlib.Core.Path.{_≡_, refl, sym, _∙_, subst}
+use mathlib.Core.Bool.{true}
 use Prim.Native.Nat.{ℕ, _*_, _≤_, _<_}
 use native.Mathlib.Omega.{arith}
-use borrow.Author.Tests.{lt-ltb, le-ltb}
-use lib.Dec.{ltb}
 use lib.ListN.{length}
 use lib.IntN.{pos}
-use lib.Ieee.{Float, fin, le, lt}
+use lib.Ieee.{Float, fin, lt}
 use Rattle.types.specs.Lent.{flat}
-use Rattle.types.specs.Outcome.{Row, row, refusal}
-use Rattle.types.proofs.Walk.{list-length}
 use Rattle.types.proofs.Flat.{flat-length}
-use Rattle.types.proofs.Rows.{row-fails, row-passes, done, accepted, refusal-front, wrote-none, wrote-all}
-use Rattle.bezier.specs.Linearize.{six, steps, stepsNeeded, stepCount, paramSteps}
-use Rattle.bezier.specs.Calls.{mostSteps, paramFirstRows, paramRows, paramCall}
+use Rattle.types.proofs.Rows.{accepted, wrote-none, wrote-all}
+use Rattle.bezier.specs.Linearize.{six, stepsNeeded, stepCount, paramSteps}
+use Rattle.bezier.specs.Calls.{paramRows, paramCall}
 use Rattle.bezier.proofs.Count.{max-above}
 use borrow.Author.Needs.{needs}
 use Rattle.bezier.proofs.bezier.linearize_bezier_from_params.Statement.{statement}
 use Rattle.bezier.proofs.bezier.linearize_bezier_from_params.Tie as tie
-use Rattle.bezier.proofs.bezier.linearize_bezier_from_params.Reads as reads
-use Rattle.bezier.proofs.bezier.linearize_bezier_from_params.Lts as lts
-use Rattle.bezier.proofs.bezier.check_params.Reads as check-params-reads
-use Rattle.bezier.proofs.bezier.first_third.Reads as first-third-reads
-use Rattle.bezier.proofs.bezier.last_third.Reads as last-third-reads
-use Rattle.bezier.proofs.bezier.put_steps.Reads as put-steps-reads
-use Rattle.bezier.proofs.bezier.steps_needed.Reads as steps-needed-reads
-use Rattle.bezier.proofs.bezier.whole_steps.Reads as whole-steps-reads
 
--- src/bezier.rt:369:9
 check-params-requires : tie.Need-check-params-requires
 check-params-requires c κs = search needs
 
--- src/bezier.rt:371:9
 returns : tie.Need-returns
 unfolding paramCall
 returns c = let a = c .before .before .before .args in
     wrote-none (flat six) (paramRows (a .end) (a .control1) (a .control2) (a .start-point) (a .resolution) (length (a .out .now))) (paramSteps (a .end) (a .control1) (a .control2) (a .start-point) (a .resolution)) (a .out .now) _ (param-refused _ _ _ _ _ _ _ (c .before .check-params .ensures) (c .if1 .taken)) (c .if1 .taken)
 
--- src/bezier.rt:373:9
 steps-needed-requires : tie.Need-steps-needed-requires
 steps-needed-requires c κs = search needs
 
--- src/bezier.rt:375:13
 whole-steps-requires : tie.Need-whole-steps-requires
 unfolding stepsNeeded stepCount
 whole-steps-requires c κs = let e = c .before .steps-needed .ensures in
     (subst (λ (x : Float). lt (fin true 1 (pos 0)) x ≡ true) (sym e) (max-above _), c .if2 .taken)
 
--- src/bezier.rt:376:24
 mul-if3 : tie.Need-mul-if3
 mul-if3 c = search needs
 
--- src/bezier.rt:377:13
 returns-2 : tie.Need-returns-2
 unfolding paramCall
 returns-2 c = let a = c .before .before .before .before .before .before .before .args in
@@ -61,23 +43,18 @@ returns-2 c = let a = c .before .before .before .before .before .before .before 
     let n = param-length (a .end) (a .control1) (a .control2) (a .start-point) (a .resolution) _ _ (c .before .before .before .steps-needed .ensures) (c .before .whole-steps .ensures .0) in
     wrote-none (flat six) (paramRows (a .end) (a .control1) (a .control2) (a .start-point) (a .resolution) (length (a .out .now))) (paramSteps (a .end) (a .control1) (a .control2) (a .start-point) (a .resolution)) (a .out .now) _ (param-no-room _ _ _ _ _ _ _ z (c .before .before .before .steps-needed .ensures) (c .before .before .if2 .taken) (subst (λ (k : ℕ). length (a .out .now) < 6 * k) n (c .if3 .taken))) (omega arith)
 
--- src/bezier.rt:379:13
 first-third-requires : tie.Need-first-third-requires
 first-third-requires c κs = search needs
 
--- src/bezier.rt:380:13
 last-third-requires : tie.Need-last-third-requires
 last-third-requires c κs = search needs
 
--- src/bezier.rt:381:9
 put-steps-requires : tie.Need-put-steps-requires
 put-steps-requires c κs = search needs
 
--- src/bezier.rt:382:9
 same-length : tie.Need-same-length
 same-length c = search needs
 
--- src/bezier.rt:382:9
 returns-3 : tie.Need-returns-3
 unfolding paramCall
 returns-3 c = let a = c .before .before .before .before .before .before .before .before .before .before .before .before .before .args in
@@ -89,7 +66,6 @@ returns-3 c = let a = c .before .before .before .before .before .before .before 
     (c .before .before .put-steps .ensures ∙ unfold paramSteps in rw (c .before .before .before .before .before .first-third .ensures, c .before .before .before .before .last-third .ensures, c .before .before .before .before .before .before .before .whole-steps .ensures .0, c .before .before .before .before .before .before .before .before .before .steps-needed .ensures))
     (omega (arith, room, flat-length six 6 (λ s. refl) (paramSteps (a .end) (a .control1) (a .control2) (a .start-point) (a .resolution))))
 
--- src/bezier.rt:359:1
 returns-4 : tie.Need-returns-4
 unfolding paramCall
 returns-4 c = let a = c .before .before .before .before .before .args in

@@ -1,71 +1,51 @@
-use Rattle.types.specs.Outcome.{Outcome}
-use Rattle.types.specs.declared.types.Answer.the-variants.{Written, Refused}
-use mathlib.Core.Path.{_≡_, refl, sym, ap, _∙_, subst}
-use mathlib.Core.List.{List, _∷_}
-use Prim.Native.Nat.{ℕ, _+_, _*_, _^_, _≤_}
+-- `bezier::bezier::linearize_bezier_segment` meets its contract: a refusal by the check's number, else the start and the ends of the parts. Assumes nothing.
+use mathlib.Core.Path.{refl}
+use mathlib.Core.List.{_∷_}
 use native.Mathlib.Omega.{arith}
 use lib.ListN.{length}
-use lib.Seq.{sets}
-use lib.Ieee.{Float}
 use Rattle.number.specs.Ops.{_⊗_}
-use Rattle.types.specs.declared.types.Point3D.{Point3D}
-use Rattle.types.specs.Outcome.{refusal, Wrote}
 use Rattle.types.specs.Lent.{triple, flat}
 use Rattle.types.proofs.Flat.{flat-length}
 use Rattle.types.proofs.Placed.{placed-front}
 use Rattle.types.proofs.Rows.{accepted, wrote-none, wrote-all, wrote-same}
 use Rattle.bezier.specs.Flatten.{flattened}
-use Rattle.bezier.specs.Calls.{segmentRows, segmentCall, toleranceOf}
+use Rattle.bezier.specs.Calls.{segmentRows}
 use Rattle.bezier.proofs.Subdivision.{flattened-length}
 use Rattle.bezier.proofs.Rows.{segment-passed, segment-at}
 use borrow.Author.Needs.{needs}
 use Rattle.bezier.proofs.bezier.linearize_bezier_segment.Statement.{statement}
 use Rattle.bezier.proofs.bezier.linearize_bezier_segment.Tie as tie
-use Rattle.bezier.proofs.bezier.linearize_bezier_segment.Reads as reads
-use Rattle.bezier.proofs.bezier.linearize_bezier_segment.Lts as lts
-use Rattle.bezier.proofs.bezier.Tolerance.value.Reads as value-reads
-use Rattle.bezier.proofs.bezier.check_segment.Reads as check-segment-reads
-use Rattle.bezier.proofs.bezier.flatten_bezier.Reads as flatten-bezier-reads
-use Rattle.types.proofs.lent.put_point.Reads as put-point-reads
 
--- src/bezier.rt:659:9
 value-requires : tie.Need-value-requires
 value-requires c κs = search needs
 
--- src/bezier.rt:660:9
 check-segment-requires : tie.Need-check-segment-requires
 check-segment-requires c κs = search needs
 
--- src/bezier.rt:662:9
 returns : tie.Need-returns
 returns c = let a = c .before .before .before .before .args in
     let t = c .before .before .value .result in
     wrote-same (flat triple) _ _ _ _ _ (segment-at (a .p0) (a .c1) (a .c2) (a .p1) (a .tolerance) t (length (a .out .now)) (c .before .before .value .ensures))
     (wrote-none (flat triple) (segmentRows (a .p0) (a .c1) (a .c2) (a .p1) t (length (a .out .now))) (a .p0 ∷ flattened 10 (t ⊗ t) (a .p0) (a .c1) (a .c2) (a .p1)) (a .out .now) _ (c .before .check-segment .ensures) (c .if1 .taken))
 
--- src/bezier.rt:664:5
 put-point-requires : tie.Need-put-point-requires
 put-point-requires c κs = let a = c .before .before .before .before .before .args in
     let f = segment-passed (a .p0) (a .c1) (a .c2) (a .p1) (c .before .before .before .value .result) _ (accepted _ _ (c .before .before .check-segment .ensures) (c .before .if1 .left)) in
     omega arith
 
--- src/bezier.rt:665:9
 flatten-bezier-requires : tie.Need-flatten-bezier-requires
 flatten-bezier-requires c κs = let a = c .before .before .before .before .before .before .before .before .before .args in
     let f = segment-passed (a .p0) (a .c1) (a .c2) (a .p1) (c .before .before .before .before .before .before .before .value .result) _ (accepted _ _ (c .before .before .before .before .before .before .check-segment .ensures) (c .before .before .before .before .before .if1 .left)) in
     omega (arith, c .before .before .before .put-point .kept .0)
 
--- src/bezier.rt:666:21
 add-t10 : tie.Need-add-t10
 add-t10 c = let a = c .before .before .before .before .before .before .before .before .before .before .before .before .args in
     let t = c .before .before .before .before .before .before .before .before .before .before .value .result in
     omega (arith, c .before .before .flatten-bezier .ensures .count, flattened-length (t ⊗ t) 10 (a .p0) (a .c1) (a .c2) (a .p1))
 
--- src/bezier.rt:649:1
 same-length : tie.Need-same-length
 same-length c = search needs
 
--- src/bezier.rt:649:1
 returns-2 : tie.Need-returns-2
 returns-2 c = let a = c .before .before .before .before .before .before .before .before .before .before .before .before .args in
     let t = c .before .before .before .before .before .before .before .before .before .before .value .result in

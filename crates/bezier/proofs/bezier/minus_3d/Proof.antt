@@ -1,11 +1,9 @@
+-- `bezier::bezier::minus_3d` meets its contract: the definition's operations in the same order. Assumes nothing.
 use mathlib.Core.Path.{refl}
 use Rattle.bezier.specs.Flatten.{minus}
 use Rattle.bezier.proofs.bezier.minus_3d.Statement.{statement}
 use Rattle.bezier.proofs.bezier.minus_3d.Tie as tie
-use Rattle.bezier.proofs.bezier.minus_3d.Reads as reads
-use Rattle.bezier.proofs.bezier.minus_3d.Lts as lts
 
--- src/bezier.rt:538:1
 returns : tie.Need-returns
 unfolding minus
 returns c = refl

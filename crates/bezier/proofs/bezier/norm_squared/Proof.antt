@@ -1,11 +1,9 @@
+-- `bezier::bezier::norm_squared` meets its contract: the definition's operations in the same order. Assumes nothing.
 use mathlib.Core.Path.{refl}
 use Rattle.bezier.specs.Flatten.{normSq}
 use Rattle.bezier.proofs.bezier.norm_squared.Statement.{statement}
 use Rattle.bezier.proofs.bezier.norm_squared.Tie as tie
-use Rattle.bezier.proofs.bezier.norm_squared.Reads as reads
-use Rattle.bezier.proofs.bezier.norm_squared.Lts as lts
 
--- src/bezier.rt:548:1
 returns : tie.Need-returns
 unfolding normSq
 returns c = refl

@@ -1,30 +1,21 @@
-use mathlib.Core.Path.{refl}
+-- `bezier::bezier::point_on_3d` meets its contract: the weights once, and each coordinate by them. Assumes nothing.
 use Rattle.bezier.specs.Curve.{pointOn3}
 use borrow.Author.Needs.{needs}
 use Rattle.bezier.proofs.bezier.point_on_3d.Statement.{statement}
 use Rattle.bezier.proofs.bezier.point_on_3d.Tie as tie
-use Rattle.bezier.proofs.bezier.point_on_3d.Reads as reads
-use Rattle.bezier.proofs.bezier.point_on_3d.Lts as lts
-use Rattle.bezier.proofs.bezier.Weights.at.Reads as at-reads
-use Rattle.bezier.proofs.bezier.mix.Reads as mix-reads
 
--- src/bezier.rt:116:9
 at-requires : tie.Need-at-requires
 at-requires c κs = search needs
 
--- src/bezier.rt:118:12
 mix-requires : tie.Need-mix-requires
 mix-requires c κs = search needs
 
--- src/bezier.rt:119:12
 mix-requires-2 : tie.Need-mix-requires-2
 mix-requires-2 c κs = search needs
 
--- src/bezier.rt:120:12
 mix-requires-3 : tie.Need-mix-requires-3
 mix-requires-3 c κs = search needs
 
--- src/bezier.rt:113:1
 returns : tie.Need-returns
 unfolding pointOn3
 returns c = rw (c .before .before .mix .ensures, c .before .mix2 .ensures, c .mix3 .ensures, c .before .before .before .at .ensures)

@@ -1,30 +1,23 @@
-use mathlib.Core.Path.{refl, sym, _∙_}
+-- `bezier::bezier::put_step` meets its contract: two points stored one behind the other are one run. Assumes nothing.
+use mathlib.Core.Path.{sym, _∙_}
 use Rattle.types.specs.Lent.{triple}
 use Rattle.types.proofs.Stores.{sets-append}
 use borrow.Author.Needs.{needs}
 use Rattle.bezier.proofs.bezier.put_step.Statement.{statement}
 use Rattle.bezier.proofs.bezier.put_step.Tie as tie
-use Rattle.bezier.proofs.bezier.put_step.Reads as reads
-use Rattle.bezier.proofs.bezier.put_step.Lts as lts
-use Rattle.types.proofs.lent.put_point.Reads as put-point-reads
 
--- src/bezier.rt:230:5
 put-point-requires : tie.Need-put-point-requires
 put-point-requires c κs = search needs
 
--- src/bezier.rt:231:20
 add-put-point : tie.Need-add-put-point
 add-put-point c = search needs
 
--- src/bezier.rt:231:5
 put-point-requires-2 : tie.Need-put-point-requires-2
 put-point-requires-2 c κs = search needs
 
--- src/bezier.rt:226:1
 same-length : tie.Need-same-length
 same-length c = search needs
 
--- src/bezier.rt:226:1
 returns : tie.Need-returns
 returns c = let a = c .before .before .before .before .before .before .before .before .before .args in
     c .before .before .put-point2 .ensures ∙ rw (c .before .before .before .before .before .before .put-point .ensures) (sym (sets-append (triple (a .from)) (triple (a .to)) (a .out .now) (a .at)))

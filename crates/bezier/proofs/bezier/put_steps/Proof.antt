@@ -1,18 +1,13 @@
-use mathlib.Core.Path.{_≡_, refl, sym, ap, _∙_}
-use Prim.Native.Nat.{_+_, _*_, _-_, _≤_}
+-- `bezier::bezier::put_steps` meets its contract: the loop's invariant is that the steps left, written from here, give the whole, and that `from` is the point at the parameter reached. The measure is how many steps are left. Assumes nothing.
+use mathlib.Core.Path.{_≡_, refl, _∙_}
+use Prim.Native.Nat.{_+_, _-_}
 use native.Mathlib.Omega.{arith}
 use borrow.Author.Needs.{needs}
-use lib.ListN.{length}
 use Rattle.types.proofs.Flat.{Writing, writing-start, writing-step, writing-done}
 use Rattle.bezier.specs.Curve.{pointOn3}
 use Rattle.bezier.specs.Linearize.{share, six, stepAt, steps}
 use Rattle.bezier.proofs.bezier.put_steps.Statement.{statement}
 use Rattle.bezier.proofs.bezier.put_steps.Tie as tie
-use Rattle.bezier.proofs.bezier.put_steps.Reads as reads
-use Rattle.bezier.proofs.bezier.put_steps.Lts as lts
-use Rattle.bezier.proofs.bezier.point_on_3d.Reads as point-on-3d-reads
-use Rattle.bezier.proofs.bezier.put_step.Reads as put-step-reads
-use Rattle.bezier.proofs.bezier.share_of.Reads as share-of-reads
 
 abbrev Inv-loop : tie.InvT-loop
 Inv-loop p0 c1 c2 p1 n out₀ from₀ i₀ out from i = Writing six 6 (λ s. refl) (stepAt p0 c1 c2 p1 n) n out₀ out i × (from ≡ pointOn3 p0 c1 c2 p1 (share n i))
@@ -20,48 +15,37 @@ Inv-loop p0 c1 c2 p1 n out₀ from₀ i₀ out from i = Writing six 6 (λ s. ref
 abbrev μ-loop : tie.MeasureT-loop
 μ-loop p0 c1 c2 p1 n out₀ from₀ i₀ out from i = n - i
 
--- src/bezier.rt:217:48
 share-of-requires : tie.Need-share-of-requires Inv-loop μ-loop
 share-of-requires c κs = search needs
 
--- src/bezier.rt:217:9
 point-on-3d-requires : tie.Need-point-on-3d-requires Inv-loop μ-loop
 point-on-3d-requires c κs = search needs
 
--- src/bezier.rt:218:5
 loop-holds : tie.Need-loop-holds Inv-loop μ-loop
 loop-holds c = let a = c .before .before .before .args in
     (writing-start six 6 (λ s. refl) (stepAt (a .p0) (a .c1) (a .c2) (a .p1) (a .n)) (a .n) (a .out .now), c .point-on-3d .ensures ∙ rw (c .before .share-of .ensures))
 
--- src/bezier.rt:219:58
 add-share-of : tie.Need-add-share-of Inv-loop μ-loop
 add-share-of c = omega arith
 
--- src/bezier.rt:219:46
 share-of-requires-2 : tie.Need-share-of-requires-2 Inv-loop μ-loop
 share-of-requires-2 c κs = search needs
 
--- src/bezier.rt:219:13
 point-on-3d-requires-2 : tie.Need-point-on-3d-requires-2 Inv-loop μ-loop
 point-on-3d-requires-2 c κs = search needs
 
--- src/bezier.rt:220:23
 mul-put-step : tie.Need-mul-put-step Inv-loop μ-loop
 mul-put-step c = omega arith
 
--- src/bezier.rt:220:9
 put-step-requires : tie.Need-put-step-requires Inv-loop μ-loop
 put-step-requires c κs = search needs
 
--- src/bezier.rt:218:9
 add-i : tie.Need-add-i Inv-loop μ-loop
 add-i c = omega arith
 
--- src/bezier.rt:218:5
 loop-less : tie.Need-loop-less Inv-loop μ-loop
 loop-less c = omega arith
 
--- src/bezier.rt:218:5
 loop-again : tie.Need-loop-again Inv-loop μ-loop
 unfolding stepAt
 loop-again c = let a = c .before .before .before .before .before .before .before .before .before .before .before .args in
@@ -69,11 +53,9 @@ loop-again c = let a = c .before .before .before .before .before .before .before
     let e : c .before .before .before .before .point-on-3d2 .result ≡ pointOn3 (a .p0) (a .c1) (a .c2) (a .p1) (share (a .n) (c .before .before .before .before .before .before .before .loop .i + 1)) = c .before .before .before .before .point-on-3d2 .ensures ∙ rw (c .before .before .before .before .before .share-of2 .ensures) in
     (writing-step six 6 (λ s. refl) (stepAt (a .p0) (a .c1) (a .c2) (a .p1) (a .n)) (a .n) (a .out .now) (c .before .before .before .before .before .before .before .loop .out) _ (c .before .before .before .before .before .before .before .loop .i) (v .0) (c .before .before .before .before .before .before .loop-test .taken) (c .before .before .put-step .ensures ∙ rw (v .1, e)), e)
 
--- src/bezier.rt:213:1
 same-length : tie.Need-same-length Inv-loop μ-loop
 same-length c = c .before .loop .inv .0 .long
 
--- src/bezier.rt:213:1
 returns : tie.Need-returns Inv-loop μ-loop
 unfolding steps
 returns c = writing-done six 6 (λ s. refl) _ (c .before .before .before .before .before .args .n) (c .before .before .before .before .before .args .out .now) _ _ (c .before .loop .inv .0) (c .loop-test .left)

@@ -1,37 +1,27 @@
+-- `bezier::bezier::split_bezier` meets its contract: each return is the row of the table that its tests led to. Assumes nothing.
 use borrow.Author.Tests.{not-true, not-false}
 use Rattle.bezier.specs.Calls.{splitCall, splitAnswer}
 use borrow.Author.Needs.{needs}
 use Rattle.bezier.proofs.bezier.split_bezier.Statement.{statement}
 use Rattle.bezier.proofs.bezier.split_bezier.Tie as tie
-use Rattle.bezier.proofs.bezier.split_bezier.Reads as reads
-use Rattle.bezier.proofs.bezier.split_bezier.Lts as lts
-use Rattle.bezier.proofs.bezier.curve_in.Reads as curve-in-reads
-use Rattle.bezier.proofs.bezier.split_at.Reads as split-at-reads
-use Rattle.types.proofs.domain.is_within.Reads as is-within-reads
 
--- src/bezier.rt:194:9
 curve-in-requires : tie.Need-curve-in-requires
 curve-in-requires c κs = search needs
 
--- src/bezier.rt:195:9
 returns : tie.Need-returns
 unfolding splitCall splitAnswer
 returns c = rw (← c .before .curve-in .ensures, not-true (c .before .curve-in .result) (c .if1 .taken))
 
--- src/bezier.rt:197:9
 is-within-requires : tie.Need-is-within-requires
 is-within-requires c κs = search needs
 
--- src/bezier.rt:198:9
 returns-2 : tie.Need-returns-2
 unfolding splitCall splitAnswer
 returns-2 c = rw (← c .before .before .before .curve-in .ensures, not-false (c .before .before .before .curve-in .result) (c .before .before .if1 .left), ← c .before .is-within .ensures, not-true (c .before .is-within .result) (c .if2 .taken))
 
--- src/bezier.rt:200:9
 split-at-requires : tie.Need-split-at-requires
 split-at-requires c κs = search needs
 
--- src/bezier.rt:191:1
 returns-3 : tie.Need-returns-3
 unfolding splitCall splitAnswer
 returns-3 c = rw (← c .before .before .before .before .before .before .curve-in .ensures, not-false (c .before .before .before .before .before .before .curve-in .result) (c .before .before .before .before .before .if1 .left), ← c .before .before .before .before .is-within .ensures, not-false (c .before .before .before .before .is-within .result) (c .before .before .before .if2 .left), c .before .before .split-at .ensures .0, c .before .before .split-at .ensures .1)

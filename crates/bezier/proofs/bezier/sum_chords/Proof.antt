@@ -1,5 +1,6 @@
-use mathlib.Core.Path.{_≡_, refl, sym, ap, _∙_, subst}
-use Prim.Native.Nat.{ℕ, _-_, _≤_, _<_}
+-- `bezier::bezier::sum_chords` meets its contract: the loop's invariant is that the lengths before i are filled in. The measure is n - i. Assumes nothing.
+use mathlib.Core.Path.{_≡_, refl, ap, _∙_, subst}
+use Prim.Native.Nat.{ℕ, _-_, _≤_}
 use native.Mathlib.Omega.{arith}
 use borrow.Author.Needs.{needs}
 use lib.ListN.{length, length-set}
@@ -9,10 +10,6 @@ use Rattle.bezier.specs.FitCubic.{Chords}
 use Rattle.bezier.proofs.Chords.{Filling, filling-start, filling-step}
 use Rattle.bezier.proofs.bezier.sum_chords.Statement.{statement}
 use Rattle.bezier.proofs.bezier.sum_chords.Tie as tie
-use Rattle.bezier.proofs.bezier.sum_chords.Reads as reads
-use Rattle.bezier.proofs.bezier.sum_chords.Lts as lts
-use Rattle.types.proofs.lent.pair_at.Reads as pair-at-reads
-use Rattle.types.proofs.point.get_distance.Reads as get-distance-reads
 
 abbrev Inv-loop : tie.InvT-loop
 Inv-loop points n chords₀ last₀ i₀ chords last i = Filling (pairAt points) n chords last i × (i ≤ n) × (length chords ≡ length chords₀)
@@ -20,53 +17,41 @@ Inv-loop points n chords₀ last₀ i₀ chords last i = Filling (pairAt points)
 abbrev μ-loop : tie.MeasureT-loop
 μ-loop points n chords₀ last₀ i₀ chords last i = n - i
 
--- src/bezier.rt:740:5
 loop-holds : tie.Need-loop-holds Inv-loop μ-loop
 loop-holds c = (filling-start (pairAt (c .before .before .args .points .now)) (c .before .before .args .n) (c .before .before .args .chords .now) (c .before .before .pre .0 .1) (c .before .before .pre .1), omega arith, refl)
 
--- src/bezier.rt:741:36
 pair-at-requires : tie.Need-pair-at-requires Inv-loop μ-loop
 pair-at-requires c κs = omega arith
 
--- src/bezier.rt:741:72
 sub-pair-at : tie.Need-sub-pair-at Inv-loop μ-loop
 sub-pair-at c = omega arith
 
--- src/bezier.rt:741:56
 pair-at-requires-2 : tie.Need-pair-at-requires-2 Inv-loop μ-loop
 pair-at-requires-2 c κs = omega arith
 
--- src/bezier.rt:741:23
 get-distance-requires : tie.Need-get-distance-requires Inv-loop μ-loop
 get-distance-requires c κs = search needs
 
--- src/bezier.rt:742:9
 mul-chords : tie.Need-mul-chords Inv-loop μ-loop
 mul-chords c = omega arith
 
--- src/bezier.rt:742:9
 slice-write-chords : tie.Need-slice-write-chords Inv-loop μ-loop
 slice-write-chords c = omega arith
 
--- src/bezier.rt:740:9
 add-i : tie.Need-add-i Inv-loop μ-loop
 add-i c = omega arith
 
--- src/bezier.rt:740:5
 loop-less : tie.Need-loop-less Inv-loop μ-loop
 loop-less c = omega arith
 
--- src/bezier.rt:740:5
 loop-again : tie.Need-loop-again Inv-loop μ-loop
 loop-again c = let p = c .before .before .before .before .before .before .before .args .points .now in
     let v = c .before .before .before .before .loop .inv in
     (filling-step (pairAt p) (c .before .before .before .before .before .before .before .args .n) (c .before .before .before .before .loop .chords) (c .before .before .before .before .loop .last) _ (c .before .before .before .before .loop .i) (c .before .before .before .loop-test .taken) (v .0) (ap (λ (d : Float). add binary64 (c .before .before .before .before .loop .last) d) (c .get-distance .ensures ∙ rw (c .before .before .pair-at .ensures, c .before .pair-at2 .ensures))), omega arith, simp length-set (v .2))
 
--- src/bezier.rt:734:1
 same-length : tie.Need-same-length Inv-loop μ-loop
 same-length c = c .before .loop .inv .2
 
--- src/bezier.rt:734:1
 returns : tie.Need-returns Inv-loop μ-loop
 returns c = let v = c .before .loop .inv in
     let e : c .before .loop .i ≡ c .before .before .before .before .args .n = omega arith in

@@ -1,5 +1,6 @@
-use mathlib.Core.Path.{_≡_, refl, sym, ap, _∙_, subst}
-use Prim.Native.Nat.{ℕ, _-_, _≤_, _<_}
+-- `bezier::bezier::sum_up` meets its contract: the loop's invariant is that the points left decide the whole sum. The measure is how many are left. Assumes nothing.
+use mathlib.Core.Path.{_≡_, _∙_}
+use Prim.Native.Nat.{ℕ, _-_}
 use native.Mathlib.Omega.{arith}
 use borrow.Author.Needs.{needs}
 use Rattle.number.specs.Ops.{_⊘_}
@@ -11,11 +12,6 @@ use Rattle.bezier.specs.declared.bezier.Sums.{Sums}
 use Rattle.bezier.specs.FitCubic.{chordSum, addPoint, sums}
 use Rattle.bezier.proofs.bezier.sum_up.Statement.{statement}
 use Rattle.bezier.proofs.bezier.sum_up.Tie as tie
-use Rattle.bezier.proofs.bezier.sum_up.Reads as reads
-use Rattle.bezier.proofs.bezier.sum_up.Lts as lts
-use Rattle.bezier.proofs.bezier.Sums.add.Reads as add-reads
-use Rattle.bezier.proofs.bezier.Sums.new.Reads as new-reads
-use Rattle.types.proofs.lent.pair_at.Reads as pair-at-reads
 
 -- what a turn of the loop does to the sums
 abbrev turn : (ℕ → Point) → ℕ → ℕ → Sums → Sums
@@ -27,71 +23,55 @@ Inv-loop points n chords p0 p3 total s₀ j₀ s j = fold (turn (pairAt points) 
 abbrev μ-loop : tie.MeasureT-loop
 μ-loop points n chords p0 p3 total s₀ j₀ s j = n - j
 
--- src/bezier.rt:752:9
 pair-at-requires : tie.Need-pair-at-requires Inv-loop μ-loop
 pair-at-requires c κs = omega arith
 
--- src/bezier.rt:753:30
 sub-pair-at : tie.Need-sub-pair-at Inv-loop μ-loop
 sub-pair-at c = omega arith
 
--- src/bezier.rt:753:9
 pair-at-requires-2 : tie.Need-pair-at-requires-2 Inv-loop μ-loop
 pair-at-requires-2 c κs = omega arith
 
--- src/bezier.rt:754:24
 sub-total : tie.Need-sub-total Inv-loop μ-loop
 sub-total c = omega arith
 
--- src/bezier.rt:754:17
 mul-total : tie.Need-mul-total Inv-loop μ-loop
 mul-total c = omega arith
 
--- src/bezier.rt:754:17
 shared-slice-read-total : tie.Need-shared-slice-read-total Inv-loop μ-loop
 shared-slice-read-total c = omega arith
 
--- src/bezier.rt:755:9
 new-requires : tie.Need-new-requires Inv-loop μ-loop
 new-requires c κs = search needs
 
--- src/bezier.rt:756:5
 loop-holds : tie.Need-loop-holds Inv-loop μ-loop
 unfolding sums
 loop-holds c = let e : c .before .before .before .before .before .before .args .n - 0 ≡ c .before .before .before .before .before .before .args .n = omega arith in
     rw (e, c .new .ensures)
 
--- src/bezier.rt:757:17
 mul-t : tie.Need-mul-t Inv-loop μ-loop
 mul-t c = omega arith
 
--- src/bezier.rt:757:17
 shared-slice-read-t : tie.Need-shared-slice-read-t Inv-loop μ-loop
 shared-slice-read-t c = omega arith
 
--- src/bezier.rt:758:30
 pair-at-requires-3 : tie.Need-pair-at-requires-3 Inv-loop μ-loop
 pair-at-requires-3 c κs = omega arith
 
--- src/bezier.rt:758:9
 add-requires : tie.Need-add-requires Inv-loop μ-loop
 add-requires c κs = search needs
 
--- src/bezier.rt:756:9
 add-j : tie.Need-add-j Inv-loop μ-loop
 add-j c = omega arith
 
--- src/bezier.rt:756:5
 loop-less : tie.Need-loop-less Inv-loop μ-loop
 loop-less c = omega arith
 
--- src/bezier.rt:756:5
 loop-again : tie.Need-loop-again Inv-loop μ-loop
 loop-again c = let a = c .before .before .before .before .before .before .before .before .before .before .before .args in
     let chords = c .before .before .before .before .before .before .before .before .before .before .before .pre .1 .at-each in
     fold-turn (turn (pairAt (a .points .now)) (a .n)) (a .n) _ _ _ _ (c .before .before .before .loop-test .taken) (c .add .ensures ∙ rw (c .before .before .before .before .before .before .before .before .pair-at .ensures, c .before .before .before .before .before .before .before .pair-at2 .ensures, c .before .pair-at3 .ensures, chords (c .before .before .before .before .loop .j) (omega arith), chords (a .n - 1) (omega arith))) (c .before .before .before .before .loop .inv)
 
--- src/bezier.rt:747:1
 returns : tie.Need-returns Inv-loop μ-loop
 returns c = fold-done _ (c .before .before .before .before .before .before .before .before .args .n) _ _ _ (c .loop-test .left) (c .before .loop .inv)
 

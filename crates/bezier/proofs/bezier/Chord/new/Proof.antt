@@ -1,11 +1,9 @@
+-- `bezier::bezier::Chord::new` meets its contract: the definition's operations in the same order. Assumes nothing.
 use mathlib.Core.Path.{refl}
 use Rattle.bezier.specs.Flatten.{chordOf}
 use Rattle.bezier.proofs.bezier.Chord.new.Statement.{statement}
 use Rattle.bezier.proofs.bezier.Chord.new.Tie as tie
-use Rattle.bezier.proofs.bezier.Chord.new.Reads as reads
-use Rattle.bezier.proofs.bezier.Chord.new.Lts as lts
 
--- src/bezier.rt:400:5
 returns : tie.Need-returns
 unfolding chordOf
 returns c = refl
