@@ -1,0 +1,41 @@
+-- The circle through three points. Definitions only.
+use lib.Ieee.{Float, neg}
+use Rattle.number.specs.Float.{absOf}
+use Rattle.number.specs.Ops.{_⊕_, _⊖_, _⊗_, _⊘_, _≺_, if_then_else_, two}
+use Rattle.types.specs.Vector.{dot, perpDot, lengthOf}
+use Rattle.types.specs.declared.types.Point3D.{Point3D}
+use Rattle.types.specs.declared.types.Point.{Point}
+use Rattle.circle.specs.declared.circle.CircleThrough.{CircleThrough}
+use Rattle.circle.specs.declared.circle.CircleThrough.the-variants.{Around, None}
+use Rattle.circle.specs.Collinear.{nano}
+
+unfoldable pub areaOf : Point3D → Point3D → Point3D → Float
+areaOf a b c = a .x ⊗ (b .y ⊖ c .y) ⊕ b .x ⊗ (c .y ⊖ a .y) ⊕ c .x ⊗ (a .y ⊖ b .y)
+
+unfoldable pub turnOf : Point3D → Point3D → Point3D → Float
+turnOf a b c = neg two ⊗ perpDot (b .x ⊖ a .x) (b .y ⊖ a .y) (c .x ⊖ b .x) (c .y ⊖ b .y)
+
+abbrev pub squareOf : Point3D → Float
+squareOf p = dot (p .x) (p .y) (p .x) (p .y)
+
+-- the centre, where d is the turn
+unfoldable pub center3 : Point3D → Point3D → Point3D → Float → Point
+center3 a b c d =
+    let ab = squareOf a ⊖ squareOf b in
+    let bc = squareOf b ⊖ squareOf c in
+    record {
+      x = (ab ⊗ (c .y ⊖ b .y) ⊖ bc ⊗ (b .y ⊖ a .y)) ⊘ d;
+      y = ((b .x ⊖ a .x) ⊗ bc ⊖ (c .x ⊖ b .x) ⊗ ab) ⊘ d;
+    }
+
+-- the distance of p from the centre m
+unfoldable pub radiusFrom : Point → Point3D → Float
+radiusFrom m p = lengthOf (p .x ⊖ m .x) (p .y ⊖ m .y)
+
+-- by the area and the turn
+unfoldable pub throughBy : Float → Float → Point3D → Point3D → Point3D → CircleThrough
+throughBy area d a b c =
+    if absOf area ≺ nano then None else if absOf d ≺ nano then None else Around (center3 a b c d) (radiusFrom (center3 a b c d) a)
+
+unfoldable pub throughThree : Point3D → Point3D → Point3D → CircleThrough
+throughThree a b c = throughBy (areaOf a b c) (turnOf a b c) a b c
