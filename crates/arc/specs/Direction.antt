@@ -19,15 +19,15 @@ use Rattle.arc.specs.declared.arc.Direction.the-variants.{Clockwise, Ref
 unfoldable pub turnAt : Point → Point → Point → Float
 turnAt m p q = perpDot (p .x ⊖ m .x) (p .y ⊖ m .y) (q .x ⊖ m .x) (q .y ⊖ m .y)
 
--- the cross products of each two neighbours among n points, added from the first on
-unfoldable pub crossSum : (ℕ → Point) → ℕ → Point → Float
+-- the cross products of each two neighbours among the points from lo to hi, added from the first on
+unfoldable pub crossSum : (ℕ → Point) → ℕ → ℕ → Point → Float
 unfolding fold turnAt
-crossSum at n m = fold (λ i sum. sum ⊕ turnAt m (at i) (at (i + 1))) (n - 1) 0 +0
+crossSum at lo hi m = fold (λ i sum. sum ⊕ turnAt m (at i) (at (i + 1))) (hi - lo) lo +0
 
 -- clockwise is a sum below zero; of one point it is zero
-unfoldable pub clockwise : (ℕ → Point) → ℕ → Point → Bool
+unfoldable pub clockwise : (ℕ → Point) → ℕ → ℕ → Point → Bool
 unfolding crossSum
-clockwise at n m = crossSum at n m ≺ +0
+clockwise at lo hi m = crossSum at lo hi m ≺ +0
 
 -- ---- is_arc_clockwise
 unfoldable pub directionRows : List Float → Point → List Row
@@ -40,7 +40,7 @@ directionRows s m =
 
 unfoldable pub directionCall : List Float → Point → Outcome Bool
 unfolding refusal unless directionRows clockwise
-directionCall s m = unless (refusal (directionRows s m)) (clockwise (pairAt s) (length s / 2) m)
+directionCall s m = unless (refusal (directionRows s m)) (clockwise (pairAt s) 0 (length s / 2 - 1) m)
 
 unfoldable pub directionAnswer : Outcome Bool → Direction
 directionAnswer (refused n) = Refused n

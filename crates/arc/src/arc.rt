@@ -4,7 +4,7 @@ use types::domain::is_centre;
 use types::lent::pair_at;
 use types::types::Point;
 ghost use mathlib.Core.Path.{_≡_};
-ghost use Prim.Native.Nat.{_*_, _≤_};
+ghost use Prim.Native.Nat.{_-_, _*_, _≤_};
 ghost use lib.ListN.{length};
 ghost use Rattle.types.specs.Lent.{pairAt};
 ghost use Rattle.types.specs.Outcome.{refusal};
@@ -29,7 +29,7 @@ pub fn turn(center: Point, p: Point, q: Point) -> f64
 // The cross products of each two neighbours, added up.
 fn sum_turns(points: &[f64], n: usize, center: Point) -> f64
     requires { ⌜ (1 ≤ n) × (2 * n ≤ length (now points)) ⌝ }
-    ensures { λ r. ⌜ r ≡ crossSum (pairAt (now (points .entry))) n center ⌝ }
+    ensures { λ r. ⌜ r ≡ crossSum (pairAt (now (points .entry))) 0 (n - 1) center ⌝ }
 {
     let mut sum = 0.0;
     for i in 0..n - 1 {

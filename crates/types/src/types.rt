@@ -1,6 +1,7 @@
 // src/geo/types.rs: points, the cubic curve and the command, with the part of each that is carried over.
 ghost use mathlib.Core.Path.{_≡_};
 ghost use Rattle.types.specs.Lent.{endOf};
+ghost use Rattle.types.specs.Vector.{flatten};
 
 // A position in the plane.
 pub struct Point {
@@ -25,7 +26,7 @@ impl Point3D {
 
     // The position in the plane.
     pub fn truncate(self) -> Point
-        ensures { λ r. ⌜ (r .x ≡ self .x) × (r .y ≡ self .y) ⌝ }
+        ensures { λ r. ⌜ r ≡ flatten self ⌝ }
     {
         Point {
             x: self.x,

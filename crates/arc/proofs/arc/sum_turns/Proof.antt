@@ -1,5 +1,5 @@
 -- `arc::arc::sum_turns` meets its contract: the loop's invariant is that the neighbours left decide the whole sum. The measure is how many are left. Assumes nothing.
-use mathlib.Core.Path.{_≡_, ap, _∙_}
+use mathlib.Core.Path.{_≡_, refl, ap, _∙_}
 use Prim.Native.Nat.{_+_, _-_}
 use native.Mathlib.Omega.{arith}
 use borrow.Author.Needs.{needs}
@@ -13,7 +13,7 @@ use Rattle.arc.proofs.arc.sum_turns.Statement.{statement}
 use Rattle.arc.proofs.arc.sum_turns.Tie as tie
 
 abbrev Inv-loop : tie.InvT-loop
-Inv-loop points n center sum₀ i₀ i-end sum i = fold (λ k s. s ⊕ turnAt center (pairAt points k) (pairAt points (k + 1))) (n - 1 - i) i sum ≡ crossSum (pairAt points) n center
+Inv-loop points n center sum₀ i₀ i-end sum i = fold (λ k s. s ⊕ turnAt center (pairAt points k) (pairAt points (k + 1))) (n - 1 - i) i sum ≡ crossSum (pairAt points) 0 (n - 1) center
 
 abbrev μ-loop : tie.MeasureT-loop
 μ-loop points n center sum₀ i₀ i-end sum i = n - i
@@ -23,7 +23,7 @@ sub-i-end c = omega arith
 
 loop-holds : tie.Need-loop-holds Inv-loop μ-loop
 unfolding crossSum
-loop-holds c = let e : c .before .args .n - 1 - 0 ≡ c .before .args .n - 1 = omega arith in rw e
+loop-holds c = refl
 
 pair-at-requires : tie.Need-pair-at-requires Inv-loop μ-loop
 pair-at-requires c κs = omega arith

@@ -1,0 +1,74 @@
+-- Whether points go round a centre by less than a whole turn: document 01's count W (its "Traversal"). Definitions only.
+use Prim.Native.Nat.{ℕ, _+_, _-_}
+use mathlib.Core.Bool.{Bool, true, false, not, _&&_}
+use lib.Dec.{eqb}
+use lib.Ieee.{Float, binary64, ofBits, neg, eq}
+use Rattle.number.specs.Ops.{_⊖_, _⊗_, _≺_, _≼_, if_then_else_, +0}
+use Rattle.types.specs.declared.types.Point.{Point}
+use Rattle.types.specs.declared.types.Point3D.{Point3D}
+use Rattle.types.specs.Vector.{dot, perpDot}
+use Rattle.types.specs.Walk.{fold}
+use Rattle.types.specs.Domain.{everyFrom}
+use Rattle.trial.specs.declared.trial.Turns.{Turns}
+
+-- q: a point minus the centre m
+unfoldable pub offsetOf : Point → Point3D → Point
+offsetOf m p = record { x = p .x ⊖ m .x; y = p .y ⊖ m .y }
+
+unfoldable pub crossOf : Point → Point → Float
+crossOf p q = perpDot (p .x) (p .y) (q .x) (q .y)
+
+unfoldable pub dotOf : Point → Point → Float
+dotOf p q = dot (p .x) (p .y) (q .x) (q .y)
+
+-- q = (0, 0)
+unfoldable pub atCentre : Point → Bool
+atCentre q = eq (q .x) +0 && eq (q .y) +0
+
+-- true: q is in half 0 as seen from q0, that is cross(q0, q) > 0, or it is 0 and dot(q0, q) > 0
+unfoldable pub halfOf : Point → Point → Bool
+unfolding crossOf dotOf
+halfOf q0 q = if +0 ≺ crossOf q0 q then true else if eq (crossOf q0 q) +0 then +0 ≺ dotOf q0 q else false
+
+-- W is `up` less `down`: a step with cross ≥ 0 from half 1 to half 0 adds 1, a step with cross < 0 from half 0 to half 1 takes 1 off
+unfoldable pub turned : Bool → Bool → Float → Turns → Turns
+turned true true c t = t
+turned true false c t = if c ≺ +0 then record { up = t .up; down = t .down + 1 } else t
+turned false true c t = if +0 ≼ c then record { up = t .up + 1; down = t .down } else t
+turned false false c t = t
+
+-- over the steps from lo to hi; q i is the offset of point i
+unfoldable pub turnsOf : (ℕ → Point) → ℕ → ℕ → Turns
+unfolding fold turned halfOf
+turnsOf q lo hi =
+    fold (λ i. turned (halfOf (q lo) (q i)) (halfOf (q lo) (q (i + 1))) (crossOf (q i) (q (i + 1)))) (hi - lo) lo
+    (record { up = 0; down = 0 })
+
+abbrev pub thousandth : Float
+thousandth = ofBits binary64 0x3f50_624d_d2f1_a9fc
+
+-- with c and d the cross and dot of q0 and the last q: d > 0, c < 0, −c ≤ 0.001 × d; and d > 0, c ≥ 0, c ≤ 0.001 × d
+unfoldable pub justBehind : Float → Float → Bool
+justBehind c d = (+0 ≺ d) && ((c ≺ +0) && (neg c ≼ thousandth ⊗ d))
+
+unfoldable pub justAhead : Float → Float → Bool
+justAhead c d = (+0 ≺ d) && ((+0 ≼ c) && (c ≼ thousandth ⊗ d))
+
+-- W = 0 and not just behind, or W = −1 and not just ahead
+unfoldable pub passesBy : Turns → Point → Point → Bool
+unfolding justBehind justAhead
+passesBy t q0 q =
+    if eqb (t .up) (t .down) then not (justBehind (crossOf q0 q) (dotOf q0 q))
+    else if eqb (t .up + 1) (t .down) then not (justAhead (crossOf q0 q) (dotOf q0 q))
+    else false
+
+-- no point is at the centre
+unfoldable pub awayFrom : (ℕ → Point) → ℕ → ℕ → Bool
+unfolding everyFrom
+awayFrom q lo hi = everyFrom (λ i. not (atCentre (q i))) (hi + 1 - lo) lo
+
+unfoldable pub traverses : Point → (ℕ → Point3D) → ℕ → ℕ → Bool
+unfolding awayFrom passesBy turnsOf
+traverses m at lo hi =
+    let q : ℕ → Point = λ i. offsetOf m (at i) in
+    if awayFrom q lo hi then passesBy (turnsOf q lo hi) (q lo) (q hi) else false

@@ -1,0 +1,423 @@
+// src/geo/algo/fitting.rs: the arc's deviation, the traversal and the two arc trials. The inner functions take a range
+// of lent triples, from start to end.
+use arc::arc::turn;
+use circle::circle::Center;
+use circle::circle::CircleThrough;
+use circle::circle::Deviation;
+use circle::circle::circle_through;
+use circle::circle::get_radius;
+use circle::circle::least_squares;
+use circle::circle::to_bisector;
+use number::float::abs;
+use number::float::clamp;
+use number::float::max;
+use number::root::sqrt;
+use types::lent::point_at;
+use types::point::get_length;
+use types::types::Point;
+use types::types::Point3D;
+ghost use mathlib.Core.Path.{_≡_};
+ghost use Prim.Native.Nat.{_+_, _*_, _<_, _≤_};
+ghost use lib.ListN.{length};
+ghost use lib.Ieee.{lt};
+ghost use Rattle.types.specs.Vector.{flatten};
+ghost use Rattle.types.specs.Lent.{pointAt};
+ghost use Rattle.arc.specs.Direction.{clockwise};
+ghost use Rattle.trial.specs.Deviation.{spokeOf, sagittaOf, endsOf, stepOf, arcDeviation};
+ghost use Rattle.trial.specs.Traversal.{offsetOf, crossOf, dotOf, atCentre, halfOf, turned, justBehind, justAhead, passesBy, traverses};
+ghost use Rattle.trial.specs.Trial.{sharpTurn, sharpAt, closedRange, trialRound, trialOf, trialThree, trialLeast, tryArcs};
+
+// A point seen from a centre: its offset and its distance.
+pub struct Spoke {
+    pub x: f64,
+    pub y: f64,
+    pub len: f64,
+}
+
+impl Spoke {
+    // A step or a spoke shorter than this has no direction.
+    pub const SHORT: f64 = 1e-9;
+
+    pub fn new(m: Point, p: Point3D) -> Self
+        ensures { λ r. ⌜ r ≡ spokeOf m p ⌝ }
+    {
+        let x = p.x - m.x;
+        let y = p.y - m.y;
+        Self {
+            x,
+            y,
+            len: get_length(x, y),
+        }
+    }
+}
+
+// How far the arc bulges beyond the step between two spokes.
+fn sagitta(s: Spoke, t: Spoke, r: f64) -> f64
+    ensures { λ d. ⌜ d ≡ sagittaOf r s t ⌝ }
+{
+    if s.len < Spoke::SHORT {
+        return 0.0;
+    }
+    if t.len < Spoke::SHORT {
+        return 0.0;
+    }
+    let c = clamp((s.x * t.x + s.y * t.y) / (s.len * t.len), -1.0, 1.0);
+    r * (1.0 - sqrt((1.0 + c) / 2.0))
+}
+
+// The greater distance of the two ends from the circle.
+fn ends_off(s: Spoke, t: Spoke, r: f64) -> f64
+    ensures { λ d. ⌜ d ≡ endsOf r s t ⌝ }
+{
+    max(abs(s.len - r), abs(t.len - r))
+}
+
+// The deviation of one step, whose length is `len`.
+fn step_deviation(len: f64, s: Spoke, t: Spoke, r: f64) -> f64
+    ensures { λ d. ⌜ d ≡ stepOf r len s t ⌝ }
+{
+    if len < Spoke::SHORT {
+        return abs(s.len - r);
+    }
+    let e = ends_off(s, t, r);
+    if len > 2.0 * r {
+        return e;
+    }
+    max(sagitta(s, t, r), e)
+}
+
+// The greatest deviation of a step from the arc, and the first step that has it. A point's distance from the centre is
+// worked out once: it serves the step before and the step after.
+pub fn arc_deviation(points: &[f64], start: usize, end: usize, m: Point, r: f64) -> Deviation
+    requires { ⌜ (start ≤ end) × (3 * end + 2 < length (now points)) ⌝ }
+    ensures { λ w. ⌜ w ≡ arcDeviation m r (pointAt (now (points .entry))) start end ⌝ }
+{
+    let mut worst = Deviation {
+        dist: 0.0,
+        index: start,
+    };
+    let mut p = point_at(points, start);
+    let mut s = Spoke::new(m, p);
+    for i in start..end {
+        let q = point_at(points, i + 1);
+        let t = Spoke::new(m, q);
+        let len = get_length(q.x - p.x, q.y - p.y);
+        worst = worst.or(step_deviation(len, s, t, r), i);
+        p = q;
+        s = t;
+    }
+    worst
+}
+
+// Whether that deviation is below the tolerance: the walk ends at the first step that is not.
+fn is_arc_within(points: &[f64], start: usize, end: usize, m: Point, r: f64, tolerance: f64) -> bool
+    requires { ⌜ (start ≤ end) × (3 * end + 2 < length (now points)) ⌝ }
+    ensures { λ b. ⌜ b ≡ lt (arcDeviation m r (pointAt (now (points .entry))) start end .dist) tolerance ⌝ }
+{
+    let mut worst = Deviation {
+        dist: 0.0,
+        index: start,
+    };
+    let mut p = point_at(points, start);
+    let mut s = Spoke::new(m, p);
+    for i in start..end {
+        let q = point_at(points, i + 1);
+        let t = Spoke::new(m, q);
+        let len = get_length(q.x - p.x, q.y - p.y);
+        worst = worst.or(step_deviation(len, s, t, r), i);
+        let ok = worst.dist < tolerance;
+        if !ok {
+            return false;
+        }
+        p = q;
+        s = t;
+    }
+    worst.dist < tolerance
+}
+
+fn offset(m: Point, p: Point3D) -> Point
+    ensures { λ q. ⌜ q ≡ offsetOf m p ⌝ }
+{
+    Point {
+        x: p.x - m.x,
+        y: p.y - m.y,
+    }
+}
+
+fn cross(p: Point, q: Point) -> f64
+    ensures { λ r. ⌜ r ≡ crossOf p q ⌝ }
+{
+    p.x * q.y - p.y * q.x
+}
+
+fn dot(p: Point, q: Point) -> f64
+    ensures { λ r. ⌜ r ≡ dotOf p q ⌝ }
+{
+    p.x * q.x + p.y * q.y
+}
+
+// Whether q lies in half 0 as seen from q0.
+fn half(q0: Point, q: Point) -> bool
+    ensures { λ r. ⌜ r ≡ halfOf q0 q ⌝ }
+{
+    let c = cross(q0, q);
+    if c > 0.0 {
+        return true;
+    }
+    if c == 0.0 {
+        return dot(q0, q) > 0.0;
+    }
+    false
+}
+
+// Document 01's W is up less down.
+pub struct Turns {
+    pub up: usize,
+    pub down: usize,
+}
+
+impl Turns {
+    // How near the last point may come to the first, as a share of a radius.
+    pub const NEAR: f64 = 0.001;
+}
+
+// One step more, of cross c, from half h to half k; true is half 0.
+fn turn_by(t: Turns, h: bool, k: bool, c: f64) -> Turns
+    requires { ⌜ (t .up < 2048) × (t .down < 2048) ⌝ }
+    ensures { λ r. ⌜ r ≡ turned h k c t ⌝ }
+{
+    if h {
+        if !k {
+            if c < 0.0 {
+                return Turns {
+                    up: t.up,
+                    down: t.down + 1,
+                };
+            }
+        }
+        return t;
+    }
+    if k {
+        if c >= 0.0 {
+            return Turns {
+                up: t.up + 1,
+                down: t.down,
+            };
+        }
+    }
+    t
+}
+
+fn just_behind(c: f64, d: f64) -> bool
+    ensures { λ r. ⌜ r ≡ justBehind c d ⌝ }
+{
+    if d > 0.0 {
+        if c < 0.0 {
+            return -c <= Turns::NEAR * d;
+        }
+    }
+    false
+}
+
+fn just_ahead(c: f64, d: f64) -> bool
+    ensures { λ r. ⌜ r ≡ justAhead c d ⌝ }
+{
+    if d > 0.0 {
+        if c >= 0.0 {
+            return c <= Turns::NEAR * d;
+        }
+    }
+    false
+}
+
+// Whether less than a whole turn was gone, by W and by where the last point lies.
+fn passes(t: Turns, q0: Point, q: Point) -> bool
+    requires { ⌜ t .up ≤ 2048 ⌝ }
+    ensures { λ r. ⌜ r ≡ passesBy t q0 q ⌝ }
+{
+    let c = cross(q0, q);
+    let d = dot(q0, q);
+    if t.up == t.down {
+        return !just_behind(c, d);
+    }
+    if t.up + 1 == t.down {
+        return !just_ahead(c, d);
+    }
+    false
+}
+
+fn at_centre(q: Point) -> bool
+    ensures { λ r. ⌜ r ≡ atCentre q ⌝ }
+{
+    if q.x == 0.0 {
+        return q.y == 0.0;
+    }
+    false
+}
+
+// Whether the points go round m by less than a whole turn.
+fn traversal_passes(points: &[f64], start: usize, end: usize, m: Point) -> bool
+    requires { ⌜ (start ≤ end) × (end < 2048) × (3 * end + 2 < length (now points)) ⌝ }
+    ensures { λ r. ⌜ r ≡ traverses m (pointAt (now (points .entry))) start end ⌝ }
+{
+    let q0 = offset(m, point_at(points, start));
+    if at_centre(q0) {
+        return false;
+    }
+    let mut q = q0;
+    let mut h = half(q0, q0);
+    let mut t = Turns { up: 0, down: 0 };
+    for i in start..end {
+        let n = offset(m, point_at(points, i + 1));
+        if at_centre(n) {
+            return false;
+        }
+        let k = half(q0, n);
+        let c = cross(q, n);
+        t = turn_by(t, h, k, c);
+        q = n;
+        h = k;
+    }
+    passes(t, q0, q)
+}
+
+// Whether they go clockwise.
+fn goes_clockwise(points: &[f64], start: usize, end: usize, m: Point) -> bool
+    requires { ⌜ (start ≤ end) × (3 * end + 2 < length (now points)) ⌝ }
+    ensures { λ r. ⌜ r ≡ clockwise (λ i. flatten (pointAt (now (points .entry)) i)) start end m ⌝ }
+{
+    let mut sum = 0.0;
+    let mut p = point_at(points, start).truncate();
+    for i in start..end {
+        let q = point_at(points, i + 1).truncate();
+        sum = sum + turn(m, p, q);
+        p = q;
+    }
+    sum < 0.0
+}
+
+fn sharp_turn(a: Point3D, b: Point3D, c: Point3D) -> bool
+    ensures { λ r. ⌜ r ≡ sharpTurn a b c ⌝ }
+{
+    let dx1 = b.x - a.x;
+    let dy1 = b.y - a.y;
+    let dx2 = c.x - b.x;
+    let dy2 = c.y - b.y;
+    let len1 = get_length(dx1, dy1);
+    let len2 = get_length(dx2, dy2);
+    if len1 > Spoke::SHORT {
+        if len2 > Spoke::SHORT {
+            return (dx1 * dx2 + dy1 * dy2) / (len1 * len2) < 0.5;
+        }
+    }
+    false
+}
+
+// Whether the points turn sharply at `split`, strictly between start and end.
+fn is_sharp(points: &[f64], start: usize, end: usize, split: usize) -> bool
+    requires { ⌜ 3 * end + 2 < length (now points) ⌝ }
+    ensures { λ r. ⌜ r ≡ sharpAt (pointAt (now (points .entry))) start end split ⌝ }
+{
+    if start < split {
+        if split < end {
+            let a = point_at(points, split - 1);
+            let b = point_at(points, split);
+            let c = point_at(points, split + 1);
+            return sharp_turn(a, b, c);
+        }
+    }
+    false
+}
+
+// What an arc trial found: the arc's centre and direction, or nothing.
+pub enum Trial {
+    Arc { center: Point, clockwise: bool },
+    None,
+}
+
+impl Trial {
+    // A range whose ends are nearer than this is closed.
+    pub const CLOSED: f64 = 1e-6;
+}
+
+// Whether the range's ends all but meet.
+fn is_closed_range(a: Point3D, b: Point3D) -> bool
+    ensures { λ r. ⌜ r ≡ closedRange a b ⌝ }
+{
+    get_length(a.x - b.x, a.y - b.y) < Trial::CLOSED
+}
+
+// The arc round a fitted centre, moved to the bisector of the range's ends. Its radius is measured again from there.
+fn trial_of(points: &[f64], start: usize, end: usize, tolerance: f64, fitted: Point) -> Trial
+    requires { ⌜ (start ≤ end) × (end < 2048) × (3 * end + 2 < length (now points)) ⌝ }
+    ensures { λ r. ⌜ r ≡ trialOf (pointAt (now (points .entry))) start end tolerance fitted ⌝ }
+{
+    let a = point_at(points, start);
+    let center = to_bisector(a, point_at(points, end), fitted);
+    let radius = get_radius(center, a);
+    if !is_arc_within(points, start, end, center, radius, tolerance) {
+        return Trial::None;
+    }
+    if !traversal_passes(points, start, end, center) {
+        return Trial::None;
+    }
+    let clockwise = goes_clockwise(points, start, end, center);
+    Trial::Arc { center, clockwise }
+}
+
+fn trial_of_three(points: &[f64], start: usize, end: usize, tolerance: f64) -> Trial
+    requires { ⌜ (start < end) × (end < 2048) × (3 * end + 2 < length (now points)) ⌝ }
+    ensures { λ r. ⌜ r ≡ trialThree (pointAt (now (points .entry))) start end tolerance ⌝ }
+{
+    let a = point_at(points, start);
+    let b = point_at(points, start + 1);
+    let c = point_at(points, end);
+    let t = circle_through(a, b, c);
+    match t {
+        CircleThrough::Around { center, radius: _ } => trial_of(
+            points,
+            start,
+            end,
+            tolerance,
+            center,
+        ),
+        CircleThrough::None => Trial::None,
+        CircleThrough::Refused(_) => Trial::None,
+    }
+}
+
+fn trial_of_least_squares(points: &[f64], start: usize, end: usize, tolerance: f64) -> Trial
+    requires { ⌜ (start ≤ end) × (end < 2048) × (3 * end + 2 < length (now points)) ⌝ }
+    ensures { λ r. ⌜ r ≡ trialLeast (pointAt (now (points .entry))) start end tolerance ⌝ }
+{
+    let t = least_squares(points, start, end);
+    match t {
+        Center::At { center, square: _ } => trial_of(points, start, end, tolerance, center),
+        Center::None => Trial::None,
+    }
+}
+
+// The arc of the first trial that passes. A sharp turn at the split point or a closed range blocks both trials.
+pub fn try_arcs(points: &[f64], start: usize, end: usize, split: usize, tolerance: f64) -> Trial
+    requires { ⌜ (start ≤ end) × (end < 2048) × (3 * end + 2 < length (now points)) ⌝ }
+    ensures { λ r. ⌜ r ≡ tryArcs (pointAt (now (points .entry))) start end split tolerance ⌝ }
+{
+    if is_sharp(points, start, end, split) {
+        return Trial::None;
+    }
+    if is_closed_range(point_at(points, start), point_at(points, end)) {
+        return Trial::None;
+    }
+    if end - start == 2 {
+        let t = trial_of_three(points, start, end, tolerance);
+        match t {
+            Trial::Arc { center, clockwise } => {
+                return Trial::Arc { center, clockwise };
+            }
+            Trial::None => {
+                return trial_of_least_squares(points, start, end, tolerance);
+            }
+        }
+    }
+    trial_of_least_squares(points, start, end, tolerance)
+}
