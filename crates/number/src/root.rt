@@ -1,7 +1,7 @@
-// The square root, rounded as IEEE 754 says. A float guess, of which nothing is proved but its range, is mended
-// by exact whole numbers.
+// The square root, rounded as IEEE 754 says. A float guess, of which nothing is proved, is mended by exact whole
+// numbers.
 ghost use mathlib.Core.Path.{_≡_};
-ghost use Prim.Native.Nat.{_+_, _*_, _^_, _≤_, _<_};
+ghost use Prim.Native.Nat.{_+_, _*_, _/_, _%_, _^_, _≤_, _<_};
 ghost use mathlib.Core.Bool.{true, false};
 ghost use lib.Dec.{T};
 ghost use lib.Ieee.{binary64, ofBits};
@@ -62,47 +62,36 @@ pub fn walk(q: u64, m: u64) -> u64
     q
 }
 
-// The same: most guesses are right, and one square says so.
-pub fn settle(q: u64, m: u64) -> u64
+// Whether q is the whole number nearest to the root of m * 2^52. The compiler works the square out once.
+pub fn is_near(q: u64, m: u64) -> bool
     requires { ⌜ (2 ^ 52 ≤ q) × (q ≤ 2 ^ 53) × (2 ^ 52 ≤ m) × (m < 2 ^ 54) ⌝ }
-    ensures { λ r. ⌜ Near (m * 2 ^ 52) r ⌝ }
+    ensures { λ r. ⌜ (r ≡ true → Near (m * 2 ^ 52) q) ⌝ }
 {
-    let w = square(q);
-    let a = w.hi + (w.lo + q) / 0x10_0000_0000_0000;
-    let b = w.hi + (w.lo + (0x20_0000_0000_0000 - q)) / 0x10_0000_0000_0000;
-    if m <= a {
-        if b < m + 2 {
-            return q;
-        }
+    if over(q, m) {
+        return false;
     }
-    walk(q, m)
+    if under(q, m) {
+        return false;
+    }
+    true
 }
 
-// Some number from 2^52 to 2^53: the root of m * 2^52, or one beside it, where x, 1 <= x < 4, is the
-// float of m / 2^52. `b` is x's pattern.
-pub fn guess(b: u64) -> u64
-    requires { ⌜ (0x3ff0_0000_0000_0000 ≤ b) × (b < 0x4010_0000_0000_0000) ⌝ }
-    ensures { λ r. ⌜ (2 ^ 52 ≤ r) × (r ≤ 2 ^ 53) ⌝ }
+// The whole number nearest to the root of m * 2^52, from any guess r at the root of m / 2^52, which lies in 1..2. Most
+// guesses are right, and nothing waits for the tests. A guess outside of 1..2 counts as 2.
+pub fn mend(r: f64, m: u64) -> u64
+    requires { ⌜ (2 ^ 52 ≤ m) × (m < 2 ^ 54) ⌝ }
+    ensures { λ q. ⌜ Near (m * 2 ^ 52) q ⌝ }
 {
-    let x = f64::from_bits(b);
-    let y0 = f64::from_bits(0x5fe6_eb50_c7b5_37a9 - b / 2);
-    let hx = x * 0.5;
-    let y1 = y0 * 1.5 - hx * y0 * (y0 * y0);
-    let y2 = y1 * 1.5 - hx * y1 * (y1 * y1);
-    let y3 = y2 * 1.5 - hx * y2 * (y2 * y2);
-    let g = x * y3;
-    // g with its 26 leading digits, so that t * t is exact
-    let t = (g + 201326592.0) - 201326592.0;
-    let r = t + (x - t * t) * (y3 * 0.5);
-    if r < 3.0 {
-        let rb = f64::to_bits(r);
-        if 0x3ff0_0000_0000_0000 <= rb {
-            if rb <= 0x4000_0000_0000_0000 {
-                return rb - 0x3fe0_0000_0000_0000;
+    let mut q = 0x20_0000_0000_0000;
+    if 1.0 <= r {
+        if r < 2.0 {
+            q = f64::to_bits(r) % 0x10_0000_0000_0000 + 0x10_0000_0000_0000;
+            if is_near(q, m) {
+                return q;
             }
         }
     }
-    0x18_0000_0000_0000
+    walk(q, m)
 }
 
 // A number m * 2^e.
@@ -125,14 +114,21 @@ pub fn normal(m: u64, e: u64) -> Scaled
     Scaled { m: m, e: e }
 }
 
-// The pattern of the root of m * 2^e, which counts squares of the smallest `f64`.
-pub fn root_bits(m: u64, e: u64) -> u64
-    requires { ⌜ (2 ^ 52 ≤ m) × (m < 2 ^ 53) × (52 ≤ e) × (e ≤ 4000) ⌝ }
-    ensures { λ r. ⌜ (ofBits binary64 r ≡ rootFrom (m * 2 ^ e)) × (r ≤ 0x7ff0_0000_0000_0000) ⌝ }
+// The pattern of the root of m * 2^e, which counts squares of the smallest `f64`. `w` has m and e as a pattern has its
+// fraction and its exponent: m without its leading digit, and e above it. An e goes farther down than a pattern's exponent,
+// so that a number below 2^-1022 takes the same way.
+pub fn root_bits(w: u64) -> u64
+    requires { ⌜ (52 * 2 ^ 52 ≤ w) × (w < 4001 * 2 ^ 52) ⌝ }
+    ensures { λ r. ⌜ (ofBits binary64 r ≡ rootFrom ((w % 2 ^ 52 + 2 ^ 52) * 2 ^ (w / 2 ^ 52))) × (r ≤ 0x7ff0_0000_0000_0000) ⌝ }
 {
-    let odd = e % 2;
-    let b = (1022 + odd) * 0x10_0000_0000_0000 + m;
-    let q = settle(guess(b), m + m * odd);
+    // m / 2^52, doubled where e is odd: 1 <= x < 4
+    let x = f64::from_bits(0x3ff0_0000_0000_0000 + w % 0x20_0000_0000_0000);
+    let m = w % 0x10_0000_0000_0000 + 0x10_0000_0000_0000;
+    let e = w / 0x10_0000_0000_0000;
+    let q = mend(
+        crate::guess::root(x, w / 0x2_0000_0000_0000 % 16),
+        m + m * (e % 2),
+    );
     (e - 52) / 2 * 0x10_0000_0000_0000 + q
 }
 
@@ -142,18 +138,16 @@ pub fn sqrt_finite(x: f64) -> f64
     ensures { λ r. ⌜ r ≡ rootOf x ⌝ }
 {
     let p = f64::to_bits(x);
-    let t = p % 0x10_0000_0000_0000;
-    let f = p / 0x10_0000_0000_0000;
-    if f == 0 {
-        if t == 0 {
+    // 1073 more as the exponent: x is m * 2^(f - 1) of the smallest `f64`, which is 2^1074 squares of itself
+    let mut w = p + 0x4310_0000_0000_0000;
+    if p < 0x10_0000_0000_0000 {
+        if p == 0 {
             return x;
         }
-        let s = normal(t, 1074);
-        let sm = s.m;
-        let se = s.e;
-        return f64::from_bits(root_bits(sm, se));
+        let s = normal(p, 1074);
+        w = s.e * 0x10_0000_0000_0000 + (s.m - 0x10_0000_0000_0000);
     }
-    f64::from_bits(root_bits(t + 0x10_0000_0000_0000, f + 1073))
+    f64::from_bits(root_bits(w))
 }
 
 // The square root of any x: that of a negative number or a NaN is a NaN.

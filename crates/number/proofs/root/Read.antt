@@ -115,8 +115,11 @@ zero-root x f z =
     subst (λ (y : Float). y ≡ rootOf y) e refl
 
 -- ---- the root of what was read
-pub small-root : (x : Float) → T (fits binary64 x) → T (plain x) → toBits binary64 x / 0x10_0000_0000_0000 ≡ 0 → rootFrom (toBits binary64 x % 0x10_0000_0000_0000 * 2 ^ 1074) ≡ rootOf x
-small-root x f r z = ap (λ (n : ℕ). rootFrom (n * 2 ^ 1074)) (sym (read-small x f z)) ∙ sym (rootOf-is x r)
+pub small-root : (x : Float) → T (fits binary64 x) → T (plain x) → toBits binary64 x < 2 ^ 52 → rootFrom (toBits binary64 x * 2 ^ 1074) ≡ rootOf x
+small-root x f r h =
+    let z : toBits binary64 x / 0x10_0000_0000_0000 ≡ 0 = omega arith in
+    let s : toBits binary64 x % 0x10_0000_0000_0000 ≡ toBits binary64 x = omega arith in
+    ap (λ (n : ℕ). rootFrom (n * 2 ^ 1074)) (sym (read-small x f z ∙ s)) ∙ sym (rootOf-is x r)
 
 joined : (t f : ℕ) → 1 ≤ f → (t + 0x10_0000_0000_0000) * 2 ^ (f + 1073) ≡ (0x10_0000_0000_0000 + t) * 2 ^ (f - 1) * 2 ^ 1074
 joined t f h =

@@ -1,4 +1,4 @@
--- `number::root::normal` meets its contract: each turn doubles m and takes one from e, so m * 2 ^ e stays. The measure is the distance of m to 2 ^ 53. Assumes nothing.
+-- `number::root::normal` meets its contract. Each turn moves a factor of two from 2 ^ e into m, and there are at most 52, since m grows as 2 ^ (turns). Assumes nothing.
 use mathlib.Core.Path.{_≡_, refl, _∙_}
 use Prim.Native.Nat.{_≤_, _<_, _*_, _^_, _-_}
 use native.Mathlib.Nat.{le-refl, lt-of-le-of-lt}

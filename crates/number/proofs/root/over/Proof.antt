@@ -1,4 +1,4 @@
--- `number::root::over` meets its contract: the carry of the low part decides as the whole numbers do. Assumes nothing.
+-- `number::root::over` meets its contract: m is compared with q * q + q in units of 2 ^ 52, rounded down. Assumes nothing.
 use native.Mathlib.Omega.{arith}
 use borrow.Author.Tests.{ltb-true, ltb-false}
 use borrow.Author.Needs.{needs}

@@ -1,34 +1,39 @@
--- `number::root::root_bits` meets its contract: the nearest whole root of the scaled number is what the definition keeps, and its pattern is the exponent and it. Assumes nothing.
+-- `number::root::root_bits` meets its contract: an even power of two is taken off m * 2 ^ e, so that its root is q, nearest to that of m * 2 ^ 52 or 2 * m * 2 ^ 52, times half that power. Assumes nothing.
 use mathlib.Core.Path.{sym, ap, _∙_}
-use Prim.Native.Nat.{_+_, _-_, _*_, _/_, _%_, _^_}
+use Prim.Native.Nat.{ℕ, _+_, _-_, _*_, _/_, _%_, _^_, _≤_}
 use native.Mathlib.Omega.{arith}
+use borrow.Author.Needs.{needs}
 use Rattle.number.specs.Root.{rootFrom}
+use Rattle.number.proofs.Patterns.{no-nan-bits}
 use Rattle.number.proofs.root.Whole.{digit}
 use Rattle.number.proofs.root.Rooted.{rootFrom-at, pattern-is-units, even-part}
-use borrow.Author.Needs.{needs}
 use Rattle.number.proofs.root.root_bits.Statement.{statement}
 use Rattle.number.proofs.root.root_bits.Tie as tie
 
-add-b : tie.Need-add-b
-add-b c = search needs
+-- m, once more where e is odd
+doubled : (w : ℕ) → (w % 2 ^ 52 + 2 ^ 52) * (w / 2 ^ 52 % 2) ≤ w % 2 ^ 52 + 2 ^ 52
+doubled w = digit (w % 2 ^ 52 + 2 ^ 52) (w / 2 ^ 52 % 2) (omega arith)
 
-mul-b : tie.Need-mul-b
-mul-b c = search needs
+add-x : tie.Need-add-x
+add-x c = search needs
 
-add-b-2 : tie.Need-add-b-2
-add-b-2 c = search needs
+float-from-bits-x : tie.Need-float-from-bits-x
+float-from-bits-x c = no-nan-bits _ (omega arith)
 
-guess-requires : tie.Need-guess-requires
-guess-requires c κs = search needs
+add-m : tie.Need-add-m
+add-m c = search needs
 
-mul-settle : tie.Need-mul-settle
-mul-settle c = let d = digit (c .before .args .m) (c .before .args .e % 2) (omega arith) in omega arith
+root-requires : tie.Need-root-requires
+root-requires c κs = search needs
 
-add-settle : tie.Need-add-settle
-add-settle c = let d = digit (c .before .args .m) (c .before .args .e % 2) (omega arith) in omega arith
+mul-mend : tie.Need-mul-mend
+mul-mend c = let d = doubled (c .before .args .w) in omega arith
 
-settle-requires : tie.Need-settle-requires
-settle-requires c κs = let d = digit (c .before .args .m) (c .before .args .e % 2) (omega arith) in omega arith
+add-mend : tie.Need-add-mend
+add-mend c = let d = doubled (c .before .args .w) in omega arith
+
+mend-requires : tie.Need-mend-requires
+mend-requires c κs = let d = doubled (c .before .args .w) in omega arith
 
 sub-result : tie.Need-sub-result
 sub-result c = search needs
@@ -41,26 +46,27 @@ add-result c = search needs
 
 returns : tie.Need-returns
 returns c =
-    let m = c .before .before .args .m in
-    let e = c .before .before .args .e in
+    let w = c .before .before .args .w in
+    let m = w % 2 ^ 52 + 2 ^ 52 in
+    let e = w / 2 ^ 52 in
     let j = (e - 52) / 2 in
     let n = (m + m * (e % 2)) * 2 ^ 52 in
-    let q = c .settle .result in
-    let s = c .settle .ensures in
-    let d = digit m (e % 2) (omega arith) in
+    let q = c .mend .result in
+    let s = c .mend .ensures in
+    let d = doubled w in
     (pattern-is-units q j (s .least) (s .most) (omega arith) ∙ sym (ap rootFrom (even-part m e (omega arith)) ∙ rootFrom-at n j q (omega arith) (omega arith) s), omega arith)
 
 pub root-bits-spec : {M : Type 1} → statement M
 root-bits-spec =
     tie.close
     (tie.spec
-    add-b
-    mul-b
-    add-b-2
-    guess-requires
-    mul-settle
-    add-settle
-    settle-requires
+    add-x
+    float-from-bits-x
+    add-m
+    root-requires
+    mul-mend
+    add-mend
+    mend-requires
     sub-result
     mul-result
     add-result

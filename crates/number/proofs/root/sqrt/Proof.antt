@@ -1,4 +1,4 @@
--- `number::root::sqrt` meets its contract: NaN, the infinities, -0 and negatives by their cases, the rest by `sqrt_finite`. Assumes nothing.
+-- `number::root::sqrt` meets its contract: the tests of the pattern tell the cases of `rootOf` apart, and `sqrt_finite` answers the finite ones with no minus sign. Assumes nothing.
 use mathlib.Core.Path.{sym, _∙_, subst}
 use lib.Dec.{T}
 use lib.Ieee.{binary64, fits}
