@@ -2,3 +2,4 @@
 pub mod Patterns
 pub mod Order
 pub mod Bounds
+pub mod Unsigned

@@ -6,5 +6,6 @@ pub mod Flat
 pub mod Formed
 pub mod Placed
 pub mod Rows
+pub mod Outcomes
 pub mod Walk
 pub mod Zero

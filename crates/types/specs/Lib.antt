@@ -4,3 +4,4 @@ pub mod Vector
 pub mod Domain
 pub mod Outcome
 pub mod Midpoint
+pub mod Commands

@@ -1,0 +1,11 @@
+-- Thinning has the laws that a reader wants, each stated alone; the others prove them and the functions.
+pub mod First
+pub mod Kept
+pub mod Near
+pub mod Again
+pub mod Flags
+pub mod Copy
+pub mod Accepted
+pub mod Thinning
+pub mod Search
+pub mod Scan

@@ -1,0 +1,74 @@
+-- `simplify::simplify::copy_pairs` meets its contract. The invariant: what is left to select, written behind what is written, gives the whole. The measure is how many are left. Assumes nothing.
+use Prim.Native.Nat.{_-_}
+use mathlib.Core.Path.{refl, ap, _∙_}
+use mathlib.Core.Bool.{false}
+use mathlib.Core.Logic.{⊎-elim}
+use native.Mathlib.Omega.{arith}
+use lib.ListN.{length, getD}
+use Rattle.types.specs.Lent.{pair, pairAt}
+use Rattle.simplify.proofs.Copy.{Copying, copy-start, copy-take, copy-skip, copy-done}
+use Rattle.simplify.proofs.simplify.copy_pairs.Statement.{statement}
+use Rattle.simplify.proofs.simplify.copy_pairs.Tie as tie
+
+abbrev Inv-loop : tie.InvT-loop
+Inv-loop points n keep out₀ count₀ i₀ out count i = Copying pair 2 (pairAt points) (λ j. getD keep j false) n out₀ out count i
+
+abbrev μ-loop : tie.MeasureT-loop
+μ-loop points n keep out₀ count₀ i₀ out count i = n - i
+
+loop-holds : tie.Need-loop-holds Inv-loop μ-loop
+loop-holds c = let a = c .before .before .before .args in copy-start pair 2 (pairAt (a .points .now)) (λ j. getD (a .keep .now) j false) (a .n) (a .out .now)
+
+shared-slice-read-if1 : tie.Need-shared-slice-read-if1 Inv-loop μ-loop
+shared-slice-read-if1 c = omega arith
+
+mul-put-pair : tie.Need-mul-put-pair Inv-loop μ-loop
+mul-put-pair c = omega (arith, c .before .before .before .before .loop .inv .below, c .before .before .before .before .before .before .before .before .pre)
+
+pair-at-requires : tie.Need-pair-at-requires Inv-loop μ-loop
+pair-at-requires c κs = omega arith
+
+put-pair-requires : tie.Need-put-pair-requires Inv-loop μ-loop
+put-pair-requires c κs = omega (arith, c .before .before .before .before .before .loop .inv .below, c .before .before .before .before .before .loop .inv .long, c .before .before .before .before .before .before .before .before .before .pre)
+
+add-count : tie.Need-add-count Inv-loop μ-loop
+add-count c = omega (arith, c .before .before .before .before .before .before .before .before .loop .inv .below, c .before .before .before .before .before .before .before .before .before .before .before .before .pre)
+
+add-i : tie.Need-add-i Inv-loop μ-loop
+add-i c = omega arith
+
+loop-less : tie.Need-loop-less Inv-loop μ-loop
+loop-less c = omega arith
+
+loop-again : tie.Need-loop-again Inv-loop μ-loop
+loop-again c = let a = c .before .before .before .before .before .before .before .args in
+    let v = c .before .before .before .loop .inv in
+    let h = c .before .before .loop-test .taken in
+    ⊎-elim
+    (λ w. copy-take pair 2 (pairAt (a .points .now)) (λ j. getD (a .keep .now) j false) (a .n) (a .out .now) _ _ _ _ _ v h _ (w .0 .taken) (w .2 .ensures) refl (w .6 ∙ w .3 .ensures) (ap length (w .6) ∙ w .3 .kept .0) (w .7))
+    (λ w. copy-skip pair 2 (pairAt (a .points .now)) (λ j. getD (a .keep .now) j false) (a .n) (a .out .now) _ _ _ _ _ v h (w .0 .left) (w .1) (w .2)) (c .if1 .came)
+
+same-length : tie.Need-same-length Inv-loop μ-loop
+same-length c = c .before .loop .inv .long
+
+returns : tie.Need-returns Inv-loop μ-loop
+returns c = let a = c .before .before .before .before .before .args in
+    copy-done pair 2 (pairAt (a .points .now)) (λ j. getD (a .keep .now) j false) (a .n) (a .out .now) _ _ _ (c .before .loop .inv) (c .loop-test .left)
+
+pub copy-pairs-spec : {M : Type 1} → statement M
+copy-pairs-spec =
+    tie.close
+    (tie.spec
+    Inv-loop
+    μ-loop
+    loop-holds
+    shared-slice-read-if1
+    mul-put-pair
+    pair-at-requires
+    put-pair-requires
+    add-count
+    add-i
+    loop-less
+    loop-again
+    same-length
+    returns)

@@ -1,0 +1,43 @@
+-- How far a point lies from the chord of a range: document 01's measure, in x and y. Definitions only.
+use lib.Ieee.{Float, binary64, ofBits}
+use Rattle.number.specs.Ops.{_⊖_, _⊗_, _⊘_, _≺_, +0, if_then_else_}
+use Rattle.types.specs.declared.types.Point.{Point}
+use Rattle.types.specs.declared.types.Point3D.{Point3D}
+use Rattle.types.specs.Vector.{lengthSq, perpDot}
+use Rattle.simplify.specs.declared.simplify.Chord.{Chord}
+
+-- A measure gives the squared distance of a point, its last argument, to the chord of two others, its first and second.
+-- Thinning and its laws are stated over any measure.
+abbrev pub Measure : Type 0 → Type 0
+Measure P = P → P → P → Float
+
+-- a chord whose square is below 1e-12 counts as its start alone
+abbrev pub degenerate : Float
+degenerate = ofBits binary64 0x3d71_9799_812d_ea11
+
+-- the chord from a to b: its start, its direction in the plane, and the square of its length there
+unfoldable pub chordOf : Point3D → Point3D → Chord
+chordOf a b = record { start = a; dx = b .x ⊖ a .x; dy = b .y ⊖ a .y; square = lengthSq (b .x ⊖ a .x) (b .y ⊖ a .y) }
+
+-- of an offset (x, y) from the start of a chord: the squared distance to the endless line through the chord, or to its start where it is degenerate
+abbrev pub offLine : Chord → Float → Float → Float
+offLine c x y =
+    if c .square ≺ degenerate then lengthSq x y
+    else perpDot x y (c .dx) (c .dy) ⊗ perpDot x y (c .dx) (c .dy) ⊘ c .square
+
+-- of a point
+unfoldable pub toLine : Chord → Point3D → Float
+toLine c p = offLine c (p .x ⊖ c .start .x) (p .y ⊖ c .start .y)
+
+-- the measure of points: in x and y, to the endless line
+unfoldable pub lineSq : Measure Point3D
+unfolding chordOf toLine
+lineSq a b p = toLine (chordOf a b) p
+
+-- and of points of the plane, which stand at height 0
+abbrev pub raised : Point → Point3D
+raised p = record { x = p .x; y = p .y; z = +0 }
+
+unfoldable pub planeSq : Measure Point
+unfolding lineSq
+planeSq a b p = lineSq (raised a) (raised b) (raised p)

@@ -1,0 +1,57 @@
+-- The three public calls: what each refuses, and what it writes. Definitions only.
+use Prim.Native.Nat.{ℕ, _*_, _/_}
+use mathlib.Core.Bool.{not}
+use mathlib.Core.List.{List, [], _∷_}
+use lib.ListN.{length}
+use lib.Dec.{ltb, eqb}
+use lib.Ieee.{Float}
+use Rattle.number.specs.Ops.{_⊗_}
+use Rattle.types.specs.declared.types.Point.{Point}
+use Rattle.types.specs.declared.types.Point3D.{Point3D}
+use Rattle.types.specs.declared.types.Command.{Command}
+use Rattle.types.specs.Outcome.{Row, row, refusal, Outcome, unless}
+use Rattle.types.specs.Lent.{pairAt, pointAt, commandAt}
+use Rattle.types.specs.Domain.{whole, coordinate, numbersIn, tolerance, commandsFormed, commandsIn}
+use Rattle.simplify.specs.Measure.{planeSq, lineSq}
+use Rattle.simplify.specs.Thin.{thinnedPoints}
+use Rattle.simplify.specs.Data.{thinnedCommands}
+
+-- ---- points of `width` numbers each: what is refused of the numbers s, the tolerance t and an output of `room` numbers
+abbrev pub pointRows : ℕ → List Float → Float → ℕ → List Row
+pointRows width s t room =
+    row 1 (not (whole width (length s)))
+    ∷ row 1 (not (whole width room))
+    ∷ row 2 (ltb 2048 (length s / width))
+    ∷ row 5 (not (numbersIn coordinate s))
+    ∷ row 6 (not (tolerance t))
+    ∷ row 9 (ltb (room / width) (length s / width))
+    ∷ []
+
+-- simplify_polyline: pairs
+unfoldable pub simplifyPolyline : List Float → Float → ℕ → Outcome (List Point)
+unfolding refusal unless planeSq thinnedPoints pairAt
+simplifyPolyline s t room = unless (refusal (pointRows 2 s t room)) (thinnedPoints planeSq (t ⊗ t) (pairAt s) (length s / 2))
+
+-- simplify_polyline_3d: triples
+unfoldable pub simplifyPolyline3d : List Float → Float → ℕ → Outcome (List Point3D)
+unfolding refusal unless lineSq thinnedPoints pointAt
+simplifyPolyline3d s t room = unless (refusal (pointRows 3 s t room)) (thinnedPoints lineSq (t ⊗ t) (pointAt s) (length s / 3))
+
+-- ---- commands: what is refused of the kinds ks, the numbers ns, the tolerance t and outputs of `kinds` kinds and `numbers` numbers
+abbrev pub commandRows : List ℕ → List Float → Float → ℕ → ℕ → List Row
+commandRows ks ns t kinds numbers =
+    row 1 (not (eqb (length ns) (9 * length ks)))
+    ∷ row 1 (not (whole 9 numbers))
+    ∷ row 2 (ltb 800 (length ks))
+    ∷ row 4 (not (commandsFormed ks ns))
+    ∷ row 5 (not (commandsIn ks ns))
+    ∷ row 6 (not (tolerance t))
+    ∷ row 9 (ltb kinds (length ks))
+    ∷ row 9 (ltb (numbers / 9) (length ks))
+    ∷ []
+
+-- simplify_data
+unfoldable pub simplifyData : List ℕ → List Float → Float → ℕ → ℕ → Outcome (List Command)
+unfolding refusal unless thinnedCommands commandAt
+simplifyData ks ns t kinds numbers =
+    unless (refusal (commandRows ks ns t kinds numbers)) (thinnedCommands (t ⊗ t) (commandAt ks ns) (length ks))
