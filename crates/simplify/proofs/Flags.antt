@@ -115,7 +115,7 @@ select-among p (suc n) i e (k ∷ ks) q a f =
     rw (f i (omega arith) (omega arith), h, not-among (k + 1) e i ks (a .2) (omega arith))
     (select-among p n (i + 1) e (k ∷ ks) (omega arith) (omega arith, a .1, a .2) (λ j g t. f j (omega arith) t))) (either (eqb i k))
 
--- ---- the flags of n points, of which there are `size`: the first, those between, the last
+-- ---- `size` flags for n points: set are those of the first point, of the kept ones between, and of the last
 module _ {P : Type 0} (m : Measure P) (limit : Float) (pos : (limit ≺ +0) ≡ false) (at : ℕ → P) (size n : ℕ) (some : 0 < n) (room : n ≤ size) (l : List Bool)
     (e : l ≡ marked (keptIn m limit at 0 (n - 1)) (set (replicate size false) 0 true)) where
   all-marked : (k : ℕ) → n ≡ k → set (marked (keptIn m limit at 0 (k - 1)) (set (replicate size false) 0 true)) (k - 1) true ≡ marked (thinned m limit at k) (replicate size false)

@@ -1,12 +1,12 @@
--- The laws of thinning, each stated alone. All but the last three hold over any measure and any points, for a limit that is not below zero, as the square of
--- a tolerance is not. Assumes nothing.
+-- The laws of thinning, each stated alone; over any measure and any points, for a limit that is not below zero, as the square of a tolerance is not. The last
+-- two are of commands. Assumes nothing.
 use Prim.Native.Nat.{ℕ, zero, suc, _+_, _-_, _≤_, _<_}
 use mathlib.Core.Path.{_≡_, refl, sym, ap, _∙_, subst}
 use mathlib.Core.Logic.{_⊎_, ⊎-elim}
 use mathlib.Core.Bool.{true, false, _||_}
 use mathlib.Core.List.{List, [], _∷_, _++_}
 use native.Mathlib.Omega.{arith}
-use lib.ListN.{length}
+use lib.ListN.{length, getD}
 use lib.Ieee.{Float}
 use Rattle.number.specs.Ops.{_⊗_, _≺_, +0}
 use Rattle.number.proofs.Order.{either, clash}
@@ -14,11 +14,11 @@ use Rattle.number.proofs.Unsigned.{square-not-negative}
 use Rattle.types.specs.declared.types.Command.{Command}
 use Rattle.simplify.specs.Measure.{Measure}
 use Rattle.simplify.specs.Farthest.{farthestIn}
-use Rattle.simplify.specs.Thin.{cutAt, keptIn, thinned, thinList}
+use Rattle.simplify.specs.Thin.{cutAt, keptIn, thinned, thinnedPoints, thinList}
 use Rattle.simplify.specs.Data.{isMove, toCommand, commandSq, among, keptCommands}
 use Rattle.simplify.specs.Words.{NoneAbove, FirstAbove, Ascending, Near, Neighbours}
 use Rattle.simplify.proofs.First.{found-in}
-use Rattle.simplify.proofs.Kept.{cut-first, cut-inside, kept-cut, kept-yes, kept-no, thinned-ascending}
+use Rattle.simplify.proofs.Kept.{cut-first, cut-inside, no-cut, kept-cut, kept-yes, kept-no, thinned-ascending}
 use Rattle.simplify.proofs.Flags.{select-has, among-cut}
 use Rattle.simplify.proofs.Near.{kept-near}
 use Rattle.simplify.proofs.Again.{list-again}
@@ -29,13 +29,13 @@ on-chord : (a b c : Command) → isMove c ≡ true → commandSq a b c ≡ +0
 unfolding commandSq toCommand
 on-chord a b c h = rw h
 
-module _ {P : Type 0} (m : Measure P) (limit : Float) (pos : (limit ≺ +0) ≡ false) (at : ℕ → P) where
-  -- The search finds the first farthest point strictly between lo and hi, or +0 at lo where no point lies off the chord.
-  pub first-farthest : (lo hi : ℕ)
-      → ((farthestIn m at lo hi ≡ record { square = +0; index = lo }) × NoneAbove (λ i. m (at lo) (at hi) (at i)) (lo + 1) hi +0)
-      ⊎ FirstAbove (λ i. m (at lo) (at hi) (at i)) (lo + 1) hi +0 (farthestIn m at lo hi)
-  first-farthest lo hi = found-in m at lo hi
+-- The search finds the first farthest point strictly between lo and hi, or +0 at lo where no point lies off the chord.
+pub first-farthest : {P : Type 0} (m : Measure P) (at : ℕ → P) (lo hi : ℕ)
+    → ((farthestIn m at lo hi ≡ record { square = +0; index = lo }) × NoneAbove (λ i. m (at lo) (at hi) (at i)) (lo + 1) hi +0)
+    ⊎ FirstAbove (λ i. m (at lo) (at hi) (at i)) (lo + 1) hi +0 (farthestIn m at lo hi)
+first-farthest m at lo hi = found-in m at lo hi
 
+module _ {P : Type 0} (m : Measure P) (limit : Float) (pos : (limit ≺ +0) ≡ false) (at : ℕ → P) where
   -- What is kept strictly between lo and hi is what the rule says, with no bound on the cuts: nothing, or the cut and what is kept on either side of it.
   pub kept-by-the-rule : (lo hi : ℕ) → keptIn m limit at lo hi ≡ cutAt (keptIn m limit at) limit lo hi (farthestIn m at lo hi)
   kept-by-the-rule lo hi = kept-cut m limit pos at lo hi
@@ -75,6 +75,16 @@ module _ {P : Type 0} (m : Measure P) (limit : Float) (pos : (limit ≺ +0) ≡ 
 pub thinned-twice : {P : Type 0} (m : Measure P) (limit : Float) → (limit ≺ +0) ≡ false → (d : P) (ps : List P)
     → thinList m limit d (thinList m limit d ps) ≡ thinList m limit d ps
 thinned-twice m limit pos d ps = list-again m limit pos d ps
+
+-- A list of fewer than three points is left as it is.
+pub few-kept : {P : Type 0} (m : Measure P) (limit : Float) → (limit ≺ +0) ≡ false → (d : P) (ps : List P) → length ps < 3 → thinList m limit d ps ≡ ps
+unfolding thinnedPoints thinned
+few-kept m limit pos d [] h = refl
+few-kept m limit pos d (p ∷ []) h = refl
+few-kept {P} m limit pos d (p ∷ q ∷ []) h =
+    let at : ℕ → P = λ i. getD (p ∷ q ∷ []) i d in
+    rw (kept-no m limit pos at 0 1 (farthestIn m at 0 1) refl (no-cut m limit pos at 0 1 (omega arith)))
+few-kept m limit pos d (p ∷ q ∷ r ∷ ps) h = absurd (omega arith)
 
 -- The square of a tolerance is such a limit.
 pub tolerance-limit : (t : Float) → (t ⊗ t ≺ +0) ≡ false

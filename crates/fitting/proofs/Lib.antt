@@ -1,0 +1,3 @@
+pub mod Recursion
+pub mod Fitted
+pub mod Writing

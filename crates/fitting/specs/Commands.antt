@@ -1,0 +1,28 @@
+-- The commands of the pieces of a fit. Definitions only.
+use Prim.Native.Nat.{ℕ}
+use mathlib.Core.Bool.{Bool, true, false}
+use mathlib.Core.List.{List, map}
+use lib.Ieee.{Float, neg}
+use Rattle.number.specs.Ops.{_⊖_, +0, one}
+use Rattle.types.specs.declared.types.Point3D.{Point3D}
+use Rattle.types.specs.declared.types.Command.{Command}
+use Rattle.types.specs.declared.types.Command.the-variants.{Line, Arc}
+use Rattle.simplify.specs.Measure.{Measure}
+use Rattle.fitting.specs.Pieces.{Shape, line, arc, Piece, piecesIn}
+
+-- the normal of an arc: (0, 0, −1) clockwise, else (0, 0, 1)
+unfoldable pub normalOf : Bool → Point3D
+normalOf true = record { x = +0; y = +0; z = neg one }
+normalOf false = record { x = +0; y = +0; z = one }
+
+-- a Line ends at the piece's last point; an Arc too, its centre given from the piece's first point
+unfoldable pub shaped : Point3D → Point3D → Shape → Command
+shaped a b line = Line b
+shaped a b (arc m clockwise) = Arc b (record { x = m .x ⊖ a .x; y = m .y ⊖ a .y; z = +0 }) (normalOf clockwise)
+
+unfoldable pub pieceCommand : (ℕ → Point3D) → Piece → Command
+pieceCommand at p = shaped (at (p .from)) (at (p .to)) (p .shape)
+
+-- one command for each piece, in order
+unfoldable pub fitIn : Measure Point3D → Float → (ℕ → Point3D) → ℕ → ℕ → List Command
+fitIn m tol at lo hi = map (pieceCommand at) (piecesIn m tol at lo hi)

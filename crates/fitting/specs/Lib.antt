@@ -1,0 +1,3 @@
+pub mod Pieces
+pub mod Commands
+pub mod Written
