@@ -35,7 +35,7 @@ module _ (m : Measure Point3D) (tol : Float) (pos : (+0 ≺ tol) ≡ true) (at :
       (λ r. (let f = r .from in omega arith, r .to)) (found-in m at lo hi))
 
   -- a cut lies strictly inside
-  abbrev Inside : ℕ → ℕ → Choice → Type 0
+  abbrev pub Inside : ℕ → ℕ → Choice → Type 0
   Inside lo hi (whole s) = Unit
   Inside lo hi (cutAt k) = (lo < k) × (k < hi)
 
@@ -44,7 +44,7 @@ module _ (m : Measure Point3D) (tol : Float) (pos : (+0 ≺ tol) ≡ true) (at :
   inside-or (Arc c d) lo k hi g h = tt
   inside-or None lo k hi g h = (g, h)
 
-  inside : (lo hi : ℕ) → Inside lo hi (choice m tol at lo hi)
+  pub inside : (lo hi : ℕ) → Inside lo hi (choice m tol at lo hi)
   unfolding choice chooseBy
   inside lo hi =
       let w = lineDeviation m at lo hi in

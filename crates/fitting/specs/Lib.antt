@@ -1,3 +1,4 @@
 pub mod Pieces
 pub mod Commands
 pub mod Written
+pub mod Laws
