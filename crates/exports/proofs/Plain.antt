@@ -1,0 +1,35 @@
+-- The promises of an export, from what its outcome was. Assumes nothing.
+use Prim.Native.Nat.{ℕ}
+use mathlib.Core.Path.{_≡_, refl, ap, _∙_}
+use mathlib.Core.Bool.{Bool}
+use mathlib.Core.List.{List}
+use lib.Seq.{sets}
+use lib.Ieee.{Float}
+use Rattle.types.specs.declared.types.Answer.{Answer}
+use Rattle.types.specs.Outcome.{Outcome, refused, gives, answer, Wrote}
+use Rattle.exports.specs.Plain.{numberOf, laid, told, refusedBy, countOr, Gave, Told, Handed, Listed}
+
+module _ {A : Type 0} (lay : A → List Float) (o : Outcome A) (out : List Float) where
+  pub gave : (a : A) (out′ : List Float) → o ≡ gives a → out′ ≡ sets out 0 (lay a) → Gave lay o out out′ 0
+  unfolding numberOf laid
+  gave a out′ e h = record { says = rw e; leaves = rw e h }
+
+  pub gave-nothing : (n : ℕ) → o ≡ refused n → Gave lay o out out n
+  unfolding numberOf laid
+  gave-nothing n e = record { says = rw e; leaves = rw e }
+
+module _ {A : Type 0} (of : A → Bool) (o : Outcome A) (flag : Bool) where
+  pub tells : (a : A) (flag′ : Bool) → o ≡ gives a → flag′ ≡ of a → Told of o flag flag′ 0
+  unfolding numberOf told
+  tells a flag′ e h = record { says = rw e; leaves = rw e h }
+
+  pub tells-nothing : (n : ℕ) → o ≡ refused n → Told of o flag flag n
+  unfolding numberOf told
+  tells-nothing n e = record { says = rw e; leaves = rw e }
+
+-- what was written, and the answer that was handed on
+pub listed : {A : Type 0} (lay : List A → List Float) (o : Outcome (List A)) (out out′ : List Float) (a : Answer) (count count′ r : ℕ) → Wrote lay o out out′ a → Handed a count count′ r
+    → Listed lay o out out′ count count′ r
+unfolding answer refusedBy countOr numberOf told
+listed lay (refused n) out out′ a count count′ r w h = record { says = h .says ∙ ap refusedBy (w .says); counts = h .leaves ∙ ap (countOr count) (w .says); leaves = w .leaves }
+listed lay (gives xs) out out′ a count count′ r w h = record { says = h .says ∙ ap refusedBy (w .says); counts = h .leaves ∙ ap (countOr count) (w .says); leaves = w .leaves }

@@ -1,0 +1,99 @@
+-- What a call gives to a caller that knows numbers only: 0, with the answer's numbers in lent memory, or the number of its refusal. Definitions only.
+use Prim.Native.Nat.{ℕ}
+use mathlib.Core.Path.{_≡_}
+use mathlib.Core.Bool.{Bool, true, false}
+use mathlib.Core.List.{List, [], _++_}
+use lib.ListN.{length}
+use lib.Seq.{sets}
+use lib.Ieee.{Float}
+use Rattle.types.specs.declared.types.Point.{Point}
+use Rattle.types.specs.declared.types.Point3D.{Point3D}
+use Rattle.types.specs.declared.types.CubicBezier.{CubicBezier}
+use Rattle.types.specs.declared.types.Answer.{Answer}
+use Rattle.types.specs.declared.types.Answer.the-variants as Answer·
+use Rattle.types.specs.Lent.{pair}
+use Rattle.types.specs.Outcome.{Outcome, refused, gives, left}
+use Rattle.bezier.specs.declared.bezier.Halves.{Halves}
+use Rattle.bezier.specs.declared.bezier.Tolerance.{Tolerance}
+use Rattle.bezier.specs.declared.bezier.Tolerance.the-variants.{Given, Default}
+use Rattle.bezier.specs.declared.bezier.FittedCubic.{FittedCubic}
+use Rattle.bezier.specs.declared.bezier.FittedCubic.the-variants.{Curve, None, Refused}
+
+-- ---- points from their numbers
+abbrev pub point : Float → Float → Point
+point x y = record { x = x; y = y }
+
+abbrev pub point3 : Float → Float → Float → Point3D
+point3 x y z = record { x = x; y = y; z = z }
+
+-- ---- curves as numbers: four points of two, and both parts one behind the other
+abbrev pub eight : CubicBezier → List Float
+eight q = pair (q .0) ++ pair (q .1) ++ pair (q .2) ++ pair (q .3)
+
+abbrev pub sixteen : Halves → List Float
+sixteen h = eight (h .left) ++ eight (h .right)
+
+-- a fitted curve, if there is one
+unfoldable pub isCurve : FittedCubic → Bool
+isCurve (Curve q) = true
+isCurve None = false
+isCurve (Refused n) = false
+
+unfoldable pub curveNumbers : FittedCubic → List Float
+curveNumbers (Curve q) = eight q
+curveNumbers None = []
+curveNumbers (Refused n) = []
+
+-- ---- a tolerance that is given, or else the source's
+unfoldable pub toleranceBy : Bool → Float → Tolerance
+toleranceBy true t = Given t
+toleranceBy false t = Default
+
+-- ---- an outcome in plain numbers
+
+-- the number of the refusal, or 0
+unfoldable pub numberOf : {A : Type 0} → Outcome A → ℕ
+numberOf (refused n) = n
+numberOf (gives a) = 0
+
+-- lent numbers afterwards: the value's at the front, or all as it was where the call is refused
+unfoldable pub laid : {A B : Type 0} → (A → List B) → List B → Outcome A → List B
+laid lay out (refused n) = out
+laid lay out (gives a) = sets out 0 (lay a)
+
+-- a lent flag or count afterwards: what `of` says of the value, or as it was
+unfoldable pub told : {A B : Type 0} → (A → B) → B → Outcome A → B
+told of b (refused n) = b
+told of b (gives a) = of a
+
+-- an answer's refusal, or 0; and its count, or what stood there
+unfoldable pub refusedBy : Answer → ℕ
+refusedBy (Answer·.Written n) = 0
+refusedBy (Answer·.Refused n) = n
+
+unfoldable pub countOr : ℕ → Answer → ℕ
+countOr count (Answer·.Written n) = n
+countOr count (Answer·.Refused n) = count
+
+-- ---- the promises
+
+-- the value's numbers go to lent memory
+pub record Gave {A : Type 0} (lay : A → List Float) (o : Outcome A) (out out′ : List Float) (r : ℕ) : Type 0 where
+  pub says : r ≡ numberOf o
+  pub leaves : out′ ≡ laid lay out o
+
+-- the value is a truth, and goes to a lent flag
+pub record Told {A : Type 0} (of : A → Bool) (o : Outcome A) (flag flag′ : Bool) (r : ℕ) : Type 0 where
+  pub says : r ≡ numberOf o
+  pub leaves : flag′ ≡ told of flag o
+
+-- a count or a refusal, handed on to a lent number or back
+pub record Handed (a : Answer) (count count′ : ℕ) (r : ℕ) : Type 0 where
+  pub says : r ≡ refusedBy a
+  pub leaves : count′ ≡ countOr count a
+
+-- the value is a list of items, whose numbers go to lent memory and whose count to a lent number
+pub record Listed {A : Type 0} (lay : List A → List Float) (o : Outcome (List A)) (out out′ : List Float) (count count′ : ℕ) (r : ℕ) : Type 0 where
+  pub says : r ≡ numberOf o
+  pub counts : count′ ≡ told length count o
+  pub leaves : out′ ≡ left lay out o

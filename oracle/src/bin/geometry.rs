@@ -1,0 +1,44 @@
+//! The geometry: the proved functions compared with the given Rust, and listed for the replay.
+use std::process::ExitCode;
+
+const USAGE: &str =
+    "geometry bezier COUNT SEED | geometry arc COUNT SEED | geometry grid | geometry list-bezier COUNT SEED";
+
+/// Whether nothing differed or failed; none where the words ask for nothing.
+#[cfg(given)]
+fn run(words: &[String]) -> Option<bool> {
+    use oracle::geometry::{arc, bezier, frame, grid, list};
+    use std::io::{BufWriter, stdout};
+
+    let numbers: Vec<u64> = words.iter().skip(1).filter_map(|word| word.parse().ok()).collect();
+    match (words.first()?.as_str(), &numbers[..]) {
+        ("bezier", [count, seed]) => Some(frame::run(&bezier::FUNCTIONS, *count, *seed)),
+        ("arc", [count, seed]) => Some(frame::run(&arc::FUNCTIONS, *count, *seed)),
+        ("grid", []) => Some(grid::run()),
+        ("list-bezier", [count, seed]) => {
+            Some(list::list(*count as usize, *seed, &mut BufWriter::new(stdout())).is_ok())
+        }
+        _ => None,
+    }
+}
+
+#[cfg(given)]
+fn main() -> ExitCode {
+    let words: Vec<String> = std::env::args().skip(1).collect();
+    match run(&words) {
+        Some(true) => ExitCode::SUCCESS,
+        Some(false) => ExitCode::FAILURE,
+        None => {
+            eprintln!("{USAGE}");
+            ExitCode::from(2)
+        }
+    }
+}
+
+#[cfg(not(given))]
+fn main() -> ExitCode {
+    eprintln!("geometry: left out, since the given Rust was not at hand when this was built.");
+    eprintln!("It is looked for in ../shared/docs/src beside the repository, or where RAYGEO_SRC says.");
+    eprintln!("{USAGE}");
+    ExitCode::from(3)
+}

@@ -1,0 +1,138 @@
+//! The proved functions, as crates/exports declares them. A slice is a pointer and a length: Rust passes a `&mut [f64]`
+//! of its own otherwise. Each answers 0 or the number of a refusal.
+
+/// The eight numbers of a curve in the plane, or the twelve of one in space, as arguments of a call.
+#[macro_export]
+macro_rules! eight {
+    ($f:path, $c:expr, $($rest:expr),+) => {
+        $f($c[0], $c[1], $c[2], $c[3], $c[4], $c[5], $c[6], $c[7], $($rest),+)
+    };
+}
+
+#[macro_export]
+macro_rules! twelve {
+    ($f:path, $c:expr, $($rest:expr),+) => {
+        $f($c[0], $c[1], $c[2], $c[3], $c[4], $c[5], $c[6], $c[7], $c[8], $c[9], $c[10], $c[11], $($rest),+)
+    };
+}
+
+unsafe extern "C" {
+    pub fn rt_get_midpoint_3d(ax: f64, ay: f64, az: f64, bx: f64, by: f64, bz: f64, answer: *mut f64) -> u32;
+
+    pub fn rt_get_bezier_point_at(
+        p0x: f64,
+        p0y: f64,
+        c1x: f64,
+        c1y: f64,
+        c2x: f64,
+        c2y: f64,
+        p1x: f64,
+        p1y: f64,
+        t: f64,
+        answer: *mut f64,
+    ) -> u32;
+
+    pub fn rt_split_bezier(
+        p0x: f64,
+        p0y: f64,
+        c1x: f64,
+        c1y: f64,
+        c2x: f64,
+        c2y: f64,
+        p1x: f64,
+        p1y: f64,
+        t: f64,
+        answer: *mut f64,
+    ) -> u32;
+
+    pub fn rt_is_bezier_flat(
+        p0x: f64,
+        p0y: f64,
+        c1x: f64,
+        c1y: f64,
+        c2x: f64,
+        c2y: f64,
+        p1x: f64,
+        p1y: f64,
+        tolerance_sq: f64,
+        flat: *mut bool,
+    ) -> u32;
+
+    pub fn rt_linearize_bezier(
+        p0x: f64,
+        p0y: f64,
+        p0z: f64,
+        c1x: f64,
+        c1y: f64,
+        c1z: f64,
+        c2x: f64,
+        c2y: f64,
+        c2z: f64,
+        p1x: f64,
+        p1y: f64,
+        p1z: f64,
+        num_steps: usize,
+        out: *mut f64,
+        room: usize,
+        count: *mut usize,
+    ) -> u32;
+
+    pub fn rt_linearize_bezier_from_params(
+        ex: f64,
+        ey: f64,
+        ez: f64,
+        c1x: f64,
+        c1y: f64,
+        c1z: f64,
+        c2x: f64,
+        c2y: f64,
+        c2z: f64,
+        sx: f64,
+        sy: f64,
+        sz: f64,
+        resolution: f64,
+        out: *mut f64,
+        room: usize,
+        count: *mut usize,
+    ) -> u32;
+
+    pub fn rt_linearize_bezier_adaptive(
+        p0x: f64,
+        p0y: f64,
+        c1x: f64,
+        c1y: f64,
+        c2x: f64,
+        c2y: f64,
+        p1x: f64,
+        p1y: f64,
+        tolerance_sq: f64,
+        max_depth: usize,
+        out: *mut f64,
+        room: usize,
+        count: *mut usize,
+    ) -> u32;
+
+    pub fn rt_linearize_bezier_segment(
+        p0x: f64,
+        p0y: f64,
+        p0z: f64,
+        c1x: f64,
+        c1y: f64,
+        c1z: f64,
+        c2x: f64,
+        c2y: f64,
+        c2z: f64,
+        p1x: f64,
+        p1y: f64,
+        p1z: f64,
+        given: bool,
+        tolerance: f64,
+        out: *mut f64,
+        room: usize,
+        count: *mut usize,
+    ) -> u32;
+
+    pub fn rt_fit_cubic_bezier(points: *const f64, length: usize, found: *mut bool, answer: *mut f64) -> u32;
+
+    pub fn rt_is_arc_clockwise(points: *const f64, length: usize, cx: f64, cy: f64, clockwise: *mut bool) -> u32;
+}

@@ -1,0 +1,75 @@
+//! Document 01's domain and its table of causes, written once more and apart from the proved code: the refusals that a
+//! call must give. A row is a number and whether the arguments fall under it; the first such row in number order decides.
+
+pub type Row = (u32, bool);
+
+/// The number of the first row that the arguments fall under, or 0. The rows stand in number order.
+pub fn refusal(rows: &[Row]) -> u32 {
+    assert!(rows.is_sorted_by_key(|row| row.0), "the table's rows stand in number order");
+    rows.iter().find(|row| row.1).map_or(0, |row| row.0)
+}
+
+/// Row 1: a slice of `count` numbers is not whole items of `width` numbers.
+pub fn not_whole(count: usize, width: usize) -> Row {
+    (1, count % width != 0)
+}
+
+/// Row 2: more points than the domain has.
+pub fn too_many_points(points: usize) -> Row {
+    (2, points > 2_048)
+}
+
+/// Row 2: a step count that is 0 or above the domain's.
+pub fn bad_steps(steps: usize) -> Row {
+    (2, steps == 0 || steps > 2_048)
+}
+
+/// Row 2: a depth above the domain's.
+pub fn too_deep(depth: usize) -> Row {
+    (2, depth > 10)
+}
+
+/// Row 5: a number outside the domain.
+pub fn outside(all_within: bool) -> Row {
+    (5, !all_within)
+}
+
+/// Row 6: a tolerance outside the domain.
+pub fn bad_tolerance(within: bool) -> Row {
+    (6, !within)
+}
+
+/// Row 9: the lent output holds less than the most.
+pub fn no_room(room: usize, most: usize) -> Row {
+    (9, room < most)
+}
+
+/// A NaN is in no range.
+fn in_range(x: f64, least: f64, most: f64) -> bool {
+    (least..=most).contains(&x)
+}
+
+/// Ends and controls: finite, at most 1,000,000 from zero.
+pub fn coordinates(numbers: &[f64]) -> bool {
+    numbers.iter().all(|x| in_range(*x, -1_000_000.0, 1_000_000.0))
+}
+
+/// A centre handed in: at most 1e12 from zero.
+pub fn centre(numbers: &[f64]) -> bool {
+    numbers.iter().all(|x| in_range(*x, -1e12, 1e12))
+}
+
+/// A curve's parameter: 0 to 1. −0 is 0.
+pub fn parameter(t: f64) -> bool {
+    in_range(t, 0.0, 1.0)
+}
+
+/// A tolerance or a resolution: 0.001 to 1,000.
+pub fn tolerance(x: f64) -> bool {
+    in_range(x, 0.001, 1_000.0)
+}
+
+/// A squared tolerance: 1e-6 to 1,000,000.
+pub fn tolerance_sq(x: f64) -> bool {
+    in_range(x, 1e-6, 1_000_000.0)
+}
