@@ -473,7 +473,7 @@ pub enum Projected {
 }
 
 // The first row of the table that a list of points falls under, or 0.
-fn check_points(points: &[f64]) -> u32
+pub fn check_points(points: &[f64]) -> u32
     ensures { λ r. ⌜ r ≡ refusal (pointsRows (now (points .entry))) ⌝ }
 {
     if points.len() % 3 != 0 {

@@ -2,3 +2,4 @@ pub mod Recursion
 pub mod Fitted
 pub mod Pieces
 pub mod Writing
+pub mod Accepted

@@ -2,3 +2,4 @@ pub mod Pieces
 pub mod Commands
 pub mod Written
 pub mod Laws
+pub mod Calls

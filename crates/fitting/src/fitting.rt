@@ -1,24 +1,45 @@
 // src/geo/algo/fitting.rs: the line's deviation, the recursive fit and its entry points.
 use circle::circle::Deviation;
+use circle::circle::check_points;
 use number::root::sqrt;
 use simplify::simplify::farthest_between;
 use trial::trial::Trial;
+use trial::trial::arc_deviation;
 use trial::trial::try_arcs;
+use types::domain::is_centre;
+use types::domain::is_within;
 use types::lent::point_at;
 use types::lent::put_command;
+use types::types::Answer;
 use types::types::Command;
 use types::types::Point;
 use types::types::Point3D;
 ghost use mathlib.Core.Path.{_≡_};
-ghost use mathlib.Core.Bool.{true};
+ghost use mathlib.Core.Bool.{true, not, _&&_};
 ghost use Prim.Native.Nat.{_+_, _-_, _*_, _<_, _≤_};
 ghost use lib.ListN.{length};
+ghost use lib.Dec.{ltb};
 ghost use Rattle.number.specs.Ops.{_≺_, +0};
 ghost use Rattle.types.specs.Lent.{pointAt};
+ghost use Rattle.types.specs.Outcome.{refusal};
+ghost use Rattle.types.specs.Commands.{WroteCommands};
 ghost use Rattle.simplify.specs.Measure.{lineSq};
 ghost use Rattle.fitting.specs.Pieces.{lineDeviation, arc};
 ghost use Rattle.fitting.specs.Commands.{normalOf, shaped, fitIn};
 ghost use Rattle.fitting.specs.Written.{FitPlaced};
+ghost use Rattle.fitting.specs.Calls.{lineRows, lineCall, lineAnswer, arcRows, arcCall, arcAnswer, fitRows, fitCall, primitivesCall};
+
+// What get_polyline_line_deviation answers: the greatest distance and where it first stands.
+pub enum LineDeviation {
+    Is(Deviation),
+    Refused(u32),
+}
+
+// What get_polyline_arc_deviation answers.
+pub enum ArcDeviation {
+    Is(f64),
+    Refused(u32),
+}
 
 // The greatest distance of a point from the endless line through the range's ends, and the first point that has it.
 pub fn line_deviation(points: &[f64], start: usize, end: usize) -> Deviation
@@ -99,4 +120,156 @@ pub fn fit_range(
             n + m
         }
     }
+}
+
+// The number of the first row that a line's deviation falls under, or 0.
+fn check_line(points: &[f64], start: usize, end: usize) -> u32
+    ensures { λ r. ⌜ r ≡ refusal (lineRows (now (points .entry)) start end) ⌝ }
+{
+    let refused = check_points(points);
+    if refused != 0 {
+        return refused;
+    }
+    let n = points.len() / 3;
+    if n <= start {
+        return 7;
+    }
+    if n <= end {
+        return 7;
+    }
+    0
+}
+
+// Maximum distance of points from the line through the points at start and end, and the first index that has it.
+pub fn get_polyline_line_deviation(points: &[f64], start: usize, end: usize) -> LineDeviation
+    ensures { λ r. ⌜ r ≡ lineAnswer (lineCall (now (points .entry)) start end) ⌝ }
+{
+    let refused = check_line(points, start, end);
+    if refused != 0 {
+        return LineDeviation::Refused(refused);
+    }
+    LineDeviation::Is(line_deviation(points, start, end))
+}
+
+// The number of the first row that an arc's deviation falls under, or 0.
+fn check_arc(points: &[f64], center: Point, radius: f64) -> u32
+    ensures { λ r. ⌜ r ≡ refusal (arcRows (now (points .entry)) center radius) ⌝ }
+{
+    let refused = check_points(points);
+    if refused != 0 {
+        return refused;
+    }
+    if !is_centre(center.x) {
+        return 5;
+    }
+    if !is_centre(center.y) {
+        return 5;
+    }
+    if !is_within(0.0, 1e12, radius) {
+        return 5;
+    }
+    0
+}
+
+// Maximum deviation of a polyline from the circle around center.
+pub fn get_polyline_arc_deviation(points: &[f64], center: Point, radius: f64) -> ArcDeviation
+    ensures { λ r. ⌜ r ≡ arcAnswer (arcCall (now (points .entry)) center radius) ⌝ }
+{
+    let refused = check_arc(points, center, radius);
+    if refused != 0 {
+        return ArcDeviation::Refused(refused);
+    }
+    let n = points.len() / 3;
+    if n < 2 {
+        return ArcDeviation::Is(0.0);
+    }
+    ArcDeviation::Is(arc_deviation(points, 0, n - 1, center, radius).dist)
+}
+
+// How many steps lie between two indices; none where the first is not below the second.
+fn steps_between(start: usize, end: usize) -> usize
+    ensures { λ r. ⌜ r ≡ end - start ⌝ }
+{
+    if start < end {
+        return end - start;
+    }
+    0
+}
+
+// Whether a range with steps ends outside of n points.
+fn is_outside(n: usize, start: usize, end: usize) -> bool
+    ensures { λ r. ⌜ r ≡ (ltb start end && not (ltb end n)) ⌝ }
+{
+    if start < end {
+        return n <= end;
+    }
+    false
+}
+
+// The number of the first row that a fit falls under, or 0.
+fn check_fit(
+    points: &[f64],
+    tolerance: f64,
+    start: usize,
+    end: usize,
+    kinds: usize,
+    nums: usize,
+) -> u32
+    ensures { λ r. ⌜ r ≡ refusal (fitRows (now (points .entry)) tolerance start end kinds nums) ⌝ }
+{
+    if nums % 9 != 0 {
+        return 1;
+    }
+    let refused = check_points(points);
+    if refused != 0 {
+        return refused;
+    }
+    if !is_within(0.001, 1000.0, tolerance) {
+        return 6;
+    }
+    if is_outside(points.len() / 3, start, end) {
+        return 7;
+    }
+    let most = steps_between(start, end);
+    if kinds < most {
+        return 9;
+    }
+    if nums / 9 < most {
+        return 9;
+    }
+    0
+}
+
+// Recursively fits primitives to the points from start to end, and writes them to the front of both outputs.
+pub fn fit_points_recursive(
+    points: &[f64],
+    tolerance: f64,
+    start: usize,
+    end: usize,
+    kinds: &mut [u8],
+    nums: &mut [f64],
+) -> Answer
+    ensures { λ r. ⌜ WroteCommands (fitCall (now (points .entry)) tolerance start end (length (now (kinds .entry))) (length (now (nums .entry)))) (now (kinds .entry)) (now (kinds .exit)) (now (nums .entry)) (now (nums .exit)) r ⌝ }
+{
+    let refused = check_fit(points, tolerance, start, end, kinds.len(), nums.len());
+    if refused != 0 {
+        return Answer::Refused(refused);
+    }
+    if end <= start {
+        return Answer::Written(0);
+    }
+    Answer::Written(fit_range(points, tolerance, start, end, kinds, nums, 0))
+}
+
+// Fits primitives to all points.
+pub fn fit_points_with_primitives(
+    points: &[f64],
+    tolerance: f64,
+    kinds: &mut [u8],
+    nums: &mut [f64],
+) -> Answer
+    ensures { λ r. ⌜ WroteCommands (primitivesCall (now (points .entry)) tolerance (length (now (kinds .entry))) (length (now (nums .entry)))) (now (kinds .entry)) (now (kinds .exit)) (now (nums .entry)) (now (nums .exit)) r ⌝ }
+{
+    let last = steps_between(1, points.len() / 3);
+    fit_points_recursive(points, tolerance, 0, last, kinds, nums)
 }

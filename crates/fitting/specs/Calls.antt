@@ -1,0 +1,60 @@
+-- The public calls: which row of document 01's table refuses them, else what they give; and the answer that says so. Definitions only.
+use Prim.Native.Nat.{ℕ, _-_, _/_}
+use mathlib.Core.Bool.{not, _&&_}
+use mathlib.Core.List.{List, [], _∷_, _++_}
+use lib.ListN.{length}
+use lib.Dec.{ltb}
+use lib.Ieee.{Float}
+use Rattle.types.specs.declared.types.Point.{Point}
+use Rattle.types.specs.declared.types.Command.{Command}
+use Rattle.types.specs.Lent.{pointAt}
+use Rattle.types.specs.Domain.{tolerance, radius, centre, whole}
+use Rattle.types.specs.Outcome.{Row, row, refusal, Outcome, refused, gives, unless}
+use Rattle.simplify.specs.Measure.{lineSq}
+use Rattle.circle.specs.declared.circle.Deviation.{Deviation}
+use Rattle.circle.specs.Calls.{pointsRows}
+use Rattle.trial.specs.Deviation.{arcDeviation}
+use Rattle.fitting.specs.declared.fitting.LineDeviation as measured
+use Rattle.fitting.specs.declared.fitting.ArcDeviation as around
+use Rattle.fitting.specs.Pieces.{lineDeviation}
+use Rattle.fitting.specs.Commands.{fitIn}
+
+-- ---- get_polyline_line_deviation: both indices lie inside the points
+unfoldable pub lineRows : List Float → ℕ → ℕ → List Row
+lineRows s lo hi = pointsRows s ++ (row 7 (not (ltb lo (length s / 3))) ∷ row 7 (not (ltb hi (length s / 3))) ∷ [])
+
+unfoldable pub lineCall : List Float → ℕ → ℕ → Outcome Deviation
+lineCall s lo hi = unless (refusal (lineRows s lo hi)) (lineDeviation lineSq (pointAt s) lo hi)
+
+unfoldable pub lineAnswer : Outcome Deviation → measured.LineDeviation
+lineAnswer (refused n) = measured.the-variants.Refused n
+lineAnswer (gives w) = measured.the-variants.Is w
+
+-- ---- get_polyline_arc_deviation: +0 below two points, which have no step
+unfoldable pub arcRows : List Float → Point → Float → List Row
+arcRows s m r = pointsRows s ++ (row 5 (not (centre (m .x))) ∷ row 5 (not (centre (m .y))) ∷ row 5 (not (radius r)) ∷ [])
+
+unfoldable pub arcCall : List Float → Point → Float → Outcome Float
+arcCall s m r = unless (refusal (arcRows s m r)) (arcDeviation m r (pointAt s) 0 (length s / 3 - 1) .dist)
+
+unfoldable pub arcAnswer : Outcome Float → around.ArcDeviation
+arcAnswer (refused n) = around.the-variants.Refused n
+arcAnswer (gives d) = around.the-variants.Is d
+
+-- ---- fit_points_recursive: of the points s from lo to hi, to outputs of `kinds` kinds and `numbers` numbers. Its most is hi - lo, 0 where lo is not below hi
+unfoldable pub fitRows : List Float → Float → ℕ → ℕ → ℕ → ℕ → List Row
+fitRows s tol lo hi kinds numbers =
+    row 1 (not (whole 9 numbers))
+    ∷ (pointsRows s
+    ++ (row 6 (not (tolerance tol))
+    ∷ row 7 (ltb lo hi && not (ltb hi (length s / 3)))
+    ∷ row 9 (ltb kinds (hi - lo))
+    ∷ row 9 (ltb (numbers / 9) (hi - lo))
+    ∷ []))
+
+unfoldable pub fitCall : List Float → Float → ℕ → ℕ → ℕ → ℕ → Outcome (List Command)
+fitCall s tol lo hi kinds numbers = unless (refusal (fitRows s tol lo hi kinds numbers)) (fitIn lineSq tol (pointAt s) lo hi)
+
+-- ---- fit_points_with_primitives: all points, from the first to the last. Their last index is inside them, so row 7 refuses none
+abbrev pub primitivesCall : List Float → Float → ℕ → ℕ → Outcome (List Command)
+primitivesCall s tol kinds numbers = fitCall s tol 0 (length s / 3 - 1) kinds numbers
