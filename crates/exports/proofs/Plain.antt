@@ -6,8 +6,10 @@ use mathlib.Core.List.{List}
 use lib.Seq.{sets}
 use lib.Ieee.{Float}
 use Rattle.types.specs.declared.types.Answer.{Answer}
+use Rattle.types.specs.declared.types.Command.{Command}
 use Rattle.types.specs.Outcome.{Outcome, refused, gives, answer, Wrote}
-use Rattle.exports.specs.Plain.{numberOf, laid, told, refusedBy, countOr, Gave, Told, Handed, Listed}
+use Rattle.types.specs.Commands.{WroteCommands}
+use Rattle.exports.specs.Plain.{numberOf, laid, told, refusedBy, countOr, Gave, Told, Handed, Listed, ListedCommands}
 
 module _ {A : Type 0} (lay : A → List Float) (o : Outcome A) (out : List Float) where
   pub gave : (a : A) (out′ : List Float) → o ≡ gives a → out′ ≡ sets out 0 (lay a) → Gave lay o out out′ 0
@@ -33,3 +35,12 @@ pub listed : {A : Type 0} (lay : List A → List Float) (o : Outcome (List A)) (
 unfolding answer refusedBy countOr numberOf told
 listed lay (refused n) out out′ a count count′ r w h = record { says = h .says ∙ ap refusedBy (w .says); counts = h .leaves ∙ ap (countOr count) (w .says); leaves = w .leaves }
 listed lay (gives xs) out out′ a count count′ r w h = record { says = h .says ∙ ap refusedBy (w .says); counts = h .leaves ∙ ap (countOr count) (w .says); leaves = w .leaves }
+
+-- the same of commands
+pub listed-commands : (o : Outcome (List Command)) (ks ks′ : List ℕ) (ns ns′ : List Float) (a : Answer) (count count′ r : ℕ) → WroteCommands o ks ks′ ns ns′ a → Handed a count count′ r
+    → ListedCommands o ks ks′ ns ns′ count count′ r
+unfolding answer refusedBy countOr numberOf told
+listed-commands (refused n) ks ks′ ns ns′ a count count′ r w h =
+    record { says = h .says ∙ ap refusedBy (w .says); counts = h .leaves ∙ ap (countOr count) (w .says); kinds = w .kinds; numbers = w .numbers }
+listed-commands (gives xs) ks ks′ ns ns′ a count count′ r w h =
+    record { says = h .says ∙ ap refusedBy (w .says); counts = h .leaves ∙ ap (countOr count) (w .says); kinds = w .kinds; numbers = w .numbers }

@@ -2,7 +2,7 @@
 use Prim.Native.Nat.{ℕ}
 use mathlib.Core.Path.{_≡_}
 use mathlib.Core.Bool.{Bool, true, false}
-use mathlib.Core.List.{List, [], _++_}
+use mathlib.Core.List.{List, [], _++_, map}
 use lib.ListN.{length}
 use lib.Seq.{sets}
 use lib.Ieee.{Float}
@@ -11,7 +11,8 @@ use Rattle.types.specs.declared.types.Point3D.{Point3D}
 use Rattle.types.specs.declared.types.CubicBezier.{CubicBezier}
 use Rattle.types.specs.declared.types.Answer.{Answer}
 use Rattle.types.specs.declared.types.Answer.the-variants as Answer·
-use Rattle.types.specs.Lent.{pair}
+use Rattle.types.specs.declared.types.Command.{Command}
+use Rattle.types.specs.Lent.{pair, flat, kindOf, numbersOf}
 use Rattle.types.specs.Outcome.{Outcome, refused, gives, left}
 use Rattle.bezier.specs.declared.bezier.Halves.{Halves}
 use Rattle.bezier.specs.declared.bezier.Tolerance.{Tolerance}
@@ -97,3 +98,10 @@ pub record Listed {A : Type 0} (lay : List A → List Float) (o : Outcome (List 
   pub says : r ≡ numberOf o
   pub counts : count′ ≡ told length count o
   pub leaves : out′ ≡ left lay out o
+
+-- the same of commands, whose kinds go to lent memory of their own
+pub record ListedCommands (o : Outcome (List Command)) (ks ks′ : List ℕ) (ns ns′ : List Float) (count count′ : ℕ) (r : ℕ) : Type 0 where
+  pub says : r ≡ numberOf o
+  pub counts : count′ ≡ told length count o
+  pub kinds : ks′ ≡ left (map kindOf) ks o
+  pub numbers : ns′ ≡ left (flat numbersOf) ns o

@@ -1,11 +1,11 @@
 // Bezier curves: four points, start, two controls, end.
+use crate::counts::hand_on;
 use bezier::bezier::BezierPoint;
 use bezier::bezier::BezierSplit;
 use bezier::bezier::FittedCubic;
 use bezier::bezier::Flatness;
 use bezier::bezier::Tolerance;
 use types::lent::put_pair;
-use types::types::Answer;
 use types::types::CubicBezier;
 use types::types::Point;
 use types::types::Point3D;
@@ -16,7 +16,7 @@ ghost use lib.Seq.{sets};
 ghost use Rattle.types.specs.Lent.{pair, triple, flat};
 ghost use Rattle.bezier.specs.Linearize.{six};
 ghost use Rattle.bezier.specs.Calls.{pointCall, splitCall, flatCall, linearizeCall, paramCall, adaptiveCall, segmentCall, fitCall};
-ghost use Rattle.exports.specs.Plain.{point, point3, eight, sixteen, isCurve, curveNumbers, toleranceBy, Gave, Told, Handed, Listed};
+ghost use Rattle.exports.specs.Plain.{point, point3, eight, sixteen, isCurve, curveNumbers, toleranceBy, Gave, Told, Listed};
 
 // The point at t of a curve in the plane.
 #[no_mangle]
@@ -117,19 +117,6 @@ pub extern "C" fn rt_is_bezier_flat(
             0
         }
         Flatness::Refused(n) => n,
-    }
-}
-
-// Hands an answer on: the count to `count`, or the refusal's number back.
-fn hand_on(a: Answer, count: &mut usize) -> u32
-    ensures { λ r. ⌜ Handed a (now (count .entry)) (now (count .exit)) r ⌝ }
-{
-    match a {
-        Answer::Written(n) => {
-            *count = n;
-            0
-        }
-        Answer::Refused(n) => n,
     }
 }
 

@@ -1,22 +1,29 @@
 //! The geometry: the proved functions compared with the given Rust, and listed for the replay.
 use std::process::ExitCode;
 
-const USAGE: &str =
-    "geometry bezier COUNT SEED | geometry arc COUNT SEED | geometry grid | geometry list-bezier COUNT SEED";
+const USAGE: &str = "\
+geometry bezier COUNT SEED | geometry arc COUNT SEED | geometry grid | geometry list-bezier COUNT SEED
+geometry simplify COUNT SEED | geometry grid-simplify | geometry bench-simplify | geometry list-simplify COUNT SEED";
 
 /// Whether nothing differed or failed; none where the words ask for nothing.
 #[cfg(given)]
 fn run(words: &[String]) -> Option<bool> {
-    use oracle::geometry::{arc, bezier, frame, grid, list};
+    use oracle::geometry::{arc, bench_simplify, bezier, frame, grid, grid_simplify, list, list_simplify, simplify};
     use std::io::{BufWriter, stdout};
 
     let numbers: Vec<u64> = words.iter().skip(1).filter_map(|word| word.parse().ok()).collect();
     match (words.first()?.as_str(), &numbers[..]) {
         ("bezier", [count, seed]) => Some(frame::run(&bezier::FUNCTIONS, *count, *seed)),
         ("arc", [count, seed]) => Some(frame::run(&arc::FUNCTIONS, *count, *seed)),
+        ("simplify", [count, seed]) => Some(frame::run(&simplify::FUNCTIONS, *count, *seed)),
         ("grid", []) => Some(grid::run()),
+        ("grid-simplify", []) => Some(grid_simplify::run()),
+        ("bench-simplify", []) => Some(bench_simplify::run()),
         ("list-bezier", [count, seed]) => {
             Some(list::list(*count as usize, *seed, &mut BufWriter::new(stdout())).is_ok())
+        }
+        ("list-simplify", [count, seed]) => {
+            Some(list_simplify::list(*count as usize, *seed, &mut BufWriter::new(stdout())).is_ok())
         }
         _ => None,
     }

@@ -23,11 +23,11 @@ pub const FUNCTIONS: [Function; 9] = [
 // ---- points and their numbers
 
 /// The point at place i of numbers.
-fn pair(numbers: &[f64], i: usize) -> Point {
+pub fn pair(numbers: &[f64], i: usize) -> Point {
     Point::new(numbers[2 * i], numbers[2 * i + 1])
 }
 
-fn triple(numbers: &[f64], i: usize) -> Point3D {
+pub fn triple(numbers: &[f64], i: usize) -> Point3D {
     Point3D::new(numbers[3 * i], numbers[3 * i + 1], numbers[3 * i + 2])
 }
 
@@ -45,11 +45,11 @@ fn space(c: &[f64]) -> (Point3D, Point3D, Point3D, Point3D) {
     (triple(c, 0), triple(c, 1), triple(c, 2), triple(c, 3))
 }
 
-fn words_of_pairs(points: &[Point]) -> Vec<u64> {
+pub fn words_of_pairs(points: &[Point]) -> Vec<u64> {
     points.iter().flat_map(|p| patterns(&[p.x, p.y])).collect()
 }
 
-fn words_of_triples(points: &[Point3D]) -> Vec<u64> {
+pub fn words_of_triples(points: &[Point3D]) -> Vec<u64> {
     points.iter().flat_map(|p| patterns(&[p.x, p.y, p.z])).collect()
 }
 
@@ -62,7 +62,7 @@ fn words_of_steps(steps: &[(Point3D, Point3D)]) -> Vec<u64> {
 }
 
 /// What stands in an output of `width` words an item, and in its count, once these words are written.
-fn items(before: &[Lent], words: &[u64], width: usize) -> Vec<Lent> {
+pub fn items(before: &[Lent], words: &[u64], width: usize) -> Vec<Lent> {
     vec![before[0].written(words), before[1].written(&[(words.len() / width) as u64])]
 }
 
@@ -77,7 +77,7 @@ fn get_midpoint_3d(draw: &mut Draw) -> Compared {
     midpoint_of(&draw.points(2, 3))
 }
 
-fn midpoint_of(p: &[f64]) -> Compared {
+pub fn midpoint_of(p: &[f64]) -> Compared {
     let call = Call {
         function: "get_midpoint_3d",
         arguments: vec![("points", patterns(p))],

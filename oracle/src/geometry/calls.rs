@@ -135,4 +135,35 @@ unsafe extern "C" {
     pub fn rt_fit_cubic_bezier(points: *const f64, length: usize, found: *mut bool, answer: *mut f64) -> u32;
 
     pub fn rt_is_arc_clockwise(points: *const f64, length: usize, cx: f64, cy: f64, clockwise: *mut bool) -> u32;
+
+    pub fn rt_simplify_polyline(
+        points: *const f64,
+        length: usize,
+        tolerance: f64,
+        out: *mut f64,
+        room: usize,
+        count: *mut usize,
+    ) -> u32;
+
+    pub fn rt_simplify_polyline_3d(
+        points: *const f64,
+        length: usize,
+        tolerance: f64,
+        out: *mut f64,
+        room: usize,
+        count: *mut usize,
+    ) -> u32;
+
+    pub fn rt_simplify_data(
+        kinds: *const u8,
+        commands: usize,
+        nums: *const f64,
+        numbers: usize,
+        tolerance: f64,
+        out_kinds: *mut u8,
+        room_kinds: usize,
+        out_nums: *mut f64,
+        room_nums: usize,
+        count: *mut usize,
+    ) -> u32;
 }

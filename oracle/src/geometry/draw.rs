@@ -73,7 +73,7 @@ impl Draw {
     }
 
     /// One of these, with its label.
-    fn edge<T: Copy>(&mut self, edges: &[(T, &'static str)]) -> T {
+    pub fn edge<T: Copy>(&mut self, edges: &[(T, &'static str)]) -> T {
         let (value, label) = self.of(edges);
         self.label(label);
         value
@@ -84,12 +84,12 @@ impl Draw {
         (self.random.bits() >> 11) as f64 / (1u64 << 53) as f64
     }
 
-    fn signed(&mut self, x: f64) -> f64 {
+    pub fn signed(&mut self, x: f64) -> f64 {
         if self.flag() { -x } else { x }
     }
 
     /// A number from 2^low to below 2^(high + 1), each binary size equally likely; below -1022 subnormal.
-    fn sized(&mut self, low: i64, high: i64) -> f64 {
+    pub fn sized(&mut self, low: i64, high: i64) -> f64 {
         let exponent = self.random.between(low, high);
         let fraction = self.random.bits() >> 12;
         if exponent < -1022 {
@@ -138,7 +138,7 @@ impl Draw {
     }
 
     /// Also numbers whose squares are beside the sources' limits 1e-9 and 1e-12.
-    fn tiny(&mut self) -> f64 {
+    pub fn tiny(&mut self) -> f64 {
         let x = match self.below(5) {
             0 => 0.0,
             1 => self.sized(-1074, -1022),
@@ -150,7 +150,7 @@ impl Draw {
     }
 
     /// A coordinate beside this one, in the domain.
-    fn beside(&mut self, x: f64) -> f64 {
+    pub fn beside(&mut self, x: f64) -> f64 {
         let step = match self.below(3) {
             0 => 0.0,
             1 => self.sized(-60, -10),
@@ -173,7 +173,7 @@ impl Draw {
     }
 
     /// Now and then one of the numbers is put outside the domain.
-    fn spoil(&mut self, numbers: &mut [f64]) {
+    pub fn spoil(&mut self, numbers: &mut [f64]) {
         if !numbers.is_empty() && self.one_in(12) {
             let place = self.below(numbers.len());
             numbers[place] = self.bad(LIMIT);
@@ -219,7 +219,7 @@ impl Draw {
     // ---- lists of points
 
     /// How many points a list has, around each boundary.
-    fn list_count(&mut self) -> usize {
+    pub fn list_count(&mut self) -> usize {
         match self.below(40) {
             0 => self.edge(&[(2_047, "2,047 points"), (2_048, "2,048 points"), (2_049, "2,049 points")]),
             1 => self.below(2_049),
@@ -386,7 +386,7 @@ impl Draw {
         }
     }
 
-    fn labelled(&mut self, label: &'static str, value: usize) -> usize {
+    pub fn labelled(&mut self, label: &'static str, value: usize) -> usize {
         self.label(label);
         value
     }

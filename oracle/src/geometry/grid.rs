@@ -11,7 +11,7 @@ const PARAMETERS: [f64; 4] = [0.0, 0.25, 0.5, 1.0];
 const LIMITS: [f64; 7] = [1e-6, 0.2, 0.5, 0.8, 1.0, 2.0, 4.0];
 
 /// All lists of `count` points.
-fn lists(count: u32) -> impl Iterator<Item = Vec<f64>> {
+pub fn lists(count: u32) -> impl Iterator<Item = Vec<f64>> {
     (0..9usize.pow(count)).map(move |number| (0..2 * count).map(|place| SIDE[number / 3usize.pow(place) % 3]).collect())
 }
 

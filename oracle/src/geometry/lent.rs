@@ -14,6 +14,8 @@ pub enum Purpose {
     Flag,
     /// For a count.
     Count,
+    /// For the kinds of commands, bytes.
+    Kinds,
 }
 
 /// Lent memory, between words that are not lent. All is compared afterwards.
@@ -26,6 +28,19 @@ pub struct Lent {
 /// What stands at a place before a call: a NaN that no call writes, another at each place.
 fn pattern(place: usize) -> u64 {
     0x7ff5_a5a5_0000_0000 | place as u64
+}
+
+/// The same for bytes: no kind of a command.
+fn byte_pattern(place: usize) -> u8 {
+    0x80 | place as u8
+}
+
+/// Bytes as words, the lowest first. A pattern fills up the last word, and one word more, which are not lent.
+fn packed(bytes: &[u8]) -> Vec<u64> {
+    let mut all = bytes.to_vec();
+    let end = (bytes.len() / 8 + 2) * 8;
+    all.extend((bytes.len()..end).map(|place| !byte_pattern(place)));
+    all.chunks(8).map(|eight| u64::from_le_bytes(eight.try_into().expect("eight bytes"))).collect()
 }
 
 impl Lent {
@@ -54,6 +69,19 @@ impl Lent {
     /// Numbers that are lent to be read.
     pub fn numbers(numbers: &[f64]) -> Lent {
         Lent::new(Purpose::Read, numbers.iter().map(|x| x.to_bits()))
+    }
+
+    /// Bytes that are lent to be read.
+    pub fn bytes(bytes: &[u8]) -> Lent {
+        Lent::new(Purpose::Read, packed(bytes).into_iter())
+    }
+
+    /// Room for so many bytes, with these at its front. Bytes that find no room make it longer, so that it equals no
+    /// memory that was lent.
+    pub fn byte_room(count: usize, front: &[u8]) -> Lent {
+        let rest = (front.len()..count).map(byte_pattern);
+        let all: Vec<u8> = front.iter().copied().chain(rest).collect();
+        Lent::new(Purpose::Kinds, packed(&all).into_iter())
     }
 
     /// How many words are lent.

@@ -99,13 +99,15 @@ fn points(count: usize) -> Vec<f64> {
     (0..count).flat_map(|i| [i as f64 * 0.5, (i * i % 97) as f64]).collect()
 }
 
-/// Calls at the edges that a draw seldom meets: fewest and most steps and one more, both depths and one more, most points
-/// and one more, outputs exactly full and one item short.
+/// Calls at the edges that a draw seldom meets: the least numbers, fewest and most steps and one more, both depths and one
+/// more, most points and one more, outputs exactly full and one item short.
 fn edges() -> Vec<Compared> {
     let flat = [0.0, 0.0, 300.0, 500.0, 700.0, -400.0, 1_000.0, 0.0];
     let steep = [1_000.0, 0.0, 30.0, 300.0, 500.0, 10.0, 700.0, -400.0, 20.0, -0.0, 0.0, -0.0];
     let length = bezier::polygon_length(&steep);
+    let least = f64::from_bits(1);
     vec![
+        bezier::midpoint_of(&[least, -least, -0.0, least, -least, -0.0]),
         bezier::steps_of(&steep, 1, 6),
         bezier::steps_of(&steep, 2_048, 12_288),
         bezier::steps_of(&steep, 2_048, 12_282),

@@ -3,11 +3,16 @@
 //! A layer is a list of functions, each of which draws an input, calls both sides and says what each left. `frame` counts
 //! and compares. Another layer is another such list.
 pub mod arc;
+pub mod bench_simplify;
 pub mod bezier;
 pub mod calls;
 pub mod draw;
 pub mod frame;
 pub mod grid;
+pub mod grid_simplify;
 pub mod lent;
 pub mod list;
+pub mod list_simplify;
+pub mod shapes;
+pub mod simplify;
 pub mod table;

@@ -11,12 +11,22 @@ pub fn refusal(rows: &[Row]) -> u32 {
 
 /// Row 1: a slice of `count` numbers is not whole items of `width` numbers.
 pub fn not_whole(count: usize, width: usize) -> Row {
-    (1, count % width != 0)
+    (1, !count.is_multiple_of(width))
 }
 
 /// Row 2: more points than the domain has.
 pub fn too_many_points(points: usize) -> Row {
     (2, points > 2_048)
+}
+
+/// Row 1: the numbers are not nine for each kind.
+pub fn not_commands(kinds: usize, numbers: usize) -> Row {
+    (1, numbers != 9 * kinds)
+}
+
+/// Row 2: more commands than the domain has.
+pub fn too_many_commands(commands: usize) -> Row {
+    (2, commands > 800)
 }
 
 /// Row 2: a step count that is 0 or above the domain's.
@@ -27,6 +37,11 @@ pub fn bad_steps(steps: usize) -> Row {
 /// Row 2: a depth above the domain's.
 pub fn too_deep(depth: usize) -> Row {
     (2, depth > 10)
+}
+
+/// Row 4: commands that are not well formed.
+pub fn malformed(all_formed: bool) -> Row {
+    (4, !all_formed)
 }
 
 /// Row 5: a number outside the domain.
@@ -52,6 +67,24 @@ fn in_range(x: f64, least: f64, most: f64) -> bool {
 /// Ends and controls: finite, at most 1,000,000 from zero.
 pub fn coordinates(numbers: &[f64]) -> bool {
     numbers.iter().all(|x| in_range(*x, -1_000_000.0, 1_000_000.0))
+}
+
+/// A command's kind is known, and numbers that it does not use are +0, by their pattern.
+pub fn formed(kind: u8, numbers: &[f64]) -> bool {
+    match kind {
+        0 | 1 => numbers[3..9].iter().all(|x| x.to_bits() == 0),
+        2 | 3 => true,
+        _ => false,
+    }
+}
+
+/// A command's end is in the domain, and so are a Bezier's controls; an Arc's offset and normal are finite.
+pub fn command(kind: u8, numbers: &[f64]) -> bool {
+    match kind {
+        2 => coordinates(&numbers[..3]) && numbers[3..].iter().all(|x| x.is_finite()),
+        3 => coordinates(numbers),
+        _ => coordinates(&numbers[..3]),
+    }
 }
 
 /// A centre handed in: at most 1e12 from zero.

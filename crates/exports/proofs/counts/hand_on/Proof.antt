@@ -1,8 +1,8 @@
--- `exports::beziers::hand_on` meets its contract: by the answer's case. Assumes nothing.
+-- `exports::counts::hand_on` meets its contract: by the answer's case. Assumes nothing.
 use Rattle.exports.specs.Plain.{refusedBy, countOr}
 use borrow.Author.Needs.{needs}
-use Rattle.exports.proofs.beziers.hand_on.Statement.{statement}
-use Rattle.exports.proofs.beziers.hand_on.Tie as tie
+use Rattle.exports.proofs.counts.hand_on.Statement.{statement}
+use Rattle.exports.proofs.counts.hand_on.Tie as tie
 
 enum-known-a : tie.Need-enum-known-a
 enum-known-a c = search needs
