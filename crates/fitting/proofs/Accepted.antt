@@ -1,24 +1,24 @@
 -- The rows of the public calls behind those of their points, and what an accepted call answers and leaves. Assumes nothing.
-use Prim.Native.Nat.{ℕ, _+_, _-_, _*_, _/_, _≤_, _<_}
+use Prim.Native.Nat.{ℕ, _+_, _-_, _/_, _≤_, _<_}
 use mathlib.Core.Path.{_≡_, refl, sym, ap, _∙_, subst}
 use mathlib.Core.Logic.{⊎-elim}
-use mathlib.Core.Bool.{Bool, true, false, not, _&&_, _||_}
+use mathlib.Core.Bool.{Bool, true, false, not, _&&_}
 use mathlib.Core.List.{List, [], _++_}
 use native.Mathlib.Omega.{arith}
-use borrow.Author.Tests.{ltb-true, ltb-false, lt-ltb, le-ltb, le-leb, lt-leb, eqb-true, not-false}
+use borrow.Author.Tests.{ltb-true, ltb-false, lt-ltb, le-ltb, le-leb, lt-leb, not-false}
 use lib.ListN.{length}
-use lib.Dec.{ltb, leb, eqb}
-use lib.Ieee.{Float, nan, inf, fin, isNan, lt, le, eq, up, down, below, level, ofBits}
+use lib.Dec.{ltb, leb}
+use lib.Ieee.{Float, below}
 use Rattle.number.specs.Ops.{_≺_, +0}
-use Rattle.number.proofs.Order.{either, clash, lt-or-ge, lt-gap, lt-asym}
+use Rattle.number.proofs.Order.{lt-or-ge}
 use Rattle.types.specs.declared.types.Point.{Point}
 use Rattle.types.specs.declared.types.Command.{Command}
 use Rattle.types.specs.declared.types.Answer.{Answer}
 use Rattle.types.specs.declared.types.Answer.the-variants.{Written}
 use Rattle.types.specs.Commands.{WroteCommands}
-use Rattle.types.specs.Domain.{within, tolerance, thousandth}
 use Rattle.types.specs.Lent.{pointAt, flat, numbersOf}
 use Rattle.types.specs.Outcome.{Row, refusal, unless}
+use Rattle.types.proofs.Tolerance.{tolerance-positive}
 use Rattle.types.proofs.Rows.{row-passes, row-passed, refusal-front, unless-refused, unless-gives}
 use Rattle.types.proofs.Outcomes.{commands-given, nine}
 use Rattle.types.proofs.Flat.{flat-length}
@@ -53,60 +53,6 @@ module _ (s : List Float) (ts : List Row) (r : ℕ) (e : r ≡ refusal (pointsRo
   pub few-points : r ≡ 0 → length s / 3 ≤ 2048
   unfolding pointsRows
   few-points z = let a = row-passed 0 _ _ (sym z ∙ e) in let b = row-passed 1 _ _ (a .1) in ltb-false 2048 (length s / 3) (b .0)
-
--- ---- a tolerance of the domain is above zero
-and-left : (p q : Bool) → (p && q) ≡ true → p ≡ true
-and-left true q h = refl
-and-left false q h = h
-
-and-right : (p q : Bool) → (p && q) ≡ true → q ≡ true
-and-right true q h = h
-and-right false q h = clash h
-
-level-below : (s t : Bool) (a b : ℕ) → level s a t b ≡ true → below t b s a ≡ false
-level-below false false a b e = let q = eqb-true a b (and-left (eqb a b) _ e) in le-ltb b a (omega arith)
-level-below false true a b e =
-    let q = eqb-true a b (and-left (eqb a b) _ e) in
-    let z = eqb-true a 0 (and-right (eqb a b) _ e) in le-ltb 0 (b + a) (omega arith)
-level-below true false a b e = refl
-level-below true true a b e = let q = eqb-true a b (and-left (eqb a b) _ e) in le-ltb a b (omega arith)
-
-eq-below : (x y : Float) → eq x y ≡ true → lt y x ≡ false
-unfolding lt eq
-eq-below nan y e = clash e
-eq-below (inf s) nan e = clash e
-eq-below (inf true) (inf true) e = refl
-eq-below (inf true) (inf false) e = clash e
-eq-below (inf false) (inf true) e = clash e
-eq-below (inf false) (inf false) e = refl
-eq-below (inf s) (fin t n d) e = clash e
-eq-below (fin s m e′) nan e = clash e
-eq-below (fin s m e′) (inf t) e = clash e
-eq-below (fin s m e′) (fin t n d) e = level-below s t (m * up e′ * down d) (n * up d * down e′) e
-
-le-below : (x y : Float) → le x y ≡ true → lt y x ≡ false
-unfolding le
-le-below x y e = ⊎-elim (lt-asym x y) (λ f. eq-below x y (subst (λ (b : Bool). (b || eq x y) ≡ true) f e)) (either (lt x y))
-
-le-right : (x y : Float) → le x y ≡ true → isNan y ≡ false
-unfolding le lt eq isNan
-le-right nan y e = clash e
-le-right (inf s) nan e = clash e
-le-right (inf s) (inf t) e = refl
-le-right (inf s) (fin t n d) e = refl
-le-right (fin s m e′) nan e = clash e
-le-right (fin s m e′) (inf t) e = refl
-le-right (fin s m e′) (fin t n d) e = refl
-
-above : (+0 ≺ thousandth) ≡ true
-unfolding lt ofBits
-above = refl
-
-pub tolerance-positive : (t : Float) → tolerance t ≡ true → (+0 ≺ t) ≡ true
-unfolding within
-tolerance-positive t h =
-    let l = and-left (le thousandth t) _ h in
-    ⊎-elim (λ p. p) (λ p. clash (sym (le-below thousandth t l) ∙ p)) (lt-gap +0 t thousandth (le-right thousandth t l) above)
 
 -- ---- what passed
 pub line-accepted : (s : List Float) (lo hi r : ℕ) → r ≡ refusal (lineRows s lo hi) → r ≡ 0 → (lo < length s / 3) × (hi < length s / 3)

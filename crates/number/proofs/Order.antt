@@ -1,13 +1,13 @@
--- The order `lt` of floats: it is transitive, and what is not NaN lies on one side or the other of each gap. Assumes nothing.
+-- The order of floats: `lt` is transitive, what is not NaN lies on one side or the other of each gap, and `le` excludes `lt` the other way. Assumes nothing.
 use Prim.Native.Nat.{ℕ, _+_, _*_, _≤_, _<_}
-use mathlib.Core.Path.{_≡_, refl, sym, _∙_}
+use mathlib.Core.Path.{_≡_, refl, sym, subst, _∙_}
 use mathlib.Core.Logic.{_⊎_, inl, inr, ⊎-elim}
-use mathlib.Core.Bool.{Bool, true, false, not}
+use mathlib.Core.Bool.{Bool, true, false, not, _&&_, _||_}
 use native.Mathlib.Omega.{arith}
 use native.Mathlib.Nat.{mul-pos, eq-zero-or-pos, zero-mul}
-use borrow.Author.Tests.{ltb-true, ltb-false, lt-ltb, le-ltb}
-use lib.Dec.{ltb}
-use lib.Ieee.{Float, nan, inf, fin, lt, isNan, below, up, down}
+use borrow.Author.Tests.{ltb-true, ltb-false, lt-ltb, le-ltb, eqb-true}
+use lib.Dec.{ltb, eqb}
+use lib.Ieee.{Float, nan, inf, fin, lt, le, eq, isNan, below, level, up, down}
 use lib.Ieee.Fits.{down-pos}
 use lib.Ieee.Positive.{through, first-pos}
 
@@ -135,3 +135,48 @@ lt-asym (fin s m e′) (fin t n d) e = below-asym s t (m * up e′ * down d) (n 
 
 pub lt-trans : (x y z : Float) → lt x y ≡ true → lt y z ≡ true → lt x z ≡ true
 lt-trans x y z p q = ⊎-elim (λ r. clash (sym (lt-asym x y p) ∙ r)) (λ r. r) (lt-gap y x z (lt-left x y p) q)
+
+-- ---- both of two flags
+pub and-left : (p q : Bool) → (p && q) ≡ true → p ≡ true
+and-left true q h = refl
+and-left false q h = h
+
+pub and-right : (p q : Bool) → (p && q) ≡ true → q ≡ true
+and-right true q h = h
+and-right false q h = clash h
+
+-- ---- `le`: what is at most another is not above it, and neither is a NaN
+level-below : (s t : Bool) (a b : ℕ) → level s a t b ≡ true → below t b s a ≡ false
+level-below false false a b e = let q = eqb-true a b (and-left (eqb a b) _ e) in le-ltb b a (omega arith)
+level-below false true a b e =
+    let q = eqb-true a b (and-left (eqb a b) _ e) in
+    let z = eqb-true a 0 (and-right (eqb a b) _ e) in le-ltb 0 (b + a) (omega arith)
+level-below true false a b e = refl
+level-below true true a b e = let q = eqb-true a b (and-left (eqb a b) _ e) in le-ltb a b (omega arith)
+
+eq-below : (x y : Float) → eq x y ≡ true → lt y x ≡ false
+unfolding lt eq
+eq-below nan y e = clash e
+eq-below (inf s) nan e = clash e
+eq-below (inf true) (inf true) e = refl
+eq-below (inf true) (inf false) e = clash e
+eq-below (inf false) (inf true) e = clash e
+eq-below (inf false) (inf false) e = refl
+eq-below (inf s) (fin t n d) e = clash e
+eq-below (fin s m e′) nan e = clash e
+eq-below (fin s m e′) (inf t) e = clash e
+eq-below (fin s m e′) (fin t n d) e = level-below s t (m * up e′ * down d) (n * up d * down e′) e
+
+pub le-below : (x y : Float) → le x y ≡ true → lt y x ≡ false
+unfolding le
+le-below x y e = ⊎-elim (lt-asym x y) (λ f. eq-below x y (subst (λ (b : Bool). (b || eq x y) ≡ true) f e)) (either (lt x y))
+
+pub le-right : (x y : Float) → le x y ≡ true → isNan y ≡ false
+unfolding le lt eq isNan
+le-right nan y e = clash e
+le-right (inf s) nan e = clash e
+le-right (inf s) (inf t) e = refl
+le-right (inf s) (fin t n d) e = refl
+le-right (fin s m e′) nan e = clash e
+le-right (fin s m e′) (inf t) e = refl
+le-right (fin s m e′) (fin t n d) e = refl

@@ -15,7 +15,7 @@ pub struct Wide {
 }
 
 // q * q, for a q up to 2^53.
-pub fn square(q: u64) -> Wide
+fn square(q: u64) -> Wide
     requires { ⌜ q ≤ 2 ^ 53 ⌝ }
     ensures { λ r. ⌜ Squared q (r .hi) (r .lo) ⌝ }
 {
@@ -28,7 +28,7 @@ pub fn square(q: u64) -> Wide
 }
 
 // Whether m * 2^52 is above q * q + q: the root of it is nearer to q + 1 than to q.
-pub fn over(q: u64, m: u64) -> bool
+fn over(q: u64, m: u64) -> bool
     requires { ⌜ q ≤ 2 ^ 53 ⌝ }
     ensures { λ r. ⌜ (r ≡ true → q * q + q < m * 2 ^ 52) × (r ≡ false → m * 2 ^ 52 ≤ q * q + q) ⌝ }
 {
@@ -38,7 +38,7 @@ pub fn over(q: u64, m: u64) -> bool
 }
 
 // Whether m * 2^52 is at most q * q - q: the root of it is nearer to q - 1 than to q.
-pub fn under(q: u64, m: u64) -> bool
+fn under(q: u64, m: u64) -> bool
     requires { ⌜ (q ≤ 2 ^ 53) × (m < 2 ^ 54) ⌝ }
     ensures { λ r. ⌜ (r ≡ true → m * 2 ^ 52 + q ≤ q * q) × (r ≡ false → q * q < m * 2 ^ 52 + q) ⌝ }
 {
@@ -48,7 +48,7 @@ pub fn under(q: u64, m: u64) -> bool
 }
 
 // The whole number nearest to the root of m * 2^52, from any guess q: a step at a time.
-pub fn walk(q: u64, m: u64) -> u64
+fn walk(q: u64, m: u64) -> u64
     requires { ⌜ (2 ^ 52 ≤ q) × (q ≤ 2 ^ 53) × (2 ^ 52 ≤ m) × (m < 2 ^ 54) ⌝ }
     ensures { λ r. ⌜ Near (m * 2 ^ 52) r ⌝ }
 {
@@ -63,7 +63,7 @@ pub fn walk(q: u64, m: u64) -> u64
 }
 
 // Whether q is the whole number nearest to the root of m * 2^52. The compiler works the square out once.
-pub fn is_near(q: u64, m: u64) -> bool
+fn is_near(q: u64, m: u64) -> bool
     requires { ⌜ (2 ^ 52 ≤ q) × (q ≤ 2 ^ 53) × (2 ^ 52 ≤ m) × (m < 2 ^ 54) ⌝ }
     ensures { λ r. ⌜ (r ≡ true → Near (m * 2 ^ 52) q) ⌝ }
 {
@@ -78,7 +78,7 @@ pub fn is_near(q: u64, m: u64) -> bool
 
 // The whole number nearest to the root of m * 2^52, from any guess r at the root of m / 2^52, which lies in 1..2. Most
 // guesses are right, and nothing waits for the tests. A guess outside of 1..2 counts as 2.
-pub fn mend(r: f64, m: u64) -> u64
+fn mend(r: f64, m: u64) -> u64
     requires { ⌜ (2 ^ 52 ≤ m) × (m < 2 ^ 54) ⌝ }
     ensures { λ q. ⌜ Near (m * 2 ^ 52) q ⌝ }
 {
@@ -101,7 +101,7 @@ pub struct Scaled {
 }
 
 // m * 2^e again, with m of 53 binary digits.
-pub fn normal(m: u64, e: u64) -> Scaled
+fn normal(m: u64, e: u64) -> Scaled
     requires { ⌜ (0 < m) × (m < 2 ^ 53) × (100 ≤ e) × (e ≤ 4000) ⌝ }
     ensures { λ r. ⌜ Moved m e (r .m) (r .e) ⌝ }
 {
@@ -117,7 +117,7 @@ pub fn normal(m: u64, e: u64) -> Scaled
 // The pattern of the root of m * 2^e, which counts squares of the smallest `f64`. `w` has m and e as a pattern has its
 // fraction and its exponent: m without its leading digit, and e above it. An e goes farther down than a pattern's exponent,
 // so that a number below 2^-1022 takes the same way.
-pub fn root_bits(w: u64) -> u64
+fn root_bits(w: u64) -> u64
     requires { ⌜ (52 * 2 ^ 52 ≤ w) × (w < 4001 * 2 ^ 52) ⌝ }
     ensures { λ r. ⌜ (ofBits binary64 r ≡ rootFrom ((w % 2 ^ 52 + 2 ^ 52) * 2 ^ (w / 2 ^ 52))) × (r ≤ 0x7ff0_0000_0000_0000) ⌝ }
 {
@@ -133,7 +133,7 @@ pub fn root_bits(w: u64) -> u64
 }
 
 // The square root of a finite x that has no minus sign, correctly rounded.
-pub fn sqrt_finite(x: f64) -> f64
+fn sqrt_finite(x: f64) -> f64
     requires { ⌜ T (plain x) ⌝ }
     ensures { λ r. ⌜ r ≡ rootOf x ⌝ }
 {

@@ -240,7 +240,7 @@ fn mark_pairs(points: &[f64], limit: f64, lo: usize, hi: usize, keep: &mut [bool
 }
 
 // Sets the flag of each triple that is kept strictly between lo and hi.
-pub fn mark(points: &[f64], limit: f64, lo: usize, hi: usize, keep: &mut [bool])
+fn mark(points: &[f64], limit: f64, lo: usize, hi: usize, keep: &mut [bool])
     requires { ⌜ ((limit ≺ +0) ≡ false) × ((lo ≤ hi) × (3 * hi + 2 < length (now points)) × (hi < length (now keep))) ⌝ }
     ensures { λ _. ⌜ now (keep .exit) ≡ marked (keptIn lineSq limit (pointAt (now (points .entry))) lo hi) (now (keep .entry)) ⌝ }
 {

@@ -7,5 +7,6 @@ pub mod Formed
 pub mod Placed
 pub mod Rows
 pub mod Outcomes
+pub mod Tolerance
 pub mod Walk
 pub mod Zero
