@@ -3,3 +3,4 @@ pub mod Commands
 pub mod Written
 pub mod Laws
 pub mod Calls
+pub mod Worked

@@ -1,0 +1,69 @@
+-- Document 01's worked laps that carry its mark, as far as they speak of thinning and fitting: one table. Definitions only; proofs/Worked.antt shows that it holds.
+use Prim.Native.Nat.{ℕ}
+use mathlib.Core.Path.{_≡_}
+use mathlib.Core.Bool.{false}
+use mathlib.Core.List.{List, [], _∷_}
+use lib.Ieee.{Float, binary64, round, neg}
+use Rattle.number.specs.Ops.{+0, one}
+use Rattle.number.specs.Root.{rootOf}
+use Rattle.types.specs.declared.types.Point3D.{Point3D}
+use Rattle.types.specs.declared.types.Command.{Command}
+use Rattle.types.specs.declared.types.Command.the-variants.{Line, Arc}
+use Rattle.types.specs.Domain.{thousandth}
+use Rattle.types.specs.Outcome.{Outcome, refused, gives}
+use Rattle.simplify.specs.Simplify.{simplifyPolyline3d}
+use Rattle.fitting.specs.Calls.{primitivesCall}
+
+-- n/d as a float, and a whole number
+abbrev pub share : ℕ → ℕ → Float
+share n d = round binary64 false n d
+
+abbrev pub whole : ℕ → Float
+whole n = share n 1
+
+-- points as they are lent, and as they are given back
+abbrev pub lent : List (ℕ × ℕ) → List Float
+lent [] = []
+lent ((x, y) ∷ ps) = whole x ∷ whole y ∷ +0 ∷ lent ps
+
+abbrev pub point : ℕ → ℕ → Point3D
+point x y = record { x = whole x; y = whole y; z = +0 }
+
+-- a list is thinned, or fitted, to outputs with room for three
+abbrev pub thin : List (ℕ × ℕ) → Float → Outcome (List Point3D)
+thin ps t = simplifyPolyline3d (lent ps) t 9
+
+abbrev pub fit : List (ℕ × ℕ) → Float → Outcome (List Command)
+fit ps t = primitivesCall (lent ps) t 3 27
+
+-- the recorded points of the cases
+abbrev pub right-angle : List (ℕ × ℕ)
+right-angle = (0, 0) ∷ (10, 0) ∷ (10, 10) ∷ []
+
+abbrev pub bend : List (ℕ × ℕ)
+bend = (3, 4) ∷ (4, 3) ∷ (5, 0) ∷ []
+
+abbrev pub twice : List (ℕ × ℕ)
+twice = (7, 7) ∷ (7, 7) ∷ []
+
+-- the centre of the bend's arc, from its first point, and the normal of a clockwise arc
+abbrev pub from-start : Point3D
+from-start = record { x = neg (whole 3); y = neg (whole 4); z = +0 }
+
+abbrev pub down : Point3D
+down = record { x = +0; y = +0; z = neg one }
+
+-- the table, in the order of document 01
+pub record WorkedLaps : Type 0 where
+  pub root-of-25 : rootOf (whole 25) ≡ whole 5
+  pub no-points : fit [] (share 1 2) ≡ gives []
+  pub one-point : fit ((3, 4) ∷ []) (share 1 2) ≡ gives []
+  pub two-equal-points : fit twice (share 1 2) ≡ gives (Line (point 7 7) ∷ [])
+  pub straight : thin ((0, 0) ∷ (10, 0) ∷ (20, 0) ∷ []) (share 1 2) ≡ gives (point 0 0 ∷ point 20 0 ∷ [])
+  pub there-and-back : thin ((0, 0) ∷ (100, 0) ∷ (50, 0) ∷ []) (share 1 2) ≡ gives (point 0 0 ∷ point 50 0 ∷ [])
+  pub sharp : fit right-angle (share 1 2) ≡ gives (Line (point 10 0) ∷ Line (point 10 10) ∷ [])
+  pub bend-as-a-line : fit bend (share 45 100) ≡ gives (Line (point 5 0) ∷ [])
+  pub bend-as-an-arc : fit bend (share 3 10) ≡ gives (Arc (point 5 0) from-start down ∷ [])
+  pub bend-as-two-lines : fit bend (share 25 100) ≡ gives (Line (point 4 3) ∷ Line (point 5 0) ∷ [])
+  pub least-tolerance : fit twice thousandth ≡ gives (Line (point 7 7) ∷ [])
+  pub no-tolerance : fit twice +0 ≡ refused 6
