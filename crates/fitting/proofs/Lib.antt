@@ -4,3 +4,4 @@ pub mod Pieces
 pub mod Writing
 pub mod Accepted
 pub mod Worked
+pub mod Chain

@@ -1,13 +1,16 @@
 -- The commands of the pieces of a fit. Definitions only.
-use Prim.Native.Nat.{ℕ}
+use Prim.Native.Nat.{ℕ, _-_, _/_}
 use mathlib.Core.Bool.{Bool, true, false}
 use mathlib.Core.List.{List, map}
+use lib.ListN.{length}
 use lib.Ieee.{Float, neg}
-use Rattle.number.specs.Ops.{_⊖_, +0, one}
+use Rattle.number.specs.Ops.{_⊖_, _⊗_, +0, one}
 use Rattle.types.specs.declared.types.Point3D.{Point3D}
 use Rattle.types.specs.declared.types.Command.{Command}
 use Rattle.types.specs.declared.types.Command.the-variants.{Line, Arc}
-use Rattle.simplify.specs.Measure.{Measure}
+use Rattle.types.specs.Lent.{pointAt, triple, flat}
+use Rattle.simplify.specs.Measure.{Measure, lineSq}
+use Rattle.simplify.specs.Thin.{thinnedPoints}
 use Rattle.fitting.specs.Pieces.{Shape, line, arc, Piece, piecesIn}
 
 -- the normal of an arc: (0, 0, −1) clockwise, else (0, 0, 1)
@@ -26,3 +29,11 @@ pieceCommand at p = shaped (at (p .from)) (at (p .to)) (p .shape)
 -- one command for each piece, in order
 unfoldable pub fitIn : Measure Point3D → Float → (ℕ → Point3D) → ℕ → ℕ → List Command
 fitIn m tol at lo hi = map (pieceCommand at) (piecesIn m tol at lo hi)
+
+-- a chain of points, lent as the triples s, thinned by document 01's measure: what is kept, laid out as triples again
+abbrev pub keptOf : Float → List Float → List Point3D
+keptOf tol s = thinnedPoints lineSq (tol ⊗ tol) (pointAt s) (length s / 3)
+
+-- and its fit from the first kept point to the last: none where fewer than two are kept
+unfoldable pub chainFit : Float → List Float → List Command
+chainFit tol s = fitIn lineSq tol (pointAt (flat triple (keptOf tol s))) 0 (length (keptOf tol s) - 1)

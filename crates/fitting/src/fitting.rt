@@ -3,6 +3,7 @@ use circle::circle::Deviation;
 use circle::circle::check_points;
 use number::root::sqrt;
 use simplify::simplify::farthest_between;
+use simplify::simplify::thin_points;
 use trial::trial::Trial;
 use trial::trial::arc_deviation;
 use trial::trial::try_arcs;
@@ -16,7 +17,7 @@ use types::types::Point;
 use types::types::Point3D;
 ghost use mathlib.Core.Path.{_≡_};
 ghost use mathlib.Core.Bool.{true, not, _&&_};
-ghost use Prim.Native.Nat.{_+_, _-_, _*_, _<_, _≤_};
+ghost use Prim.Native.Nat.{_+_, _-_, _*_, _/_, _<_, _≤_};
 ghost use lib.ListN.{length};
 ghost use lib.Dec.{ltb};
 ghost use Rattle.number.specs.Ops.{_≺_, +0};
@@ -25,7 +26,7 @@ ghost use Rattle.types.specs.Outcome.{refusal};
 ghost use Rattle.types.specs.Commands.{WroteCommands};
 ghost use Rattle.simplify.specs.Measure.{lineSq};
 ghost use Rattle.fitting.specs.Pieces.{lineDeviation, arc};
-ghost use Rattle.fitting.specs.Commands.{normalOf, shaped, fitIn};
+ghost use Rattle.fitting.specs.Commands.{normalOf, shaped, fitIn, chainFit};
 ghost use Rattle.fitting.specs.Written.{FitPlaced};
 ghost use Rattle.fitting.specs.Calls.{lineRows, lineCall, lineAnswer, arcRows, arcCall, arcAnswer, fitRows, fitCall, primitivesCall};
 
@@ -120,6 +121,26 @@ pub fn fit_range(
             n + m
         }
     }
+}
+
+// Fits a chain: it is thinned, and what is kept is fitted. A course of at most 800 commands has no longer chain than 801 points.
+pub fn flush_chain(
+    chain: &[f64],
+    tolerance: f64,
+    kinds: &mut [u8],
+    nums: &mut [f64],
+    at: usize,
+) -> usize
+    requires { ⌜ ((+0 ≺ tolerance) ≡ true) × ((length (now chain) / 3 ≤ 801) × (at + (length (now chain) / 3 - 1) ≤ length (now kinds)) × (9 * (at + (length (now chain) / 3 - 1)) ≤ length (now nums))) ⌝ }
+    ensures { λ r. ⌜ FitPlaced (chainFit tolerance (now (chain .entry))) at r (now (kinds .entry)) (now (kinds .exit)) (now (nums .entry)) (now (nums .exit)) ⌝ }
+{
+    let n = chain.len() / 3;
+    if n < 2 {
+        return 0;
+    }
+    let mut kept = [0.0; 2403];
+    let k = thin_points(chain, n, tolerance * tolerance, &mut kept);
+    fit_range(&kept[..3 * k], tolerance, 0, k - 1, kinds, nums, at)
 }
 
 // The number of the first row that a line's deviation falls under, or 0.

@@ -1,0 +1,72 @@
+-- A chain thinned into a buffer: how many points are kept, that they stand at its front, and what its fit leaves. Assumes nothing.
+use Prim.Native.Nat.{ℕ, _+_, _-_, _*_, _/_, _≤_, _<_}
+use mathlib.Core.Path.{_≡_, refl, ap, _∙_, subst}
+use mathlib.Core.List.{List, [], _∷_, _++_}
+use native.Mathlib.Omega.{arith}
+use lib.ListN.{length, take, drop, length-append, length-map}
+use lib.Seq.{length-sets}
+use lib.Ieee.{Float}
+use Rattle.number.specs.Ops.{_⊗_}
+use Rattle.number.proofs.Unsigned.{square-not-negative}
+use Rattle.types.specs.Lent.{pointAt, triple, flat}
+use Rattle.types.proofs.Stores.{sets-front}
+use Rattle.types.proofs.Flat.{flat-length}
+use Rattle.simplify.specs.Measure.{lineSq}
+use Rattle.simplify.specs.Thin.{keptIn, thinned, thinnedPoints}
+use Rattle.simplify.specs.Flags.{Copied}
+use Rattle.simplify.proofs.Thinning.{ends-kept, kept-at-most}
+use Rattle.fitting.specs.Pieces.{piecesBy}
+use Rattle.fitting.specs.Commands.{fitIn, keptOf, chainFit}
+use Rattle.fitting.specs.Written.{FitPlaced}
+
+take-front : {A : Type 0} (vs ws : List A) → take (length vs) (vs ++ ws) ≡ vs
+take-front [] ws = refl
+take-front (v ∷ vs) ws = ap (λ (l : List _). v ∷ l) (take-front vs ws)
+
+module _ (tol : Float) (s : List Float) where
+  kept-length : length (keptOf tol s) ≡ length (thinned lineSq (tol ⊗ tol) (pointAt s) (length s / 3))
+  unfolding thinnedPoints
+  kept-length = length-map (thinned lineSq (tol ⊗ tol) (pointAt s) (length s / 3)) (pointAt s)
+
+  pub kept-few : length (keptOf tol s) ≤ length s / 3
+  kept-few = let l = kept-at-most lineSq (tol ⊗ tol) (square-not-negative tol) (pointAt s) (length s / 3) in omega (arith, kept-length)
+
+  -- both ends of a chain with a step
+  pub kept-some : 2 ≤ length s / 3 → 2 ≤ length (keptOf tol s)
+  kept-some h =
+      let ks = keptIn lineSq (tol ⊗ tol) (pointAt s) 0 (length s / 3 - 1) in
+      let e = ap length (ends-kept lineSq (tol ⊗ tol) (square-not-negative tol) (pointAt s) (length s / 3) h) in
+      let l = length-append ks ((length s / 3 - 1) ∷ []) in omega (arith, kept-length)
+
+  -- the k points kept stand at the front of the buffer
+  module _ (out out′ : List Float) (k : ℕ) (c : Copied triple (keptOf tol s) out out′ k) (room : 3 * (length s / 3) ≤ length out) where
+    wide : length (flat triple (keptOf tol s)) ≡ 3 * k
+    wide = let e = c .count in omega (arith, flat-length triple 3 (λ p. refl) (keptOf tol s))
+
+    pub kept-fits : 3 * k ≤ length out′
+    kept-fits = let e = c .count in let f = kept-few in let l = ap length (c .items) ∙ length-sets out 0 (flat triple (keptOf tol s)) in omega arith
+
+    pub kept-front : take (3 * k) out′ ≡ flat triple (keptOf tol s)
+    kept-front =
+        let e = c .count in
+        let f = kept-few in
+        let vs = flat triple (keptOf tol s) in
+        subst (λ (j : ℕ). take j out′ ≡ vs) wide (ap (take (length vs)) (c .items ∙ sets-front vs out (omega (arith, wide))) ∙ take-front vs (drop (length vs) out))
+
+    pub kept-wide : length (take (3 * k) out′) ≡ 3 * k
+    kept-wide = ap length kept-front ∙ wide
+
+    -- what the fit of the buffer's front leaves is the chain's
+    pub fitted-chain : (at n : ℕ) (ks ks′ : List ℕ) (ns ns′ : List Float) → FitPlaced (fitIn lineSq tol (pointAt (take (3 * k) out′)) 0 (k - 1)) at n ks ks′ ns ns′
+        → FitPlaced (chainFit tol s) at n ks ks′ ns ns′
+    unfolding chainFit
+    fitted-chain at n ks ks′ ns ns′ p =
+        subst (λ (j : ℕ). FitPlaced (fitIn lineSq tol (pointAt (flat triple (keptOf tol s))) 0 (j - 1)) at n ks ks′ ns ns′) (c .count)
+        (subst (λ (l : List Float). FitPlaced (fitIn lineSq tol (pointAt l) 0 (k - 1)) at n ks ks′ ns ns′) kept-front p)
+
+  -- a chain with no step
+  pub no-chain : length s / 3 < 2 → (at : ℕ) (ks : List ℕ) (ns : List Float) → FitPlaced (chainFit tol s) at 0 ks ks ns ns
+  unfolding chainFit fitIn piecesBy flat
+  no-chain h at ks ns =
+      let f = kept-few in
+      let d : length (keptOf tol s) - 1 ≡ 0 = omega arith in rw d (record { count = refl; kinds = refl; numbers = refl })
