@@ -30,10 +30,10 @@ pieceCommand at p = shaped (at (p .from)) (at (p .to)) (p .shape)
 unfoldable pub fitIn : Measure Point3D → Float → (ℕ → Point3D) → ℕ → ℕ → List Command
 fitIn m tol at lo hi = map (pieceCommand at) (piecesIn m tol at lo hi)
 
--- a chain of points, lent as the triples s, thinned by document 01's measure: what is kept, laid out as triples again
+-- what thinning keeps of a chain of points, lent as the triples s
 abbrev pub keptOf : Float → List Float → List Point3D
 keptOf tol s = thinnedPoints lineSq (tol ⊗ tol) (pointAt s) (length s / 3)
 
--- and its fit from the first kept point to the last: none where fewer than two are kept
+-- the fit of a chain: what is kept, laid out as triples again, from its first point to its last; nothing where fewer than two are kept
 unfoldable pub chainFit : Float → List Float → List Command
 chainFit tol s = fitIn lineSq tol (pointAt (flat triple (keptOf tol s))) 0 (length (keptOf tol s) - 1)
