@@ -3,3 +3,4 @@ pub mod Rows
 pub mod Subdivision
 pub mod Count
 pub mod Chords
+pub mod Ends

@@ -25,6 +25,10 @@ pub record Step : Type 0 where
 abbrev pub six : Step → List Float
 six s = triple (s .from) ++ triple (s .to)
 
+-- where it ends, three numbers
+abbrev pub stepEnd : Step → List Float
+stepEnd s = triple (s .to)
+
 unfoldable pub stepAt : Point3D → Point3D → Point3D → Point3D → ℕ → ℕ → Step
 unfolding share pointOn3
 stepAt p0 c1 c2 p1 n i = record { from = pointOn3 p0 c1 c2 p1 (share n i); to = pointOn3 p0 c1 c2 p1 (share n (i + 1)) }

@@ -31,7 +31,7 @@ ghost use Rattle.types.specs.Lent.{pairAt, pair, triple, flat};
 ghost use Rattle.types.specs.Outcome.{refusal, Wrote, Placed};
 ghost use Rattle.bezier.specs.Curve.{weightsAt, mixed, pointOn, pointOn3, leftPart, rightPart};
 ghost use Rattle.bezier.specs.Flatten.{chordOf, offChord, isFlat, subdivided, minus, normSq, perpendicularSq, flatnessSq, flattened};
-ghost use Rattle.bezier.specs.Linearize.{share, six, steps, firstThird, lastThird, stepsNeeded, paramSteps};
+ghost use Rattle.bezier.specs.Linearize.{share, six, stepEnd, steps, firstThird, lastThird, stepsNeeded, paramSteps};
 ghost use Rattle.bezier.specs.FitCubic.{Chords, noSums, addPoint, sums, solved, fitted};
 ghost use Rattle.bezier.specs.Calls.{curveIn, curve3In, pointCall, pointAnswer, splitCall, splitAnswer, mostSteps, flatCall, flatAnswer, linearizeRows, linearizeCall, paramFirstRows, paramRows, paramCall, adaptiveRows, adaptiveCall, toleranceOf, segmentRows, segmentCall, fitRows, fitCall, fitAnswer};
 
@@ -301,6 +301,27 @@ pub fn steps_needed(
     let l12 = get_distance_3d(c1, c2);
     let l23 = get_distance_3d(c2, end);
     max(ceil((l01 + l12 + l23) / resolution), 2.0)
+}
+
+// Writes the ends of n steps of a command's curve as triples, from index `at` on.
+pub fn put_ends(
+    end: Point3D,
+    control1: Point3D,
+    control2: Point3D,
+    start_point: Point3D,
+    n: usize,
+    out: &mut [f64],
+    at: usize,
+)
+    requires { ⌜ (n ≤ 2048) × (at ≤ 2048) × (3 * (at + n) ≤ length (now out)) ⌝ }
+    ensures { λ _. ⌜ now (out .exit) ≡ sets (now (out .entry)) (3 * at) (flat stepEnd (steps «start_point» (firstThird «start_point» end control1) (lastThird «start_point» end control2) end n)) ⌝ }
+{
+    let c1 = first_third(start_point, end, control1);
+    let c2 = last_third(start_point, end, control2);
+    for i in 0..n {
+        let to = point_on_3d(start_point, c1, c2, end, share_of(n, i + 1));
+        put_point(out, 3 * (at + i), to);
+    }
 }
 
 // A control at the height of the first third between the ends.

@@ -48,7 +48,7 @@ units-plus : (q k : ℕ) → Plus (units binary64 false q k)
 unfolding units
 units-plus q k = ⊎-elim (λ h. rw h (odd-plus _ q k _)) (λ h. rw h refl) (either (ltb (q * 2 ^ k) (2 ^ (low binary64 + suc (emax binary64)))))
 
-round-plus : (a b : ℕ) → Plus (round binary64 false a b)
+pub round-plus : (a b : ℕ) → Plus (round binary64 false a b)
 unfolding round
 round-plus a b =
     let n = a * 2 ^ low binary64 in

@@ -410,7 +410,7 @@ fn refuse_points(points: &[f64], width: usize, tolerance: f64, room: usize) -> u
 }
 
 // Why commands are refused, or 0. An output's room is that of the smaller of its two slices.
-fn refuse_commands(
+pub fn refuse_commands(
     kinds: &[u8],
     nums: &[f64],
     tolerance: f64,

@@ -1,0 +1,121 @@
+-- The rows of a course: what passed, and what an accepted call answers and leaves. Assumes nothing.
+use Prim.Native.Nat.{ℕ, _+_, _*_, _/_, _≤_, _<_}
+use mathlib.Core.Path.{_≡_, sym, _∙_, subst}
+use mathlib.Core.Bool.{true}
+use mathlib.Core.List.{List, _++_}
+use native.Mathlib.Omega.{arith}
+use borrow.Author.Tests.{ltb-false, eqb-true, not-false, lt-ltb, le-ltb}
+use lib.ListN.{length}
+use lib.Ieee.{Float}
+use Rattle.number.specs.Ops.{_≺_, +0}
+use Rattle.types.specs.declared.types.Command.{Command}
+use Rattle.types.specs.declared.types.Answer.the-variants.{Written}
+use Rattle.types.specs.Outcome.{Row, refusal}
+use Rattle.types.specs.Commands.{WroteCommands}
+use Rattle.types.specs.Lent.{numbersOf}
+use Rattle.types.proofs.Rows.{row-passes, row-passed, refusal-front}
+use Rattle.types.proofs.Tolerance.{tolerance-positive}
+use Rattle.types.proofs.Outcomes.{commands-given, nine}
+use Rattle.types.proofs.Flat.{flat-length}
+use Rattle.fitting.specs.Commands.{chainFit}
+use Rattle.fitting.specs.Written.{FitPlaced}
+use Rattle.course.specs.Course.{courseParts, courseFit, courseMost, cap, lentCourse, inputRows, roomRows, arcsRows, arcsCall}
+use Rattle.course.proofs.Count.{cap-passed, cap-over}
+use Rattle.course.proofs.Parts.{fit-few}
+use Rattle.course.proofs.Stepping.{chain-few}
+
+-- what is written of a course is at most its most
+pub course-few : (tol : Float) → (+0 ≺ tol) ≡ true → (cs : List Command) → length (courseFit tol cs) ≤ courseMost tol cs
+unfolding courseFit courseMost
+course-few tol pos cs = fit-few (chainFit tol) (chain-few tol pos) (courseParts tol cs)
+
+-- ---- r is what the check of rows 1 to 6 found
+module _ (ks : List ℕ) (ns : List Float) (tol : Float) (numbers r : ℕ) (e : r ≡ refusal (inputRows ks ns tol numbers)) where
+  pub input-refused : (ts : List Row) → (r ≡ 0 → ⊥) → r ≡ refusal (inputRows ks ns tol numbers ++ ts)
+  input-refused ts h = e ∙ refusal-front (inputRows ks ns tol numbers) ts (subst (λ (k : ℕ). 0 < k) e (omega (arith, h)))
+
+  module _ (z : r ≡ 0) where
+    pub input-passed : (ts : List Row) → refusal (inputRows ks ns tol numbers ++ ts) ≡ refusal ts
+    unfolding inputRows
+    input-passed ts =
+        let a = row-passed 0 _ _ (sym z ∙ e) in
+        let b = row-passed 0 _ _ (a .1) in
+        let c = row-passed 1 _ _ (b .1) in
+        let d = row-passed 3 _ _ (c .1) in
+        let f = row-passed 4 _ _ (d .1) in
+        let g = row-passed 5 _ _ (f .1) in
+        row-passes _ _ _ (a .0) ∙ row-passes _ _ _ (b .0) ∙ row-passes _ _ _ (c .0) ∙ row-passes _ _ _ (d .0) ∙ row-passes _ _ _ (f .0) ∙ row-passes _ _ _ (g .0)
+
+    pub input-accepted : (length ns ≡ 9 * length ks) × (length ks ≤ 800) × ((+0 ≺ tol) ≡ true)
+    unfolding inputRows
+    input-accepted =
+        let a = row-passed 0 _ _ (sym z ∙ e) in
+        let b = row-passed 0 _ _ (a .1) in
+        let c = row-passed 1 _ _ (b .1) in
+        let d = row-passed 3 _ _ (c .1) in
+        let f = row-passed 4 _ _ (d .1) in
+        let g = row-passed 5 _ _ (f .1) in
+        (eqb-true _ _ (not-false _ (a .0)), ltb-false _ _ (c .0), tolerance-positive tol (not-false _ (g .0)))
+
+-- ---- rows 8 and 9, m being the most as it was counted
+module _ (most kinds numbers m : ℕ) (e : m ≡ cap most) where
+  pub many-refused : 800 < m → 8 ≡ refusal (roomRows most kinds numbers)
+  unfolding roomRows refusal
+  many-refused h = rw (lt-ltb 800 most (cap-over most (omega arith)))
+
+  module _ (h : m ≤ 800) where
+    is-most : m ≡ most
+    is-most = e ∙ cap-passed most (omega arith)
+
+    pub kinds-refused : kinds < m → 9 ≡ refusal (roomRows most kinds numbers)
+    unfolding roomRows refusal
+    kinds-refused k = let i = is-most in rw (le-ltb 800 most (omega arith), lt-ltb kinds most (omega arith))
+
+    pub numbers-refused : m ≤ kinds → numbers / 9 < m → 9 ≡ refusal (roomRows most kinds numbers)
+    unfolding roomRows refusal
+    numbers-refused k n = let i = is-most in rw (le-ltb 800 most (omega arith), le-ltb kinds most (omega arith), lt-ltb (numbers / 9) most (omega arith))
+
+    pub room-passed : m ≤ kinds → m ≤ numbers / 9 → 0 ≡ refusal (roomRows most kinds numbers)
+    unfolding roomRows refusal
+    room-passed k n = let i = is-most in rw (le-ltb 800 most (omega arith), le-ltb kinds most (omega arith), le-ltb (numbers / 9) most (omega arith))
+
+-- ---- what an accepted course knows, answers and leaves
+module _ (ks : List ℕ) (ns : List Float) (tol : Float) (kinds numbers r : ℕ) (e : r ≡ refusal (arcsRows ks ns tol kinds numbers)) (z : r ≡ 0) where
+  pub record Accepted : Type 0 where
+    pub nine-each : length ns ≡ 9 * length ks
+    pub above-zero : (+0 ≺ tol) ≡ true
+    pub not-many : courseMost tol (lentCourse ks ns) ≤ 800
+    pub room-kinds : courseMost tol (lentCourse ks ns) ≤ kinds
+    pub room-numbers : courseMost tol (lentCourse ks ns) ≤ numbers / 9
+
+  pub arcs-accepted : Accepted
+  unfolding arcsRows inputRows roomRows
+  arcs-accepted =
+      let a = row-passed 0 _ _ (sym z ∙ e) in
+      let b = row-passed 0 _ _ (a .1) in
+      let c = row-passed 1 _ _ (b .1) in
+      let d = row-passed 3 _ _ (c .1) in
+      let f = row-passed 4 _ _ (d .1) in
+      let g = row-passed 5 _ _ (f .1) in
+      let h = row-passed 7 _ _ (g .1) in
+      let i = row-passed 8 _ _ (h .1) in
+      let j = row-passed 8 _ _ (i .1) in
+      record {
+        nine-each = eqb-true _ _ (not-false _ (a .0));
+        above-zero = tolerance-positive tol (not-false _ (g .0));
+        not-many = ltb-false _ _ (h .0);
+        room-kinds = ltb-false _ _ (i .0);
+        room-numbers = ltb-false _ _ (j .0);
+      }
+
+pub wrote-arcs : (ks : List ℕ) (ns : List Float) (tol : Float) (oks oks′ : List ℕ) (ons ons′ : List Float) (r k : ℕ)
+    → r ≡ refusal (arcsRows ks ns tol (length oks) (length ons)) → r ≡ 0 → FitPlaced (courseFit tol (lentCourse ks ns)) 0 k oks oks′ ons ons′
+    → WroteCommands (arcsCall ks ns tol (length oks) (length ons)) oks oks′ ons ons′ (Written k)
+unfolding arcsCall
+wrote-arcs ks ns tol oks oks′ ons ons′ r k e z p =
+    let xs = courseFit tol (lentCourse ks ns) in
+    let a = arcs-accepted ks ns tol (length oks) (length ons) r e z in
+    let l = course-few tol (a .above-zero) (lentCourse ks ns) in
+    let b = a .room-kinds in
+    let c = a .room-numbers in
+    commands-given _ r e xs oks oks′ ons ons′ k z (p .count) (omega arith) (omega (arith, flat-length numbersOf 9 nine xs)) (p .kinds) (p .numbers)

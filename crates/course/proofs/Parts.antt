@@ -1,0 +1,79 @@
+-- Laws of a course's parts: their most, the length of their fit, and a command at a time. Assumes nothing.
+use Prim.Native.Nat.{ℕ, _+_, _-_, _*_, _/_, _%_, _≤_}
+use mathlib.Core.Path.{_≡_, refl, subst}
+use mathlib.Core.List.{List, [], _∷_, _++_}
+use native.Mathlib.Omega.{arith}
+use lib.ListN.{length, length-append}
+use lib.Ieee.{Float}
+use Rattle.types.specs.declared.types.Point3D.{Point3D}
+use Rattle.types.specs.declared.types.Command.{Command}
+use Rattle.types.specs.Lent.{triple, flat, endOf}
+use Rattle.types.proofs.Flat.{flat-append, flat-one}
+use Rattle.course.specs.Parts.{Part, chain, kept, Join, adds, ends, closed, carried, partsFrom, partFit, partMost, mostOf, fitOf}
+use Rattle.course.specs.Walks.{weightOf, weightsFrom}
+
+pub most-append : (xs ys : List Part) → mostOf (xs ++ ys) ≡ mostOf xs + mostOf ys
+unfolding mostOf
+most-append [] ys = omega arith
+most-append (x ∷ xs) ys = let e = most-append xs ys in omega arith
+
+pub fit-append : (fit : List Float → List Command) (xs ys : List Part) → fitOf fit (xs ++ ys) ≡ fitOf fit xs ++ fitOf fit ys
+unfolding fitOf
+fit-append fit xs ys = flat-append (partFit fit) xs ys
+
+-- what is written of several parts is at most their most, where it is so of a chain
+module _ (fit : List Float → List Command) (few : (s : List Float) → length (fit s) ≤ length s / 3 - 1) where
+  part-few : (p : Part) → length (partFit fit p) ≤ partMost p
+  unfolding partFit partMost
+  part-few (chain s) = few s
+  part-few (kept c) = omega arith
+
+  pub fit-few : (ps : List Part) → length (fitOf fit ps) ≤ mostOf ps
+  unfolding fitOf flat mostOf
+  fit-few [] = omega arith
+  fit-few (p ∷ ps) = let a = part-few p in let b = fit-few ps in let l = length-append (partFit fit p) (flat (partFit fit) ps) in omega arith
+
+-- the parts of one chain alone
+pub fit-chain : (fit : List Float → List Command) (s : List Float) → fitOf fit (chain s ∷ []) ≡ fit s
+unfolding fitOf partFit
+fit-chain fit s = flat-one (partFit fit) (chain s)
+
+-- a command adds whole triples
+abbrev pub Whole : Join → Type 0
+Whole (adds ps) = length ps % 3 ≡ 0
+Whole ends = Unit
+
+module _ (join : Point3D → Command → Join) where
+  pub parts-step : (last : Point3D) (s : List Float) (c : Command) (cs : List Command)
+      → partsFrom join last s (c ∷ cs) ≡ closed s c (join last c) ++ partsFrom join (endOf c) (carried s c (join last c)) cs
+  unfolding partsFrom
+  parts-step last s c cs = refl
+
+  pub parts-end : (last : Point3D) (s : List Float) → partsFrom join last s [] ≡ chain s ∷ []
+  unfolding partsFrom
+  parts-end last s = refl
+
+  -- the chain under way counts in the most
+  pub chain-counts : (last : Point3D) (s : List Float) (cs : List Command) → length s / 3 - 1 ≤ mostOf (partsFrom join last s cs)
+  unfolding partsFrom closed carried mostOf partMost
+  chain-counts last s [] = omega arith
+  chain-counts last s (c ∷ cs) = go (join last c) refl (λ l. chain-counts (endOf c) l cs)
+    where
+      go : (j : Join) → join last c ≡ j → ((l : List Float) → length l / 3 - 1 ≤ mostOf (partsFrom join (endOf c) l cs)) → length s / 3 - 1 ≤ mostOf (partsFrom join last s (c ∷ cs))
+      go (adds ps) e r = rw e (let l = length-append s ps in let q = r (s ++ ps) in omega arith)
+      go ends e r = rw e (omega arith)
+
+  -- ---- the most by commands: a chain's points are whole triples
+  module _ (whole : (last : Point3D) (c : Command) → Whole (join last c)) where
+    pub most-by-weights : (last : Point3D) (s : List Float) (k : ℕ) → length s ≡ 3 * k → 1 ≤ k → (cs : List Command)
+        → mostOf (partsFrom join last s cs) ≡ k - 1 + weightsFrom join last cs
+    unfolding partsFrom closed carried mostOf partMost weightOf weightsFrom
+    most-by-weights last s k l h [] = omega arith
+    most-by-weights last s k l h (c ∷ cs) = go (join last c) refl (λ t n p q. most-by-weights (endOf c) t n p q cs)
+      where
+        go : (j : Join) → join last c ≡ j
+            → ((t : List Float) (n : ℕ) → length t ≡ 3 * n → 1 ≤ n → mostOf (partsFrom join (endOf c) t cs) ≡ n - 1 + weightsFrom join (endOf c) cs)
+            → mostOf (partsFrom join last s (c ∷ cs)) ≡ k - 1 + weightsFrom join last (c ∷ cs)
+        go (adds ps) e r =
+            rw e (let a = length-append s ps in let d = subst Whole e (whole last c) in let b = r (s ++ ps) (k + length ps / 3) (omega arith) (omega arith) in omega arith)
+        go ends e r = rw e (let b = r (triple (endOf c)) 1 refl (omega arith) in omega arith)

@@ -1,0 +1,126 @@
+-- The two courses as the walk has them, and the most of a path. Assumes nothing.
+use Prim.Native.Nat.{ℕ, zero, suc, _+_, _-_, _*_, _≤_}
+use mathlib.Core.Path.{_≡_, refl, sym, ap, _∙_, subst}
+use mathlib.Core.Bool.{Bool, true, false}
+use mathlib.Core.List.{List, [], _∷_}
+use native.Mathlib.Omega.{arith}
+use lib.ListN.{length}
+use lib.Ieee.{Float}
+use Rattle.number.specs.Ops.{_≺_, +0}
+use Rattle.types.specs.declared.types.Point3D.{Point3D}
+use Rattle.types.specs.declared.types.Command.{Command}
+use Rattle.types.specs.declared.types.Command.the-variants.{Move, Line, Arc, Bezier}
+use Rattle.types.specs.declared.types.Answer.the-variants.{Written}
+use Rattle.types.specs.Outcome.{refusal}
+use Rattle.types.specs.Commands.{WroteCommands}
+use Rattle.types.specs.Lent.{triple, origin, endOf, numbersOf, commandsFrom}
+use Rattle.types.proofs.Outcomes.{commands-given, nine}
+use Rattle.types.proofs.Flat.{flat-length}
+use Rattle.types.proofs.Rows.{row-passed}
+use Rattle.types.proofs.Tolerance.{tolerance-positive}
+use Rattle.simplify.specs.Simplify.{commandRows}
+use Rattle.simplify.proofs.Accepted.{commands-accepted}
+use Rattle.fitting.specs.Written.{FitPlaced}
+use Rattle.course.specs.declared.course.Flush.{Flush}
+use Rattle.course.specs.declared.course.Flush.the-variants.{Fitted}
+use Rattle.course.specs.Parts.{mostOf, partsFrom}
+use Rattle.course.specs.Course.{courseParts, courseFit, courseMost, lentCourse, linesJoined, optimized, optimizeCall, joinsBeziers, joinedBy, flushedBy, partsBy, fitBy, pathFlush}
+use Rattle.course.specs.Walks.{weightOf, weightsFrom}
+use Rattle.course.proofs.Parts.{Whole, most-by-weights, fit-few}
+use Rattle.course.proofs.Chains.{flushed-few}
+use borrow.Author.Tests.{not-false}
+
+-- ---- the course of `fit_arcs`
+pub course-fit : (tol : Float) (cs : List Command) → fitBy Fitted tol cs ≡ courseFit tol cs
+unfolding fitBy partsBy courseFit courseParts joinedBy joinsBeziers flushedBy
+course-fit tol cs = refl
+
+pub fitted-course : {xs ys : List Command} → xs ≡ ys → (k : ℕ) (ks ks′ : List ℕ) (ns ns′ : List Float) → FitPlaced xs 0 k ks ks′ ns ns′ → FitPlaced ys 0 k ks ks′ ns ns′
+fitted-course e k ks ks′ ns ns′ p = subst (λ (cs : List Command). FitPlaced cs 0 k ks ks′ ns ns′) e p
+
+pub course-most : (tol : Float) (cs : List Command) → mostOf (partsBy Fitted tol cs) ≡ courseMost tol cs
+unfolding partsBy courseMost courseParts joinedBy joinsBeziers
+course-most tol cs = refl
+
+-- the same way of writing
+pub placed-as : {f g : Flush} → f ≡ g → (tol : Float) (cs : List Command) (k : ℕ) (ks ks′ : List ℕ) (ns ns′ : List Float) → FitPlaced (fitBy f tol cs) 0 k ks ks′ ns ns′ → FitPlaced (fitBy g tol cs) 0 k ks ks′ ns ns′
+placed-as e tol cs k ks ks′ ns ns′ p = subst (λ (h : Flush). FitPlaced (fitBy h tol cs) 0 k ks ks′ ns ns′) e p
+
+-- ---- that of `optimize_path_from_array`
+pub path-fit : (arcs : Bool) (tol : Float) (cs : List Command) → fitBy (pathFlush arcs) tol cs ≡ optimized arcs tol cs
+unfolding pathFlush fitBy partsBy optimized joinedBy joinsBeziers flushedBy
+path-fit true tol cs = refl
+path-fit false tol cs = refl
+
+whole-lines : (last : Point3D) (c : Command) → Whole (linesJoined last c)
+unfolding linesJoined
+whole-lines last (Move p) = tt
+whole-lines last (Line p) = refl
+whole-lines last (Arc p o n) = tt
+whole-lines last (Bezier p c d) = tt
+
+-- every command counts as one
+one-each : (last : Point3D) (c : Command) → weightOf (linesJoined last c) ≡ 1
+unfolding linesJoined weightOf
+one-each last (Move p) = refl
+one-each last (Line p) = refl
+one-each last (Arc p o n) = refl
+one-each last (Bezier p c d) = refl
+
+weights-count : (last : Point3D) (cs : List Command) → weightsFrom linesJoined last cs ≡ length cs
+unfolding weightsFrom
+weights-count last [] = refl
+weights-count last (c ∷ cs) = let a = one-each last c in let b = weights-count (endOf c) cs in omega arith
+
+lines-most : (cs : List Command) → mostOf (partsFrom linesJoined origin (triple origin) cs) ≡ length cs
+lines-most cs = let e = most-by-weights linesJoined whole-lines origin (triple origin) 1 refl (omega arith) cs in let w = weights-count origin cs in omega arith
+
+pub path-most : (arcs : Bool) (tol : Float) (cs : List Command) → mostOf (partsBy (pathFlush arcs) tol cs) ≡ length cs
+unfolding pathFlush partsBy joinedBy joinsBeziers
+path-most true tol cs = lines-most cs
+path-most false tol cs = lines-most cs
+
+pub course-length : (ks : List ℕ) (ns : List Float) (n i : ℕ) → length (commandsFrom ks ns n i) ≡ n
+unfolding commandsFrom
+course-length ks ns zero i = refl
+course-length ks ns (suc n) i = ap suc (course-length ks ns n (i + 1))
+
+-- what is written is at most the most
+path-few : (arcs : Bool) (tol : Float) → (+0 ≺ tol) ≡ true → (cs : List Command) → length (fitBy (pathFlush arcs) tol cs) ≤ mostOf (partsBy (pathFlush arcs) tol cs)
+unfolding fitBy
+path-few arcs tol pos cs = fit-few (flushedBy (pathFlush arcs) tol) (flushed-few (pathFlush arcs) tol pos) (partsBy (pathFlush arcs) tol cs)
+
+-- the tolerance of a path that is accepted
+path-positive : (ks : List ℕ) (ns : List Float) (tol : Float) (kinds numbers r : ℕ) → r ≡ refusal (commandRows ks ns tol kinds numbers) → r ≡ 0 → (+0 ≺ tol) ≡ true
+path-positive ks ns tol kinds numbers r e z =
+    let a = row-passed 0 _ _ (sym z ∙ e) in
+    let b = row-passed 0 _ _ (a .1) in
+    let c = row-passed 1 _ _ (b .1) in
+    let d = row-passed 3 _ _ (c .1) in
+    let f = row-passed 4 _ _ (d .1) in
+    let g = row-passed 5 _ _ (f .1) in
+    tolerance-positive tol (not-false _ (g .0))
+
+-- what an accepted path knows, answers and leaves
+module _ (ks : List ℕ) (ns : List Float) (tol : Float) (arcs : Bool) (oks : List ℕ) (ons : List Float) (r : ℕ)
+    (e : r ≡ refusal (commandRows ks ns tol (length oks) (length ons))) (z : r ≡ 0) where
+  most-is : mostOf (partsBy (pathFlush arcs) tol (lentCourse ks ns)) ≡ length ks
+  most-is = path-most arcs tol (lentCourse ks ns) ∙ course-length ks ns (length ks) 0
+
+  pub path-accepted : ((+0 ≺ tol) ≡ true) × ((9 * length ks ≤ length ns) × (mostOf (partsBy (pathFlush arcs) tol (lentCourse ks ns)) ≤ 800)
+      × (mostOf (partsBy (pathFlush arcs) tol (lentCourse ks ns)) ≤ length oks) × (9 * mostOf (partsBy (pathFlush arcs) tol (lentCourse ks ns)) ≤ length ons))
+  path-accepted =
+      let a = commands-accepted ks ns tol (length oks) (length ons) r e z in
+      let m = most-is in
+      (path-positive ks ns tol (length oks) (length ons) r e z, (omega (arith, a), omega (arith, a, m), omega (arith, a, m), omega (arith, a, m)))
+
+  pub wrote-path : (oks′ : List ℕ) (ons′ : List Float) (k : ℕ) → FitPlaced (fitBy (pathFlush arcs) tol (lentCourse ks ns)) 0 k oks oks′ ons ons′
+      → WroteCommands (optimizeCall ks ns tol arcs (length oks) (length ons)) oks oks′ ons ons′ (Written k)
+  unfolding optimizeCall
+  wrote-path oks′ ons′ k q =
+      let p = subst (λ (cs : List Command). FitPlaced cs 0 k oks oks′ ons ons′) (path-fit arcs tol (lentCourse ks ns)) q in
+      let xs = optimized arcs tol (lentCourse ks ns) in
+      let a = path-accepted in
+      let l : length (fitBy (pathFlush arcs) tol (lentCourse ks ns)) ≤ mostOf (partsBy (pathFlush arcs) tol (lentCourse ks ns)) = path-few arcs tol (a .0) (lentCourse ks ns) in
+      let s = ap length (path-fit arcs tol (lentCourse ks ns)) in
+      commands-given _ r e xs oks oks′ ons ons′ k z (p .count) (omega (arith, a .1)) (omega (arith, a .1, flat-length numbersOf 9 nine xs)) (p .kinds) (p .numbers)

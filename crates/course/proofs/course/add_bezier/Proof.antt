@@ -1,0 +1,38 @@
+-- `course::course::add_bezier` meets its contract: the steps counted are those written. Assumes nothing.
+use native.Mathlib.Omega.{arith}
+use mathlib.Core.Path.{_∙_}
+use lib.ListN.{length}
+use Rattle.number.specs.Ops.{_⊗_}
+use Rattle.bezier.specs.Linearize.{paramSteps}
+use Rattle.course.specs.Course.{quarter}
+use Rattle.course.proofs.Count.{cap-few}
+use Rattle.course.proofs.Steps.{params-are-steps}
+use borrow.Author.Needs.{needs}
+use Rattle.course.proofs.course.add_bezier.Statement.{statement}
+use Rattle.course.proofs.course.add_bezier.Tie as tie
+
+bezier-steps-requires : tie.Need-bezier-steps-requires
+bezier-steps-requires c κs = search needs
+
+put-ends-requires : tie.Need-put-ends-requires
+put-ends-requires c κs = let a = c .before .before .before .args in
+    let p = c .before .before .before .pre in
+    let n = c .before .bezier-steps .ensures ∙ cap-few (length (paramSteps (a .end) (a .control1) (a .control2) (a .w .last) (a .tolerance ⊗ quarter))) (omega (arith, p)) in (omega (arith, p), omega (arith, p), omega (arith, p))
+
+add-t12 : tie.Need-add-t12
+add-t12 c = let a = c .before .before .before .before .before .before .before .args in
+    let p = c .before .before .before .before .before .before .before .pre in
+    let n = c .before .before .before .before .before .bezier-steps .ensures ∙ cap-few (length (paramSteps (a .end) (a .control1) (a .control2) (a .w .last) (a .tolerance ⊗ quarter))) (omega (arith, p)) in omega (arith, p)
+
+same-length : tie.Need-same-length
+same-length c = search needs
+
+returns : tie.Need-returns
+returns c = let a = c .before .before .before .before .before .before .before .args in
+    let p = c .before .before .before .before .before .before .before .pre in
+    let n = c .before .before .before .before .before .bezier-steps .ensures ∙ cap-few (length (paramSteps (a .end) (a .control1) (a .control2) (a .w .last) (a .tolerance ⊗ quarter))) (omega (arith, p)) in
+    (rw n, c .before .before .before .put-ends .ensures ∙ rw (params-are-steps (a .end) (a .control1) (a .control2) (a .w .last) (a .tolerance ⊗ quarter) _ n))
+
+pub add-bezier-spec : {M : Type 1} → statement M
+add-bezier-spec =
+    tie.close (tie.spec bezier-steps-requires put-ends-requires add-t12 same-length returns)

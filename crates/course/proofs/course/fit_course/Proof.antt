@@ -1,0 +1,24 @@
+-- `course::course::fit_course` meets its contract: it is the walk whose chains are thinned and fitted. Assumes nothing.
+use native.Mathlib.Omega.{arith}
+use Rattle.course.specs.Course.{lentCourse}
+use Rattle.course.proofs.Paths.{fitted-course, course-fit, course-most}
+use borrow.Author.Needs.{needs}
+use Rattle.course.proofs.course.fit_course.Statement.{statement}
+use Rattle.course.proofs.course.fit_course.Tie as tie
+
+walk-course-requires : tie.Need-walk-course-requires
+walk-course-requires c κs = let a = c .before .before .before .before .before .before .args in
+    let p = c .before .before .before .before .before .before .pre .1 in
+    let m = course-most (a .tolerance) (lentCourse (a .kinds .now) (a .nums .now)) in (c .before .before .before .before .before .before .pre .0, (p .0, omega (arith, p, m), omega (arith, p, m), omega (arith, p, m)))
+
+same-length : tie.Need-same-length
+same-length c = search needs
+
+same-length-2 : tie.Need-same-length-2
+same-length-2 c = search needs
+
+returns : tie.Need-returns
+returns c = let a = c .before .before .before .before .before .before .before .before .before .before .before .args in fitted-course (course-fit (a .tolerance) (lentCourse (a .kinds .now) (a .nums .now))) _ (a .out-kinds .now) _ (a .out-nums .now) _ (c .before .before .before .before .walk-course .ensures)
+
+pub fit-course-spec : {M : Type 1} → statement M
+fit-course-spec = tie.close (tie.spec walk-course-requires same-length same-length-2 returns)

@@ -1,0 +1,114 @@
+-- The courses of `fit_arcs` and of `optimize_path_from_array`. Definitions only.
+use Prim.Native.Nat.{ℕ, _+_, _-_, _*_, _/_}
+use mathlib.Core.Bool.{Bool, true, false, not}
+use mathlib.Core.List.{List, [], _∷_, _++_, map}
+use lib.ListN.{length, drop}
+use lib.Dec.{ltb, eqb}
+use lib.Ieee.{Float, binary64, ofBits}
+use Rattle.number.specs.Ops.{_⊗_, if_then_else_}
+use Rattle.types.specs.declared.types.Point3D.{Point3D}
+use Rattle.types.specs.declared.types.Command.{Command}
+use Rattle.types.specs.declared.types.Command.the-variants.{Move, Line, Arc, Bezier}
+use Rattle.types.specs.Lent.{pointAt, triple, flat, origin, commandsFrom}
+use Rattle.types.specs.Domain.{whole, tolerance, commandsFormed, commandsIn}
+use Rattle.types.specs.Outcome.{Row, row, refusal, Outcome, unless}
+use Rattle.simplify.specs.Measure.{lineSq}
+use Rattle.simplify.specs.Simplify.{commandRows}
+use Rattle.bezier.specs.Linearize.{stepEnd, paramSteps}
+use Rattle.fitting.specs.Commands.{fitIn, keptOf, chainFit}
+use Rattle.course.specs.declared.course.Flush.{Flush}
+use Rattle.course.specs.declared.course.Flush.the-variants.{Fitted, AsItStands, Lines}
+use Rattle.course.specs.Parts.{Part, Join, adds, ends, partsFrom, mostOf, fitOf}
+
+-- ---- fit_arcs: a Line adds its end to the chain, a Bezier the ends of its steps, linearised at a quarter of the tolerance from where the last command ended
+abbrev pub quarter : Float
+quarter = ofBits binary64 0x3fd0_0000_0000_0000
+
+unfoldable pub joined : Float → Point3D → Command → Join
+joined tol last (Move p) = ends
+joined tol last (Line p) = adds (triple p)
+joined tol last (Arc p o n) = ends
+joined tol last (Bezier p c d) = adds (flat stepEnd (paramSteps p c d last (tol ⊗ quarter)))
+
+-- the chains and kept commands of a course, in order
+unfoldable pub courseParts : Float → List Command → List Part
+courseParts tol cs = partsFrom (joined tol) origin (triple origin) cs
+
+-- its fit: each chain thinned and fitted
+unfoldable pub courseFit : Float → List Command → List Command
+courseFit tol cs = fitOf (chainFit tol) (courseParts tol cs)
+
+-- its most: its Moves and Arcs, and that of each chain, Bezier steps counted
+unfoldable pub courseMost : Float → List Command → ℕ
+courseMost tol cs = mostOf (courseParts tol cs)
+
+-- a most as it is counted: 801 stands for every number above 800
+unfoldable pub cap : ℕ → ℕ
+cap n = if ltb 800 n then 801 else n
+
+-- the commands that are lent as the kinds ks and the numbers ns
+abbrev pub lentCourse : List ℕ → List Float → List Command
+lentCourse ks ns = commandsFrom ks ns (length ks) 0
+
+-- rows 1 to 6, of the kinds ks, the numbers ns, the tolerance and an output of `numbers` numbers
+unfoldable pub inputRows : List ℕ → List Float → Float → ℕ → List Row
+inputRows ks ns tol numbers =
+    row 1 (not (eqb (length ns) (9 * length ks)))
+    ∷ row 1 (not (whole 9 numbers))
+    ∷ row 2 (ltb 800 (length ks))
+    ∷ row 4 (not (commandsFormed ks ns))
+    ∷ row 5 (not (commandsIn ks ns))
+    ∷ row 6 (not (tolerance tol))
+    ∷ []
+
+-- rows 8 and 9, of the most and outputs of `kinds` kinds and `numbers` numbers
+unfoldable pub roomRows : ℕ → ℕ → ℕ → List Row
+roomRows most kinds numbers = row 8 (ltb 800 most) ∷ row 9 (ltb kinds most) ∷ row 9 (ltb (numbers / 9) most) ∷ []
+
+unfoldable pub arcsRows : List ℕ → List Float → Float → ℕ → ℕ → List Row
+arcsRows ks ns tol kinds numbers = inputRows ks ns tol numbers ++ roomRows (courseMost tol (lentCourse ks ns)) kinds numbers
+
+unfoldable pub arcsCall : List ℕ → List Float → Float → ℕ → ℕ → Outcome (List Command)
+arcsCall ks ns tol kinds numbers = unless (refusal (arcsRows ks ns tol kinds numbers)) (courseFit tol (lentCourse ks ns))
+
+-- ---- optimize_path_from_array: only a Line adds to a chain. A chain is fitted as it stands where arcs are asked for, else thinned to Lines. The most is the command count
+unfoldable pub linesJoined : Point3D → Command → Join
+linesJoined last (Move p) = ends
+linesJoined last (Line p) = adds (triple p)
+linesJoined last (Arc p o n) = ends
+linesJoined last (Bezier p c d) = ends
+
+unfoldable pub optimizedChain : Bool → Float → List Float → List Command
+optimizedChain true tol s = fitIn lineSq tol (pointAt s) 0 (length s / 3 - 1)
+optimizedChain false tol s = map Line (drop 1 (keptOf tol s))
+
+unfoldable pub optimized : Bool → Float → List Command → List Command
+optimized arcs tol cs = fitOf (optimizedChain arcs tol) (partsFrom linesJoined origin (triple origin) cs)
+
+unfoldable pub optimizeCall : List ℕ → List Float → Float → Bool → ℕ → ℕ → Outcome (List Command)
+optimizeCall ks ns tol arcs kinds numbers = unless (refusal (commandRows ks ns tol kinds numbers)) (optimized arcs tol (lentCourse ks ns))
+
+-- ---- both in one: a path is fitted as it stands where arcs are asked for, else thinned to Lines
+unfoldable pub pathFlush : Bool → Flush
+pathFlush true = AsItStands
+pathFlush false = Lines
+
+-- : how a course's chains are written, and whether Beziers join them
+unfoldable pub joinsBeziers : Flush → Bool
+joinsBeziers Fitted = true
+joinsBeziers AsItStands = false
+joinsBeziers Lines = false
+
+unfoldable pub joinedBy : Flush → Float → Point3D → Command → Join
+joinedBy f tol last c = if joinsBeziers f then joined tol last c else linesJoined last c
+
+unfoldable pub flushedBy : Flush → Float → List Float → List Command
+flushedBy Fitted tol s = chainFit tol s
+flushedBy AsItStands tol s = optimizedChain true tol s
+flushedBy Lines tol s = optimizedChain false tol s
+
+unfoldable pub partsBy : Flush → Float → List Command → List Part
+partsBy f tol cs = partsFrom (joinedBy f tol) origin (triple origin) cs
+
+unfoldable pub fitBy : Flush → Float → List Command → List Command
+fitBy f tol cs = fitOf (flushedBy f tol) (partsBy f tol cs)

@@ -1,0 +1,447 @@
+// src/geo/algo/fitting.rs: fit_arcs and optimize_path_from_array.
+use bezier::bezier::put_ends;
+use bezier::bezier::steps_needed;
+use bezier::bezier::whole_steps;
+use fitting::fitting::fit_range;
+use fitting::fitting::flush_chain;
+use simplify::simplify::refuse_commands;
+use simplify::simplify::thin_points;
+use types::domain::commands_formed;
+use types::domain::commands_in;
+use types::domain::is_within;
+use types::lent::command_at;
+use types::lent::point_at;
+use types::lent::put_command;
+use types::lent::put_point;
+use types::types::Answer;
+use types::types::Command;
+use types::types::Point3D;
+ghost use mathlib.Core.Path.{_≡_};
+ghost use mathlib.Core.Bool.{true, false};
+ghost use mathlib.Core.List.{map};
+ghost use Prim.Native.Nat.{_+_, _-_, _*_, _/_, _<_, _≤_};
+ghost use lib.ListN.{length};
+ghost use lib.Seq.{sets};
+ghost use Rattle.number.specs.Ops.{_≺_, _⊗_, +0};
+ghost use Rattle.types.specs.Lent.{origin, triple, flat, pointAt};
+ghost use Rattle.types.specs.Walk.{listFrom};
+ghost use Rattle.types.specs.declared.types.Command.the-variants.{Line};
+ghost use Rattle.types.specs.Outcome.{refusal};
+ghost use Rattle.types.specs.Commands.{WroteCommands};
+ghost use Rattle.bezier.specs.Linearize.{stepEnd, paramSteps};
+ghost use Rattle.fitting.specs.Written.{FitPlaced};
+ghost use Rattle.course.specs.Parts.{ends, mostOf};
+ghost use Rattle.course.specs.Course.{quarter, joined, courseFit, courseMost, cap, lentCourse, inputRows, arcsRows, arcsCall, optimizedChain, optimizeCall, joinsBeziers, joinedBy, flushedBy, partsBy, fitBy, pathFlush};
+ghost use Rattle.course.specs.Walks.{weightOf, Room, Stepped};
+
+// Where a walk along a course stands.
+pub struct Walk {
+    // how many points the chain under way has
+    pub points: usize,
+    // where the last command ended
+    pub last: Point3D,
+    // how many commands are written
+    pub written: usize,
+}
+
+// What becomes of a chain that is flushed.
+pub enum Flush {
+    // thinned and fitted
+    Fitted,
+    // fitted as it stands
+    AsItStands,
+    // thinned, and written as Lines
+    Lines,
+}
+
+impl Flush {
+    // Whether a Bezier's steps join the chain; else it is kept.
+    pub fn joins_beziers(self) -> bool
+        ensures { λ r. ⌜ r ≡ joinsBeziers self ⌝ }
+    {
+        match self {
+            Flush::Fitted => true,
+            Flush::AsItStands => false,
+            Flush::Lines => false,
+        }
+    }
+}
+
+impl Walk {
+    // A chain has its first point from the start.
+    pub fn new() -> Self
+        ensures { λ r. ⌜ r ≡ record { points = 1; last = origin; written = 0 } ⌝ }
+    {
+        Self {
+            points: 1,
+            last: Point3D::ZERO,
+            written: 0,
+        }
+    }
+}
+
+// How many steps a Bezier of a course has, 801 for all above 800.
+fn bezier_steps(
+    end: Point3D,
+    control1: Point3D,
+    control2: Point3D,
+    start: Point3D,
+    resolution: f64,
+) -> usize
+    ensures { λ r. ⌜ r ≡ cap (length (paramSteps end control1 control2 start resolution)) ⌝ }
+{
+    let needed = steps_needed(end, control1, control2, start, resolution);
+    if needed <= 800.0 {
+        return whole_steps(needed);
+    }
+    801
+}
+
+// What a command adds to the most of its course.
+fn weight(c: Command, last: Point3D, tolerance: f64) -> usize
+    ensures { λ r. ⌜ r ≡ cap (weightOf (joined tolerance last c)) ⌝ }
+{
+    match c {
+        Command::Move { end: _ } => 1,
+        Command::Line { end: _ } => 1,
+        Command::Arc {
+            end: _,
+            center_offset: _,
+            normal: _,
+        } => 1,
+        Command::Bezier {
+            end,
+            control1,
+            control2,
+        } => bezier_steps(end, control1, control2, last, tolerance * 0.25),
+    }
+}
+
+// The sum of two counts, 801 for all above 800.
+fn add_capped(a: usize, b: usize) -> usize
+    requires { ⌜ (a ≤ 801) × (b ≤ 801) ⌝ }
+    ensures { λ r. ⌜ (r ≡ cap (a + b)) × (r ≤ 801) ⌝ }
+{
+    let n = a + b;
+    if 800 < n {
+        return 801;
+    }
+    n
+}
+
+// The most of a course, 801 for all above 800.
+pub fn course_most(kinds: &[u8], nums: &[f64], tolerance: f64) -> usize
+    requires { ⌜ 9 * length (now kinds) ≤ length (now nums) ⌝ }
+    ensures { λ r. ⌜ r ≡ cap (courseMost tolerance (lentCourse (now (kinds .entry)) (now (nums .entry)))) ⌝ }
+{
+    let mut most = 0;
+    let mut last = Point3D::ZERO;
+    for i in 0..kinds.len() {
+        let c = command_at(kinds, nums, i);
+        most = add_capped(most, weight(c, last, tolerance));
+        last = c.end_point();
+    }
+    most
+}
+
+// A Line's end joins the chain.
+fn add_line(end: Point3D, w: Walk, chain: &mut [f64]) -> Walk
+    requires { ⌜ (w .points ≤ 800) × (3 * w .points + 3 ≤ length (now chain)) ⌝ }
+    ensures { λ r. ⌜ (r ≡ record { points = w .points + 1; last = end; written = w .written }) × (now (chain .exit) ≡ sets (now (chain .entry)) (3 * w .points) (triple end)) ⌝ }
+{
+    put_point(chain, 3 * w.points, end);
+    Walk {
+        points: w.points + 1,
+        last: end,
+        written: w.written,
+    }
+}
+
+// The ends of a Bezier's steps join the chain.
+fn add_bezier(
+    end: Point3D,
+    control1: Point3D,
+    control2: Point3D,
+    tolerance: f64,
+    w: Walk,
+    chain: &mut [f64],
+) -> Walk
+    requires { ⌜ (w .points + length (paramSteps end control1 control2 (w .last) (tolerance ⊗ quarter)) ≤ 801) × (1 ≤ w .points) × (length (now chain) ≡ 2403) ⌝ }
+    ensures { λ r. ⌜ (r ≡ record { points = w .points + length (paramSteps end control1 control2 (w .last) (tolerance ⊗ quarter)); last = end; written = w .written }) × (now (chain .exit) ≡ sets (now (chain .entry)) (3 * w .points) (flat stepEnd (paramSteps end control1 control2 (w .last) (tolerance ⊗ quarter)))) ⌝ }
+{
+    let n = bezier_steps(end, control1, control2, w.last, tolerance * 0.25);
+    put_ends(end, control1, control2, w.last, n, chain, w.points);
+    Walk {
+        points: w.points + n,
+        last: end,
+        written: w.written,
+    }
+}
+
+// Writes a Line to each point but the first.
+fn put_lines(points: &[f64], kinds: &mut [u8], nums: &mut [f64], at: usize) -> usize
+    requires { ⌜ (length (now points) / 3 ≤ 801) × (at + (length (now points) / 3 - 1) ≤ length (now kinds)) × (9 * (at + (length (now points) / 3 - 1)) ≤ length (now nums)) ⌝ }
+    ensures { λ r. ⌜ FitPlaced (map Line (listFrom (pointAt (now (points .entry))) (length (now (points .entry)) / 3 - 1) 1)) at r (now (kinds .entry)) (now (kinds .exit)) (now (nums .entry)) (now (nums .exit)) ⌝ }
+{
+    let n = points.len() / 3;
+    let mut written = 0;
+    for i in 1..n {
+        let end = point_at(points, i);
+        put_command(kinds, nums, at + written, Command::Line { end });
+        written += 1;
+    }
+    written
+}
+
+// Thins a chain to Lines.
+fn thin_chain(chain: &[f64], tolerance: f64, kinds: &mut [u8], nums: &mut [f64], at: usize) -> usize
+    requires { ⌜ (length (now chain) / 3 ≤ 801) × (at + (length (now chain) / 3 - 1) ≤ length (now kinds)) × (9 * (at + (length (now chain) / 3 - 1)) ≤ length (now nums)) ⌝ }
+    ensures { λ r. ⌜ FitPlaced (optimizedChain false tolerance (now (chain .entry))) at r (now (kinds .entry)) (now (kinds .exit)) (now (nums .entry)) (now (nums .exit)) ⌝ }
+{
+    let n = chain.len() / 3;
+    let mut kept = [0.0; 2403];
+    let k = thin_points(chain, n, tolerance * tolerance, &mut kept);
+    put_lines(&kept[..3 * k], kinds, nums, at)
+}
+
+// Fits a chain as it stands.
+fn fit_chain(chain: &[f64], tolerance: f64, kinds: &mut [u8], nums: &mut [f64], at: usize) -> usize
+    requires { ⌜ ((+0 ≺ tolerance) ≡ true) × ((length (now chain) / 3 ≤ 801) × (at + (length (now chain) / 3 - 1) ≤ length (now kinds)) × (9 * (at + (length (now chain) / 3 - 1)) ≤ length (now nums))) ⌝ }
+    ensures { λ r. ⌜ FitPlaced (optimizedChain true tolerance (now (chain .entry))) at r (now (kinds .entry)) (now (kinds .exit)) (now (nums .entry)) (now (nums .exit)) ⌝ }
+{
+    let n = chain.len() / 3;
+    if n < 2 {
+        return 0;
+    }
+    fit_range(chain, tolerance, 0, n - 1, kinds, nums, at)
+}
+
+// Writes a chain's commands, and answers how many they are.
+fn flush_by(
+    how: Flush,
+    chain: &[f64],
+    tolerance: f64,
+    kinds: &mut [u8],
+    nums: &mut [f64],
+    at: usize,
+) -> usize
+    requires { ⌜ ((+0 ≺ tolerance) ≡ true) × ((length (now chain) / 3 ≤ 801) × (at + (length (now chain) / 3 - 1) ≤ length (now kinds)) × (9 * (at + (length (now chain) / 3 - 1)) ≤ length (now nums))) ⌝ }
+    ensures { λ r. ⌜ FitPlaced (flushedBy how tolerance (now (chain .entry))) at r (now (kinds .entry)) (now (kinds .exit)) (now (nums .entry)) (now (nums .exit)) ⌝ }
+{
+    match how {
+        Flush::Fitted => flush_chain(chain, tolerance, kinds, nums, at),
+        Flush::AsItStands => fit_chain(chain, tolerance, kinds, nums, at),
+        Flush::Lines => thin_chain(chain, tolerance, kinds, nums, at),
+    }
+}
+
+// The command ends the chain: the chain is flushed, and the command kept as it stands.
+fn end_chain(
+    c: Command,
+    how: Flush,
+    tolerance: f64,
+    w: Walk,
+    chain: &mut [f64],
+    kinds: &mut [u8],
+    nums: &mut [f64],
+) -> Walk
+    requires { ⌜ ((+0 ≺ tolerance) ≡ true) × Room ends c w (now chain) (length (now kinds)) (length (now nums)) ⌝ }
+    ensures { λ r. ⌜ Stepped (flushedBy how tolerance) ends c w r (now (chain .entry)) (now (chain .exit)) (now (kinds .entry)) (now (kinds .exit)) (now (nums .entry)) (now (nums .exit)) ⌝ }
+{
+    let n = flush_by(
+        how,
+        &chain[..3 * w.points],
+        tolerance,
+        kinds,
+        nums,
+        w.written,
+    );
+    put_command(kinds, nums, w.written + n, c);
+    let end = c.end_point();
+    put_point(chain, 0, end);
+    Walk {
+        points: 1,
+        last: end,
+        written: w.written + n + 1,
+    }
+}
+
+// One command of a course.
+fn take_command(
+    c: Command,
+    how: Flush,
+    tolerance: f64,
+    w: Walk,
+    chain: &mut [f64],
+    kinds: &mut [u8],
+    nums: &mut [f64],
+) -> Walk
+    requires { ⌜ ((+0 ≺ tolerance) ≡ true) × Room (joinedBy how tolerance (w .last) c) c w (now chain) (length (now kinds)) (length (now nums)) ⌝ }
+    ensures { λ r. ⌜ Stepped (flushedBy how tolerance) (joinedBy how tolerance (w .last) c) c w r (now (chain .entry)) (now (chain .exit)) (now (kinds .entry)) (now (kinds .exit)) (now (nums .entry)) (now (nums .exit)) ⌝ }
+{
+    match c {
+        Command::Line { end } => add_line(end, w, chain),
+        Command::Bezier {
+            end,
+            control1,
+            control2,
+        } => {
+            if how.joins_beziers() {
+                return add_bezier(end, control1, control2, tolerance, w, chain);
+            }
+            end_chain(c, how, tolerance, w, chain, kinds, nums)
+        }
+        Command::Move { end: _ } => end_chain(c, how, tolerance, w, chain, kinds, nums),
+        Command::Arc {
+            end: _,
+            center_offset: _,
+            normal: _,
+        } => end_chain(c, how, tolerance, w, chain, kinds, nums),
+    }
+}
+
+// Walks along a course, and answers how many commands it gives.
+fn walk_course(
+    kinds: &[u8],
+    nums: &[f64],
+    how: Flush,
+    tolerance: f64,
+    out_kinds: &mut [u8],
+    out_nums: &mut [f64],
+) -> usize
+    requires { ⌜ ((+0 ≺ tolerance) ≡ true) × ((9 * length (now kinds) ≤ length (now nums)) × (mostOf (partsBy how tolerance (lentCourse (now kinds) (now nums))) ≤ 800) × (mostOf (partsBy how tolerance (lentCourse (now kinds) (now nums))) ≤ length (now «out_kinds»)) × (9 * mostOf (partsBy how tolerance (lentCourse (now kinds) (now nums))) ≤ length (now «out_nums»))) ⌝ }
+    ensures { λ r. ⌜ FitPlaced (fitBy how tolerance (lentCourse (now (kinds .entry)) (now (nums .entry)))) 0 r (now («out_kinds» .entry)) (now («out_kinds» .exit)) (now («out_nums» .entry)) (now («out_nums» .exit)) ⌝ }
+{
+    let mut chain = [0.0; 2403];
+    let mut w = Walk::new();
+    for i in 0..kinds.len() {
+        let c = command_at(kinds, nums, i);
+        w = take_command(c, how, tolerance, w, &mut chain, out_kinds, out_nums);
+    }
+    let n = flush_by(
+        how,
+        &chain[..3 * w.points],
+        tolerance,
+        out_kinds,
+        out_nums,
+        w.written,
+    );
+    w.written + n
+}
+
+// Fits a course, and answers how many commands it gives.
+pub fn fit_course(
+    kinds: &[u8],
+    nums: &[f64],
+    tolerance: f64,
+    out_kinds: &mut [u8],
+    out_nums: &mut [f64],
+) -> usize
+    requires { ⌜ ((+0 ≺ tolerance) ≡ true) × ((9 * length (now kinds) ≤ length (now nums)) × (courseMost tolerance (lentCourse (now kinds) (now nums)) ≤ 800) × (courseMost tolerance (lentCourse (now kinds) (now nums)) ≤ length (now «out_kinds»)) × (9 * courseMost tolerance (lentCourse (now kinds) (now nums)) ≤ length (now «out_nums»))) ⌝ }
+    ensures { λ r. ⌜ FitPlaced (courseFit tolerance (lentCourse (now (kinds .entry)) (now (nums .entry)))) 0 r (now («out_kinds» .entry)) (now («out_kinds» .exit)) (now («out_nums» .entry)) (now («out_nums» .exit)) ⌝ }
+{
+    walk_course(kinds, nums, Flush::Fitted, tolerance, out_kinds, out_nums)
+}
+
+// Why the commands of a course are refused, or 0: rows 1 to 6.
+fn check_input(kinds: &[u8], nums: &[f64], tolerance: f64, out_nums: usize) -> u32
+    ensures { λ r. ⌜ r ≡ refusal (inputRows (now (kinds .entry)) (now (nums .entry)) tolerance «out_nums») ⌝ }
+{
+    let n = kinds.len();
+    let size = nums.len();
+    if size % 9 != 0 {
+        return 1;
+    }
+    if size / 9 != n {
+        return 1;
+    }
+    if out_nums % 9 != 0 {
+        return 1;
+    }
+    if n > 800 {
+        return 2;
+    }
+    if !commands_formed(kinds, nums) {
+        return 4;
+    }
+    if !commands_in(kinds, nums) {
+        return 5;
+    }
+    if !is_within(0.001, 1000.0, tolerance) {
+        return 6;
+    }
+    0
+}
+
+// Why a course is refused, or 0. An output's room is that of the smaller of its two slices.
+fn check_course(
+    kinds: &[u8],
+    nums: &[f64],
+    tolerance: f64,
+    out_kinds: usize,
+    out_nums: usize,
+) -> u32
+    ensures { λ r. ⌜ r ≡ refusal (arcsRows (now (kinds .entry)) (now (nums .entry)) tolerance «out_kinds» «out_nums») ⌝ }
+{
+    let refused = check_input(kinds, nums, tolerance, out_nums);
+    if refused != 0 {
+        return refused;
+    }
+    let most = course_most(kinds, nums, tolerance);
+    if 800 < most {
+        return 8;
+    }
+    if out_kinds < most {
+        return 9;
+    }
+    if out_nums / 9 < most {
+        return 9;
+    }
+    0
+}
+
+// Fits lines and arcs to the commands' chains of points; Arcs are kept as they stand, and Beziers become points of a chain.
+pub fn fit_arcs(
+    kinds: &[u8],
+    nums: &[f64],
+    tolerance: f64,
+    out_kinds: &mut [u8],
+    out_nums: &mut [f64],
+) -> Answer
+    ensures { λ r. ⌜ WroteCommands (arcsCall (now (kinds .entry)) (now (nums .entry)) tolerance (length (now («out_kinds» .entry))) (length (now («out_nums» .entry)))) (now («out_kinds» .entry)) (now («out_kinds» .exit)) (now («out_nums» .entry)) (now («out_nums» .exit)) r ⌝ }
+{
+    let refused = check_course(kinds, nums, tolerance, out_kinds.len(), out_nums.len());
+    if refused != 0 {
+        return Answer::Refused(refused);
+    }
+    Answer::Written(fit_course(kinds, nums, tolerance, out_kinds, out_nums))
+}
+
+// How a path's chains are written.
+fn path_flush(use_fit_arcs: bool) -> Flush
+    ensures { λ r. ⌜ r ≡ pathFlush «use_fit_arcs» ⌝ }
+{
+    if use_fit_arcs {
+        return Flush::AsItStands;
+    }
+    Flush::Lines
+}
+
+// Optimises a path by thinning its chains of Lines, or by fitting lines and arcs to them; every other command is kept.
+pub fn optimize_path_from_array(
+    kinds: &[u8],
+    nums: &[f64],
+    tolerance: f64,
+    use_fit_arcs: bool,
+    out_kinds: &mut [u8],
+    out_nums: &mut [f64],
+) -> Answer
+    ensures { λ r. ⌜ WroteCommands (optimizeCall (now (kinds .entry)) (now (nums .entry)) tolerance «use_fit_arcs» (length (now («out_kinds» .entry))) (length (now («out_nums» .entry)))) (now («out_kinds» .entry)) (now («out_kinds» .exit)) (now («out_nums» .entry)) (now («out_nums» .exit)) r ⌝ }
+{
+    let refused = refuse_commands(kinds, nums, tolerance, out_kinds.len(), out_nums.len());
+    if refused != 0 {
+        return Answer::Refused(refused);
+    }
+    let how = path_flush(use_fit_arcs);
+    Answer::Written(walk_course(kinds, nums, how, tolerance, out_kinds, out_nums))
+}
