@@ -8,3 +8,4 @@ pub mod Chains
 pub mod Along
 pub mod Accepted
 pub mod Paths
+pub mod Demand

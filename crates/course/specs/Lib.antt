@@ -1,3 +1,4 @@
 pub mod Parts
 pub mod Course
 pub mod Walks
+pub mod Demand
