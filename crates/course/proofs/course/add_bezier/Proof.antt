@@ -1,9 +1,13 @@
 -- `course::course::add_bezier` meets its contract: the steps counted are those written. Assumes nothing.
 use native.Mathlib.Omega.{arith}
-use mathlib.Core.Path.{_∙_}
+use Prim.Native.Nat.{ℕ, _+_, _*_}
+use mathlib.Core.List.{List}
+use lib.Seq.{sets}
+use Rattle.types.specs.Lent.{flat}
+use mathlib.Core.Path.{ap, _∙_}
 use lib.ListN.{length}
 use Rattle.number.specs.Ops.{_⊗_}
-use Rattle.bezier.specs.Linearize.{paramSteps}
+use Rattle.bezier.specs.Linearize.{Step, stepEnd, paramSteps}
 use Rattle.course.specs.Course.{quarter}
 use Rattle.course.proofs.Count.{cap-few}
 use Rattle.course.proofs.Steps.{params-are-steps}
@@ -31,7 +35,7 @@ returns : tie.Need-returns
 returns c = let a = c .before .before .before .before .before .before .before .args in
     let p = c .before .before .before .before .before .before .before .pre in
     let n = c .before .before .before .before .before .bezier-steps .ensures ∙ cap-few (length (paramSteps (a .end) (a .control1) (a .control2) (a .w .last) (a .tolerance ⊗ quarter))) (omega (arith, p)) in
-    (rw n, c .before .before .before .put-ends .ensures ∙ rw (params-are-steps (a .end) (a .control1) (a .control2) (a .w .last) (a .tolerance ⊗ quarter) _ n))
+    (ap (λ (k : ℕ). record { points = a .w .points + k; last = a .end; written = a .w .written }) n, c .before .before .before .put-ends .ensures ∙ ap (λ (l : List Step). sets (a .chain .now) (3 * a .w .points) (flat stepEnd l)) (params-are-steps (a .end) (a .control1) (a .control2) (a .w .last) (a .tolerance ⊗ quarter) _ n))
 
 pub add-bezier-spec : {M : Type 1} → statement M
 add-bezier-spec =
