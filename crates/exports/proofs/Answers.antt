@@ -1,8 +1,8 @@
 -- What an outcome was, from the case of the answer that it gave. Assumes nothing.
 use Prim.Native.Nat.{ℕ, zero, suc, _-_, _/_}
 use mathlib.Core.Path.{_≡_, refl, sym, _∙_}
-use mathlib.Core.Bool.{Bool, true, false, cond}
-use mathlib.Core.List.{List}
+use mathlib.Core.Bool.{Bool, true, false, cond, not, _&&_}
+use mathlib.Core.List.{List, [], _∷_}
 use native.Mathlib.Omega.{arith}
 use lib.Dec.{ltb, eqb}
 use lib.ListN.{length}
@@ -12,9 +12,11 @@ use Rattle.types.specs.declared.types.Point3D.{Point3D}
 use Rattle.types.specs.declared.types.CubicBezier.{CubicBezier}
 use Rattle.types.specs.declared.point.Midpoint.{Midpoint}
 use Rattle.types.specs.declared.point.Midpoint.the-variants as Midpoint·
-use Rattle.types.specs.Outcome.{refusal, Outcome, refused, gives, unless}
+use Rattle.types.specs.Outcome.{row, refusal, Outcome, refused, gives, unless}
 use Rattle.types.specs.Midpoint.{midpointAnswer}
-use Rattle.types.specs.Lent.{pairAt}
+use Rattle.types.specs.Domain.{point3In}
+use Rattle.types.specs.Lent.{pairAt, pointAt}
+use Rattle.number.specs.Float.{absOf}
 use Rattle.bezier.specs.declared.bezier.BezierPoint.{BezierPoint}
 use Rattle.bezier.specs.declared.bezier.BezierPoint.the-variants as Point·
 use Rattle.bezier.specs.declared.bezier.BezierSplit.{BezierSplit}
@@ -29,6 +31,26 @@ use Rattle.bezier.specs.FitCubic.{noLength, chordSum, straight, sums, solved, f
 use Rattle.arc.specs.declared.arc.Direction.{Direction}
 use Rattle.arc.specs.declared.arc.Direction.the-variants as Direction·
 use Rattle.arc.specs.Direction.{directionAnswer}
+use Rattle.circle.specs.declared.circle.Collinear.{Collinear}
+use Rattle.circle.specs.declared.circle.Collinear.the-variants as Collinear·
+use Rattle.circle.specs.declared.circle.CircleThrough.{CircleThrough}
+use Rattle.circle.specs.declared.circle.CircleThrough.the-variants as Through·
+use Rattle.circle.specs.declared.circle.FittedCircle.{FittedCircle}
+use Rattle.circle.specs.declared.circle.FittedCircle.the-variants as Circle·
+use Rattle.circle.specs.declared.circle.Center.{Center}
+use Rattle.circle.specs.declared.circle.Center.the-variants as Center·
+use Rattle.circle.specs.declared.circle.Projected.{Projected}
+use Rattle.circle.specs.declared.circle.Projected.the-variants as Projected·
+use Rattle.circle.specs.declared.circle.Deviation.{Deviation}
+use Rattle.circle.specs.Three.{areaOf, turnOf, center3, radiusFrom, throughBy, throughThree}
+use Rattle.circle.specs.Kasa.{kasaCenter, fittedTo, kasaCircle}
+use Rattle.circle.specs.Collinear.{nano}
+use Rattle.circle.specs.Calls.{pointsRows, collinearAnswer, throughCall, throughAnswer, fittedCall, fittedAnswer, projectedAnswer}
+use Rattle.fitting.specs.declared.fitting.LineDeviation.{LineDeviation}
+use Rattle.fitting.specs.declared.fitting.LineDeviation.the-variants as Line·
+use Rattle.fitting.specs.declared.fitting.ArcDeviation.{ArcDeviation}
+use Rattle.fitting.specs.declared.fitting.ArcDeviation.the-variants as Arc·
+use Rattle.fitting.specs.Calls.{lineAnswer, arcAnswer}
 
 -- ---- get_midpoint_3d
 pub midpoint-gives : (o : Outcome Point3D) (r : Midpoint) (p : Point3D) → r ≡ midpointAnswer o → r ≡ Midpoint·.At p → o ≡ gives p
@@ -115,3 +137,103 @@ fit-refused s r n e h = go (refusal (fitRows s)) (fitted (pairAt s) (length s / 
     go : (k : ℕ) (c : FittedCubic) → (c ≡ Fit·.Refused n → ⊥) → r ≡ fitAnswer (unless k c) → unless k c ≡ refused n
     go zero c f e = absurd (f (sym e ∙ h))
     go (suc k) c f e = cc
+
+-- ---- are_points_collinear_3d
+pub collinear-gives : (o : Outcome Bool) (r : Collinear) (b : Bool) → r ≡ collinearAnswer o → r ≡ Collinear·.Is b → o ≡ gives b
+unfolding collinearAnswer
+collinear-gives (refused n) r b e h = absurd (let z : _≡_ {A = ℕ} 0 1 = cc in omega arith)
+collinear-gives (gives q) r b e h = cc
+
+pub collinear-refused : (o : Outcome Bool) (r : Collinear) (n : ℕ) → r ≡ collinearAnswer o → r ≡ Collinear·.Refused n → o ≡ refused n
+unfolding collinearAnswer
+collinear-refused (refused m) r n e h = cc
+collinear-refused (gives q) r n e h = absurd (let z : _≡_ {A = ℕ} 0 1 = cc in omega arith)
+
+-- ---- project_circle_center_to_bisector
+pub projected-gives : (o : Outcome Point) (r : Projected) (p : Point) → r ≡ projectedAnswer o → r ≡ Projected·.At p → o ≡ gives p
+unfolding projectedAnswer
+projected-gives (refused n) r p e h = absurd (let z : _≡_ {A = ℕ} 0 1 = cc in omega arith)
+projected-gives (gives q) r p e h = cc
+
+pub projected-refused : (o : Outcome Point) (r : Projected) (n : ℕ) → r ≡ projectedAnswer o → r ≡ Projected·.Refused n → o ≡ refused n
+unfolding projectedAnswer
+projected-refused (refused m) r n e h = cc
+projected-refused (gives q) r n e h = absurd (let z : _≡_ {A = ℕ} 0 1 = cc in omega arith)
+
+-- ---- get_polyline_line_deviation
+pub line-gives : (o : Outcome Deviation) (r : LineDeviation) (w : Deviation) → r ≡ lineAnswer o → r ≡ Line·.Is w → o ≡ gives w
+unfolding lineAnswer
+line-gives (refused n) r w e h = absurd (let z : _≡_ {A = ℕ} 0 1 = cc in omega arith)
+line-gives (gives q) r w e h = cc
+
+pub line-refused : (o : Outcome Deviation) (r : LineDeviation) (n : ℕ) → r ≡ lineAnswer o → r ≡ Line·.Refused n → o ≡ refused n
+unfolding lineAnswer
+line-refused (refused m) r n e h = cc
+line-refused (gives q) r n e h = absurd (let z : _≡_ {A = ℕ} 0 1 = cc in omega arith)
+
+-- ---- get_polyline_arc_deviation
+pub arc-gives : (o : Outcome Float) (r : ArcDeviation) (d : Float) → r ≡ arcAnswer o → r ≡ Arc·.Is d → o ≡ gives d
+unfolding arcAnswer
+arc-gives (refused n) r d e h = absurd (let z : _≡_ {A = ℕ} 0 1 = cc in omega arith)
+arc-gives (gives q) r d e h = cc
+
+pub arc-refused : (o : Outcome Float) (r : ArcDeviation) (n : ℕ) → r ≡ arcAnswer o → r ≡ Arc·.Refused n → o ≡ refused n
+unfolding arcAnswer
+arc-refused (refused m) r n e h = cc
+arc-refused (gives q) r n e h = absurd (let z : _≡_ {A = ℕ} 0 1 = cc in omega arith)
+
+-- ---- fit_circle_to_3_points, whose accepted answer is a circle or none, and never a refusal
+pub through-gives : (o : Outcome CircleThrough) (r : CircleThrough) (m : Point) (q : Float) → r ≡ throughAnswer o → r ≡ Through·.Around m q → o ≡ gives (Through·.Around m q)
+unfolding throughAnswer
+through-gives (refused n) r m q e h = absurd (let z : _≡_ {A = ℕ} 0 1 = cc in omega arith)
+through-gives (gives c) r m q e h = cc
+
+pub through-none : (o : Outcome CircleThrough) (r : CircleThrough) → r ≡ throughAnswer o → r ≡ Through·.None → o ≡ gives Through·.None
+unfolding throughAnswer
+through-none (refused n) r e h = absurd (let z : _≡_ {A = ℕ} 0 1 = cc in omega arith)
+through-none (gives c) r e h = cc
+
+never-through : (a b c : Point3D) (k : ℕ) → throughThree a b c ≡ Through·.Refused k → ⊥
+unfolding throughThree throughBy
+never-through a b c k h = go (lt (absOf (areaOf a b c)) nano) (lt (absOf (turnOf a b c)) nano) (center3 a b c (turnOf a b c)) (radiusFrom (center3 a b c (turnOf a b c)) a) h
+  where
+    go : (p q : Bool) (m : Point) (r : Float) → cond p Through·.None (cond q Through·.None (Through·.Around m r)) ≡ Through·.Refused k → ⊥
+    go true q m r h = let w : _≡_ {A = ℕ} 0 1 = cc in omega arith
+    go false true m r h = let w : _≡_ {A = ℕ} 0 1 = cc in omega arith
+    go false false m r h = let w : _≡_ {A = ℕ} 0 1 = cc in omega arith
+
+pub through-refused : (a b c : Point3D) (r : CircleThrough) (n : ℕ) → r ≡ throughAnswer (throughCall a b c) → r ≡ Through·.Refused n → throughCall a b c ≡ refused n
+unfolding throughCall throughAnswer unless
+through-refused a b c r n e h = go (refusal (row 5 (not (point3In a && point3In b && point3In c)) ∷ [])) (throughThree a b c) (never-through a b c n) e
+  where
+    go : (k : ℕ) (x : CircleThrough) → (x ≡ Through·.Refused n → ⊥) → r ≡ throughAnswer (unless k x) → unless k x ≡ refused n
+    go zero x f e = absurd (f (sym e ∙ h))
+    go (suc k) x f e = cc
+
+-- ---- fit_circle_to_points_3d, likewise
+pub fitted-gives : (o : Outcome FittedCircle) (r : FittedCircle) (m : Point) (q w : Float) → r ≡ fittedAnswer o → r ≡ Circle·.Circle m q w → o ≡ gives (Circle·.Circle m q w)
+unfolding fittedAnswer
+fitted-gives (refused n) r m q w e h = absurd (let z : _≡_ {A = ℕ} 0 1 = cc in omega arith)
+fitted-gives (gives c) r m q w e h = cc
+
+pub fitted-none : (o : Outcome FittedCircle) (r : FittedCircle) → r ≡ fittedAnswer o → r ≡ Circle·.None → o ≡ gives Circle·.None
+unfolding fittedAnswer
+fitted-none (refused n) r e h = absurd (let z : _≡_ {A = ℕ} 0 1 = cc in omega arith)
+fitted-none (gives c) r e h = cc
+
+never-fitted : (at : ℕ → Point3D) (lo hi : ℕ) (b : Bool) (k : ℕ) → cond b Circle·.None (kasaCircle at lo hi) ≡ Circle·.Refused k → ⊥
+unfolding kasaCircle fittedTo
+never-fitted at lo hi true k h = let w : _≡_ {A = ℕ} 0 1 = cc in omega arith
+never-fitted at lo hi false k h = go (kasaCenter at lo hi) h
+  where
+    go : (c : Center) → fittedTo at lo hi c ≡ Circle·.Refused k → ⊥
+    go Center·.None h = let w : _≡_ {A = ℕ} 0 1 = cc in omega arith
+    go (Center·.At m q) h = let w : _≡_ {A = ℕ} 0 1 = cc in omega arith
+
+pub fitted-refused : (s : List Float) (r : FittedCircle) (n : ℕ) → r ≡ fittedAnswer (fittedCall s) → r ≡ Circle·.Refused n → fittedCall s ≡ refused n
+unfolding fittedCall fittedAnswer unless
+fitted-refused s r n e h = go (refusal (pointsRows s)) (cond (ltb (length s / 3) 3) Circle·.None (kasaCircle (pointAt s) 0 (length s / 3 - 1))) (never-fitted (pointAt s) 0 (length s / 3 - 1) (ltb (length s / 3) 3) n) e
+  where
+    go : (k : ℕ) (x : FittedCircle) → (x ≡ Circle·.Refused n → ⊥) → r ≡ fittedAnswer (unless k x) → unless k x ≡ refused n
+    go zero x f e = absurd (f (sym e ∙ h))
+    go (suc k) x f e = cc

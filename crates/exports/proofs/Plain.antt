@@ -1,7 +1,6 @@
 -- The promises of an export, from what its outcome was. Assumes nothing.
 use Prim.Native.Nat.{ℕ}
 use mathlib.Core.Path.{_≡_, refl, ap, _∙_}
-use mathlib.Core.Bool.{Bool}
 use mathlib.Core.List.{List}
 use lib.Seq.{sets}
 use lib.Ieee.{Float}
@@ -20,12 +19,12 @@ module _ {A : Type 0} (lay : A → List Float) (o : Outcome A) (out : List Float
   unfolding numberOf laid
   gave-nothing n e = record { says = rw e; leaves = rw e }
 
-module _ {A : Type 0} (of : A → Bool) (o : Outcome A) (flag : Bool) where
-  pub tells : (a : A) (flag′ : Bool) → o ≡ gives a → flag′ ≡ of a → Told of o flag flag′ 0
+module _ {A B : Type 0} (of : A → B) (o : Outcome A) (b : B) where
+  pub tells : (a : A) (b′ : B) → o ≡ gives a → b′ ≡ of a → Told of o b b′ 0
   unfolding numberOf told
-  tells a flag′ e h = record { says = rw e; leaves = rw e h }
+  tells a b′ e h = record { says = rw e; leaves = rw e h }
 
-  pub tells-nothing : (n : ℕ) → o ≡ refused n → Told of o flag flag n
+  pub tells-nothing : (n : ℕ) → o ≡ refused n → Told of o b b n
   unfolding numberOf told
   tells-nothing n e = record { says = rw e; leaves = rw e }
 

@@ -12,13 +12,17 @@ use Rattle.types.specs.declared.types.CubicBezier.{CubicBezier}
 use Rattle.types.specs.declared.types.Answer.{Answer}
 use Rattle.types.specs.declared.types.Answer.the-variants as Answer·
 use Rattle.types.specs.declared.types.Command.{Command}
-use Rattle.types.specs.Lent.{pair, flat, kindOf, numbersOf}
+use Rattle.types.specs.Lent.{pair, triple, flat, kindOf, numbersOf}
 use Rattle.types.specs.Outcome.{Outcome, refused, gives, left}
 use Rattle.bezier.specs.declared.bezier.Halves.{Halves}
 use Rattle.bezier.specs.declared.bezier.Tolerance.{Tolerance}
 use Rattle.bezier.specs.declared.bezier.Tolerance.the-variants.{Given, Default}
 use Rattle.bezier.specs.declared.bezier.FittedCubic.{FittedCubic}
 use Rattle.bezier.specs.declared.bezier.FittedCubic.the-variants.{Curve, None, Refused}
+use Rattle.circle.specs.declared.circle.CircleThrough.{CircleThrough}
+use Rattle.circle.specs.declared.circle.CircleThrough.the-variants as Through·
+use Rattle.circle.specs.declared.circle.FittedCircle.{FittedCircle}
+use Rattle.circle.specs.declared.circle.FittedCircle.the-variants as Fitted·
 
 -- ---- points from their numbers
 abbrev pub point : Float → Float → Point
@@ -44,6 +48,28 @@ unfoldable pub curveNumbers : FittedCubic → List Float
 curveNumbers (Curve q) = eight q
 curveNumbers None = []
 curveNumbers (Refused n) = []
+
+-- the circle through three points, if there is one: centre and radius
+unfoldable pub isThrough : CircleThrough → Bool
+isThrough (Through·.Around m r) = true
+isThrough Through·.None = false
+isThrough (Through·.Refused n) = false
+
+unfoldable pub throughNumbers : CircleThrough → List Float
+throughNumbers (Through·.Around m r) = triple (point3 (m .x) (m .y) r)
+throughNumbers Through·.None = []
+throughNumbers (Through·.Refused n) = []
+
+-- the circle of least squares, if there is one: centre, radius and greatest error
+unfoldable pub isCircle : FittedCircle → Bool
+isCircle (Fitted·.Circle m r e) = true
+isCircle Fitted·.None = false
+isCircle (Fitted·.Refused n) = false
+
+unfoldable pub circleNumbers : FittedCircle → List Float
+circleNumbers (Fitted·.Circle m r e) = pair m ++ pair (point r e)
+circleNumbers Fitted·.None = []
+circleNumbers (Fitted·.Refused n) = []
 
 -- ---- a tolerance that is given, or else the source's
 unfoldable pub toleranceBy : Bool → Float → Tolerance
@@ -83,10 +109,10 @@ pub record Gave {A : Type 0} (lay : A → List Float) (o : Outcome A) (out out�
   pub says : r ≡ numberOf o
   pub leaves : out′ ≡ laid lay out o
 
--- the value is a truth, and goes to a lent flag
-pub record Told {A : Type 0} (of : A → Bool) (o : Outcome A) (flag flag′ : Bool) (r : ℕ) : Type 0 where
+-- the value, or a part of it, is a truth or one number, and goes to lent memory for one
+pub record Told {A B : Type 0} (of : A → B) (o : Outcome A) (b b′ : B) (r : ℕ) : Type 0 where
   pub says : r ≡ numberOf o
-  pub leaves : flag′ ≡ told of flag o
+  pub leaves : b′ ≡ told of b o
 
 -- a count or a refusal, handed on to a lent number or back
 pub record Handed (a : Answer) (count count′ : ℕ) (r : ℕ) : Type 0 where

@@ -5,7 +5,9 @@
 // refusal's number; what else it has to say goes to memory that the caller lends, which a refusal leaves as it was.
 pub mod arcs;
 pub mod beziers;
+pub mod circles;
 pub mod counts;
+pub mod fits;
 pub mod numbers;
 pub mod points;
 pub mod simplifies;

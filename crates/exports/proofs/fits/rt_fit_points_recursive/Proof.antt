@@ -1,0 +1,25 @@
+-- `exports::fits::rt_fit_points_recursive` meets its contract: what is written stays, and the answer is handed on. Assumes nothing.
+use Rattle.exports.proofs.Plain.{listed-commands}
+use borrow.Author.Needs.{needs}
+use Rattle.exports.proofs.fits.rt_fit_points_recursive.Statement.{statement}
+use Rattle.exports.proofs.fits.rt_fit_points_recursive.Tie as tie
+
+fit-points-recursive-requires : tie.Need-fit-points-recursive-requires
+fit-points-recursive-requires c κs = search needs
+
+hand-on-requires : tie.Need-hand-on-requires
+hand-on-requires c κs = search needs
+
+same-length : tie.Need-same-length
+same-length c = search needs
+
+same-length-2 : tie.Need-same-length-2
+same-length-2 c = search needs
+
+returns : tie.Need-returns
+returns c = listed-commands _ (c .before .before .before .before .before .before .before .before .before .before .before .before .args .kinds .now) _ (c .before .before .before .before .before .before .before .before .before .before .before .before .args .nums .now) _ _ (c .before .before .before .before .before .before .before .before .before .before .before .before .args .count .now) _ _ (c .before .before .before .before .before .before .fit-points-recursive .ensures) (c .hand-on .ensures)
+
+pub rt-fit-points-recursive-spec : {M : Type 1} → statement M
+rt-fit-points-recursive-spec =
+    tie.close
+    (tie.spec fit-points-recursive-requires hand-on-requires same-length same-length-2 returns)

@@ -1,0 +1,85 @@
+// Both deviations, and the fit of points into Lines and Arcs.
+use crate::counts::hand_on;
+use fitting::fitting::ArcDeviation;
+use fitting::fitting::LineDeviation;
+use types::types::Point;
+ghost use lib.ListN.{length};
+ghost use Rattle.fitting.specs.Calls.{lineCall, arcCall, fitCall, primitivesCall};
+ghost use Rattle.exports.specs.Plain.{point, Told, ListedCommands};
+
+// The greatest distance of a point from the line through the points at start and end, and the first point that has it.
+#[no_mangle]
+pub extern "C" fn rt_get_polyline_line_deviation(
+    points: &[f64],
+    start: usize,
+    end: usize,
+    dist: &mut f64,
+    index: &mut usize,
+) -> u32
+    ensures dist { λ r. ⌜ Told (λ w. w .dist) (lineCall (now (points .entry)) start end) (now (dist .entry)) (now (dist .exit)) r ⌝ }
+    ensures index { λ r. ⌜ Told (λ w. w .index) (lineCall (now (points .entry)) start end) (now (index .entry)) (now (index .exit)) r ⌝ }
+{
+    let a = fitting::fitting::get_polyline_line_deviation(points, start, end);
+    match a {
+        LineDeviation::Is(w) => {
+            *dist = w.dist;
+            *index = w.index;
+            0
+        }
+        LineDeviation::Refused(n) => n,
+    }
+}
+
+// The greatest deviation of a polyline from a circle.
+#[no_mangle]
+pub extern "C" fn rt_get_polyline_arc_deviation(
+    points: &[f64],
+    cx: f64,
+    cy: f64,
+    radius: f64,
+    dist: &mut f64,
+) -> u32
+    ensures { λ r. ⌜ Told (λ d. d) (arcCall (now (points .entry)) (point cx cy) radius) (now (dist .entry)) (now (dist .exit)) r ⌝ }
+{
+    let center = Point { x: cx, y: cy };
+    let a = fitting::fitting::get_polyline_arc_deviation(points, center, radius);
+    match a {
+        ArcDeviation::Is(d) => {
+            *dist = d;
+            0
+        }
+        ArcDeviation::Refused(n) => n,
+    }
+}
+
+// Fits the points from start to end.
+#[no_mangle]
+pub extern "C" fn rt_fit_points_recursive(
+    points: &[f64],
+    tolerance: f64,
+    start: usize,
+    end: usize,
+    kinds: &mut [u8],
+    nums: &mut [f64],
+    count: &mut usize,
+) -> u32
+    ensures { λ r. ⌜ ListedCommands (fitCall (now (points .entry)) tolerance start end (length (now (kinds .entry))) (length (now (nums .entry)))) (now (kinds .entry)) (now (kinds .exit)) (now (nums .entry)) (now (nums .exit)) (now (count .entry)) (now (count .exit)) r ⌝ }
+{
+    let a = fitting::fitting::fit_points_recursive(points, tolerance, start, end, kinds, nums);
+    hand_on(a, count)
+}
+
+// Fits all points.
+#[no_mangle]
+pub extern "C" fn rt_fit_points_with_primitives(
+    points: &[f64],
+    tolerance: f64,
+    kinds: &mut [u8],
+    nums: &mut [f64],
+    count: &mut usize,
+) -> u32
+    ensures { λ r. ⌜ ListedCommands (primitivesCall (now (points .entry)) tolerance (length (now (kinds .entry))) (length (now (nums .entry)))) (now (kinds .entry)) (now (kinds .exit)) (now (nums .entry)) (now (nums .exit)) (now (count .entry)) (now (count .exit)) r ⌝ }
+{
+    let a = fitting::fitting::fit_points_with_primitives(points, tolerance, kinds, nums);
+    hand_on(a, count)
+}
