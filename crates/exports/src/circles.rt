@@ -102,14 +102,11 @@ pub extern "C" fn rt_fit_circle_to_points_3d(
             error,
         } => {
             put_pair(answer, 0, center);
-            put_pair(
-                answer,
-                2,
-                Point {
-                    x: radius,
-                    y: error,
-                },
-            );
+            let rest = Point {
+                x: radius,
+                y: error,
+            };
+            put_pair(answer, 2, rest);
             *found = true;
             0
         }
