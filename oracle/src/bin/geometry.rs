@@ -3,12 +3,15 @@ use std::process::ExitCode;
 
 const USAGE: &str = "\
 geometry bezier COUNT SEED | geometry arc COUNT SEED | geometry grid | geometry list-bezier COUNT SEED
-geometry simplify COUNT SEED | geometry grid-simplify | geometry bench-simplify | geometry list-simplify COUNT SEED";
+geometry simplify COUNT SEED | geometry grid-simplify | geometry bench-simplify | geometry list-simplify COUNT SEED
+geometry fit COUNT SEED | geometry grid-fit";
 
 /// Whether nothing differed or failed; none where the words ask for nothing.
 #[cfg(given)]
 fn run(words: &[String]) -> Option<bool> {
-    use oracle::geometry::{arc, bench_simplify, bezier, frame, grid, grid_simplify, list, list_simplify, simplify};
+    use oracle::geometry::{
+        arc, bench_simplify, bezier, fit, frame, grid, grid_fit, grid_simplify, list, list_simplify, simplify,
+    };
     use std::io::{BufWriter, stdout};
 
     let numbers: Vec<u64> = words.iter().skip(1).filter_map(|word| word.parse().ok()).collect();
@@ -16,7 +19,9 @@ fn run(words: &[String]) -> Option<bool> {
         ("bezier", [count, seed]) => Some(frame::run(&bezier::FUNCTIONS, *count, *seed)),
         ("arc", [count, seed]) => Some(frame::run(&arc::FUNCTIONS, *count, *seed)),
         ("simplify", [count, seed]) => Some(frame::run(&simplify::FUNCTIONS, *count, *seed)),
+        ("fit", [count, seed]) => Some(frame::run(&fit::FUNCTIONS, *count, *seed)),
         ("grid", []) => Some(grid::run()),
+        ("grid-fit", []) => Some(grid_fit::run()),
         ("grid-simplify", []) => Some(grid_simplify::run()),
         ("bench-simplify", []) => Some(bench_simplify::run()),
         ("list-bezier", [count, seed]) => {

@@ -269,7 +269,7 @@ pub fn polygon_length(c: &[f64]) -> f64 {
 }
 
 /// The steps of a command's curve, by document 01: its length over the resolution, rounded up, at least 2.
-fn steps_needed(c: &[f64], resolution: f64) -> f64 {
+pub fn steps_needed(c: &[f64], resolution: f64) -> f64 {
     (polygon_length(c) / resolution).ceil().max(2.0)
 }
 

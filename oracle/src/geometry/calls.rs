@@ -166,4 +166,76 @@ unsafe extern "C" {
         room_nums: usize,
         count: *mut usize,
     ) -> u32;
+
+    pub fn rt_are_points_collinear_3d(points: *const f64, length: usize, tolerance: f64, collinear: *mut bool) -> u32;
+
+    pub fn rt_fit_circle_to_3_points(
+        p1x: f64,
+        p1y: f64,
+        p1z: f64,
+        p2x: f64,
+        p2y: f64,
+        p2z: f64,
+        p3x: f64,
+        p3y: f64,
+        p3z: f64,
+        found: *mut bool,
+        answer: *mut f64,
+    ) -> u32;
+
+    pub fn rt_fit_circle_to_points_3d(points: *const f64, length: usize, found: *mut bool, answer: *mut f64) -> u32;
+
+    pub fn rt_project_circle_center_to_bisector(
+        p1x: f64,
+        p1y: f64,
+        p1z: f64,
+        p2x: f64,
+        p2y: f64,
+        p2z: f64,
+        cx: f64,
+        cy: f64,
+        answer: *mut f64,
+    ) -> u32;
+
+    pub fn rt_get_polyline_line_deviation(
+        points: *const f64,
+        length: usize,
+        start: usize,
+        end: usize,
+        dist: *mut f64,
+        index: *mut usize,
+    ) -> u32;
+
+    pub fn rt_get_polyline_arc_deviation(
+        points: *const f64,
+        length: usize,
+        cx: f64,
+        cy: f64,
+        radius: f64,
+        dist: *mut f64,
+    ) -> u32;
+
+    pub fn rt_fit_points_recursive(
+        points: *const f64,
+        length: usize,
+        tolerance: f64,
+        start: usize,
+        end: usize,
+        kinds: *mut u8,
+        room_kinds: usize,
+        nums: *mut f64,
+        room_nums: usize,
+        count: *mut usize,
+    ) -> u32;
+
+    pub fn rt_fit_points_with_primitives(
+        points: *const f64,
+        length: usize,
+        tolerance: f64,
+        kinds: *mut u8,
+        room_kinds: usize,
+        nums: *mut f64,
+        room_nums: usize,
+        count: *mut usize,
+    ) -> u32;
 }

@@ -241,7 +241,7 @@ impl Draw {
     }
 
     /// Points along a circle, with noise, turning by the same angle each time.
-    fn round_trip(&mut self, count: usize) -> Vec<f64> {
+    pub fn round_trip(&mut self, count: usize) -> Vec<f64> {
         self.label("points: along a circle");
         let m = self.sized(-9, 0);
         let m = self.signed(m);
@@ -262,13 +262,18 @@ impl Draw {
 
     /// A centre for a list: beside its points, far away, at the limits, or past them.
     pub fn centre(&mut self, list: &[f64]) -> [f64; 2] {
-        let mut centre = match self.below(6) {
+        let centre = match self.below(6) {
             0 => [0.0, -0.0],
             1 if list.len() > 1 => [list[0], list[1]],
             2 => [self.far(), self.far()],
             3 => [self.tiny(), self.tiny()],
             _ => [self.unit() * 200.0 - 50.0, self.unit() * 200.0 - 50.0],
         };
+        self.centre_beside(centre)
+    }
+
+    /// This centre, or one at the limits or past them.
+    pub fn centre_beside(&mut self, mut centre: [f64; 2]) -> [f64; 2] {
         if self.one_in(12) {
             let axis = self.below(2);
             centre[axis] = self.edge(&[(CENTRE, "a centre at the limit"), (-CENTRE, "a centre at the limit")]);
@@ -335,6 +340,26 @@ impl Draw {
     /// A tolerance or a resolution.
     pub fn tolerance(&mut self) -> f64 {
         self.ranged(0.001, 1_000.0, -10, 9)
+    }
+
+    /// A radius.
+    pub fn radius(&mut self, x: f64) -> f64 {
+        if !self.one_in(6) {
+            return x;
+        }
+        self.edge(&[
+            (0.0, "radius 0"),
+            (-0.0, "radius 0"),
+            (f64::from_bits(1), "radius tiny"),
+            (1e-9, "radius tiny"),
+            (CENTRE, "radius at its most"),
+            (CENTRE.next_down(), "radius at its most"),
+            (CENTRE.next_up(), "radius outside"),
+            (-f64::from_bits(1), "radius outside"),
+            (-1.0, "radius outside"),
+            (f64::NAN, "radius outside"),
+            (f64::INFINITY, "radius outside"),
+        ])
     }
 
     /// A squared tolerance.

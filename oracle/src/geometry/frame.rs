@@ -79,6 +79,12 @@ impl Tally {
         for label in labels {
             *self.kinds.entry((call.function, label.to_string())).or_default() += 1;
         }
+        // where each kind of input stands to the margins
+        for margins in labels.iter().filter(|label| label.starts_with("margins")) {
+            for kind in labels.iter().filter(|label| label.starts_with("points") || label.starts_with("course")) {
+                *self.kinds.entry((call.function, format!("{kind}; {margins}"))).or_default() += 1;
+            }
+        }
         if call.proved != call.given {
             self.differences += 1;
             if self.differences <= PRINTED {

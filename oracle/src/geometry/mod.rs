@@ -4,15 +4,21 @@
 //! and compares. Another layer is another such list.
 pub mod arc;
 pub mod bench_simplify;
+pub mod bends;
 pub mod bezier;
 pub mod calls;
+pub mod circle;
+pub mod course;
 pub mod draw;
+pub mod fit;
 pub mod frame;
 pub mod grid;
+pub mod grid_fit;
 pub mod grid_simplify;
 pub mod lent;
 pub mod list;
 pub mod list_simplify;
+pub mod margins;
 pub mod shapes;
 pub mod simplify;
 pub mod table;

@@ -7,7 +7,7 @@ const RADIUS: f64 = 36.8;
 const HALF_CIRCLE: f64 = RADIUS * std::f64::consts::PI;
 
 /// Cosine and sine by their series, which every machine sums alike; for up to a half turn.
-fn turn(angle: f64) -> (f64, f64) {
+pub fn turn(angle: f64) -> (f64, f64) {
     let (mut cosine, mut sine, mut term) = (0.0, 0.0, 1.0);
     for n in 0..24 {
         match n % 4 {
@@ -22,7 +22,7 @@ fn turn(angle: f64) -> (f64, f64) {
 }
 
 /// The place on the track so many metres after its start.
-fn on_track(metres: f64) -> [f64; 2] {
+pub fn on_track(metres: f64) -> [f64; 2] {
     let half = STRAIGHT + HALF_CIRCLE;
     let halves = (metres / half).floor();
     let along = metres - halves * half;
@@ -36,7 +36,7 @@ fn on_track(metres: f64) -> [f64; 2] {
 }
 
 /// Noise about zero of about this size.
-fn noise(draw: &mut Draw, size: f64) -> f64 {
+pub fn noise(draw: &mut Draw, size: f64) -> f64 {
     (draw.unit() + draw.unit() + draw.unit() + draw.unit() - 2.0) * 1.7 * size
 }
 
@@ -151,7 +151,7 @@ fn flip_zeros(draw: &mut Draw, list: &mut [f64]) {
 }
 
 /// So many points in the plane, of one of the shapes.
-fn shape(draw: &mut Draw, count: usize) -> Vec<f64> {
+pub fn shape(draw: &mut Draw, count: usize) -> Vec<f64> {
     match draw.below(8) {
         0 => {
             draw.label("points: a walk");
@@ -185,19 +185,24 @@ fn shape(draw: &mut Draw, count: usize) -> Vec<f64> {
     }
 }
 
-/// A list of so many points in the plane, now and then changed or spoilt.
+/// Now and then changes or spoils a list of points in the plane.
+pub fn change(draw: &mut Draw, list: &mut [f64]) {
+    if draw.one_in(6) {
+        stand_still(draw, list);
+    }
+    if list.len() > 4 && draw.one_in(4) {
+        close(draw, list);
+    }
+    flip_zeros(draw, list);
+    if draw.one_in(4) {
+        draw.spoil(list);
+    }
+}
+
+/// A list of so many points in the plane.
 pub fn points(draw: &mut Draw, count: usize) -> Vec<f64> {
     let mut list = shape(draw, count);
-    if draw.one_in(6) {
-        stand_still(draw, &mut list);
-    }
-    if count > 2 && draw.one_in(4) {
-        close(draw, &mut list);
-    }
-    flip_zeros(draw, &mut list);
-    if draw.one_in(4) {
-        draw.spoil(&mut list);
-    }
+    change(draw, &mut list);
     list
 }
 

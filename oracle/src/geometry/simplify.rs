@@ -19,7 +19,7 @@ pub fn triples(numbers: &[f64]) -> Vec<Point3D> {
 }
 
 /// Now and then part of a point behind the others.
-fn lengthen(draw: &mut Draw, list: &mut Vec<f64>, width: usize) {
+pub fn lengthen(draw: &mut Draw, list: &mut Vec<f64>, width: usize) {
     if draw.one_in(25) {
         draw.label("a slice that is not whole points");
         let part = 1 + draw.below(width - 1);
@@ -119,7 +119,7 @@ fn command(kind: u8, numbers: &[f64]) -> Command {
 }
 
 /// The kind of a command and its three points.
-fn parts(command: &Command) -> (u8, [Point3D; 3]) {
+pub fn parts(command: &Command) -> (u8, [Point3D; 3]) {
     let none = Point3D::new(0.0, 0.0, 0.0);
     match command {
         Command::Move { end } => (0, [*end, none, none]),
@@ -135,9 +135,20 @@ impl Commands {
         self.kinds.iter().zip(self.numbers.chunks(9)).map(|(kind, nine)| command(*kind, nine)).collect()
     }
 
-    fn each(&self, holds: fn(u8, &[f64]) -> bool) -> bool {
+    pub fn each(&self, holds: fn(u8, &[f64]) -> bool) -> bool {
         self.kinds.iter().zip(self.numbers.chunks_exact(9)).all(|(kind, nine)| holds(*kind, nine))
     }
+}
+
+/// What stands in the outputs for commands, in their count, and in what is lent behind them, once these are written.
+pub fn written_commands(before: &[Lent], rooms: Rooms, commands: &[Command]) -> Vec<Lent> {
+    let all: Vec<_> = commands.iter().map(parts).collect();
+    let kinds: Vec<u8> = all.iter().map(|part| part.0).collect();
+    let words: Vec<u64> = all.iter().flat_map(|part| words_of_triples(&part.1)).collect();
+    let mut left = items(before, &words, 9);
+    left.push(Lent::byte_room(rooms.kinds, &kinds));
+    left.extend_from_slice(&before[3..]);
+    left
 }
 
 pub fn data_of(c: &Commands, tolerance: f64, rooms: Rooms) -> Compared {
@@ -175,18 +186,11 @@ pub fn data_of(c: &Commands, tolerance: f64, rooms: Rooms) -> Compared {
             let (n, size) = (c.kinds.len(), c.numbers.len());
             rt_simplify_data(kinds, n, nums, size, tolerance, out_kinds, rooms.kinds, out_nums, rooms.numbers, count)
         },
-        |before| {
-            let kept: Vec<_> = simplify::simplify_data(&c.given(), tolerance).iter().map(parts).collect();
-            let kinds: Vec<u8> = kept.iter().map(|part| part.0).collect();
-            let words: Vec<u64> = kept.iter().flat_map(|part| words_of_triples(&part.1)).collect();
-            let mut left = items(before, &words, 9);
-            left.extend([Lent::byte_room(rooms.kinds, &kinds), before[3].clone(), before[4].clone()]);
-            left
-        },
+        |before| written_commands(before, rooms, &simplify::simplify_data(&c.given(), tolerance)),
     )
 }
 
-fn command_count(draw: &mut Draw) -> usize {
+pub fn command_count(draw: &mut Draw) -> usize {
     match draw.below(30) {
         0 => draw.edge(&[(799, "799 commands"), (800, "800 commands"), (801, "801 commands")]),
         1 => draw.below(801),
@@ -197,7 +201,7 @@ fn command_count(draw: &mut Draw) -> usize {
 }
 
 /// Which of the commands are Moves, once in so many, and the kinds of the others.
-fn kinds(draw: &mut Draw, count: usize) -> Vec<u8> {
+pub fn kinds(draw: &mut Draw, count: usize) -> Vec<u8> {
     let moves = draw.edge(&[
         (1, "all Moves"),
         (2, "many Moves"),
@@ -221,7 +225,7 @@ fn kinds(draw: &mut Draw, count: usize) -> Vec<u8> {
 }
 
 /// The six numbers behind a command's end. Offsets and normals are finite, and nothing more is asked of them.
-fn behind(draw: &mut Draw, kind: u8) -> [f64; 6] {
+pub fn behind(draw: &mut Draw, kind: u8) -> [f64; 6] {
     match kind {
         2 => [0; 6].map(|_| {
             let x = draw.sized(-1074, 1023);
@@ -233,7 +237,7 @@ fn behind(draw: &mut Draw, kind: u8) -> [f64; 6] {
 }
 
 /// Puts something wrong into one command.
-fn spoil(draw: &mut Draw, c: &mut Commands) {
+pub fn spoil(draw: &mut Draw, c: &mut Commands) {
     let i = draw.below(c.kinds.len());
     let place = 9 * i + 3 + draw.below(6);
     match draw.below(5) {
@@ -261,7 +265,7 @@ fn spoil(draw: &mut Draw, c: &mut Commands) {
 }
 
 /// Kinds or numbers too many or too few.
-fn unmatch(draw: &mut Draw, c: &mut Commands) {
+pub fn unmatch(draw: &mut Draw, c: &mut Commands) {
     draw.label("kinds and numbers that do not match");
     match draw.below(4) {
         0 => c.kinds.push(1),
@@ -291,7 +295,7 @@ fn commands(draw: &mut Draw) -> Commands {
     c
 }
 
-fn rooms(draw: &mut Draw, count: usize) -> Rooms {
+pub fn rooms(draw: &mut Draw, count: usize) -> Rooms {
     let numbers = draw.room(9, count);
     let kinds = match draw.below(10) {
         0 => draw.labelled("room one kind short", count.saturating_sub(1)),

@@ -54,6 +54,21 @@ pub fn bad_tolerance(within: bool) -> Row {
     (6, !within)
 }
 
+/// Row 7: an index that is not inside the points.
+pub fn bad_index(index: usize, points: usize) -> Row {
+    (7, index >= points)
+}
+
+/// Row 7: a range with steps that ends outside the points.
+pub fn bad_range(start: usize, end: usize, points: usize) -> Row {
+    (7, start < end && end >= points)
+}
+
+/// Row 8: the most of a course above the domain's.
+pub fn too_much(most: f64) -> Row {
+    (8, most > 800.0)
+}
+
 /// Row 9: the lent output holds less than the most.
 pub fn no_room(room: usize, most: usize) -> Row {
     (9, room < most)
@@ -90,6 +105,11 @@ pub fn command(kind: u8, numbers: &[f64]) -> bool {
 /// A centre handed in: at most 1e12 from zero.
 pub fn centre(numbers: &[f64]) -> bool {
     numbers.iter().all(|x| in_range(*x, -1e12, 1e12))
+}
+
+/// A radius: 0 to 1e12. −0 is 0.
+pub fn radius(x: f64) -> bool {
+    in_range(x, 0.0, 1e12)
 }
 
 /// A curve's parameter: 0 to 1. −0 is 0.
