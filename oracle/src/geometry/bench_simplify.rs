@@ -18,11 +18,11 @@ const ROUNDS: usize = 301;
 /// A round takes about so many seconds on each side: so few that both meet the machine in the same state.
 const ROUND: f64 = 0.000_3;
 
-/// One input on both sides; each side answers how many points it keeps.
-struct Row<'a> {
-    name: String,
-    given: Box<dyn FnMut() -> usize + 'a>,
-    proved: Box<dyn FnMut() -> usize + 'a>,
+/// One input on both sides; each side answers how many points it keeps, or how many commands it makes.
+pub struct Row<'a> {
+    pub name: String,
+    pub given: Box<dyn FnMut() -> usize + 'a>,
+    pub proved: Box<dyn FnMut() -> usize + 'a>,
 }
 
 /// Seconds for one call.
@@ -51,15 +51,15 @@ fn round(row: &mut Row, calls: usize, index: usize) -> (f64, f64) {
     (time(&mut row.given, calls), proved)
 }
 
-/// Times one row and prints it; whether both sides keep as many points.
-fn print(row: &mut Row) -> bool {
+/// Times one row and prints it; whether both sides keep or make as many.
+pub fn print(row: &mut Row) -> bool {
     let (given, proved) = ((row.given)(), (row.proved)());
     let calls = (ROUND / time(&mut row.given, 3)).ceil() as usize;
     let rounds: Vec<(f64, f64)> = (0..ROUNDS).map(|index| round(row, calls, index)).collect();
     let (ours, _, _) = spread(rounds.iter().map(|round| round.1 * 1e6).collect());
     let (theirs, _, _) = spread(rounds.iter().map(|round| round.0 * 1e6).collect());
     let (ratio, low, high) = spread(rounds.iter().map(|round| round.1 / round.0).collect());
-    println!("{:<54} {proved:>5} {theirs:>9.1} {ours:>9.1}   {ratio:.2} ({low:.2}..{high:.2})", row.name);
+    println!("{:<67} {proved:>8} {theirs:>9.1} {ours:>9.1}   {ratio:.2} ({low:.2}..{high:.2})", row.name);
     given == proved
 }
 
@@ -156,9 +156,14 @@ fn rows() -> Vec<Row<'static>> {
     rows
 }
 
+/// The head of a table; `what` is counted.
+pub fn head(what: &str) {
+    let ratio = format!("ratio (the middle four fifths of {ROUNDS} rounds)");
+    println!("{:<67} {what:>8} {:>9} {:>9}   {ratio}", "", "Rust us", "proved us");
+}
+
 /// Prints the table, and answers whether both sides kept as many points of each input.
 pub fn run() -> bool {
-    let ratio = format!("ratio (the middle four fifths of {ROUNDS} rounds)");
-    println!("{:<54} {:>5} {:>9} {:>9}   {ratio}", "", "kept", "Rust us", "proved us");
+    head("kept");
     rows().iter_mut().fold(true, |same, row| print(row) && same)
 }

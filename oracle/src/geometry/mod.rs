@@ -3,6 +3,7 @@
 //! A layer is a list of functions, each of which draws an input, calls both sides and says what each left. `frame` counts
 //! and compares. Another layer is another such list.
 pub mod arc;
+pub mod bench_fit;
 pub mod bench_simplify;
 pub mod bends;
 pub mod bezier;
