@@ -4,14 +4,14 @@ use std::process::ExitCode;
 const USAGE: &str = "\
 geometry bezier COUNT SEED | geometry arc COUNT SEED | geometry grid | geometry list-bezier COUNT SEED
 geometry simplify COUNT SEED | geometry grid-simplify | geometry bench-simplify | geometry list-simplify COUNT SEED
-geometry fit COUNT SEED | geometry grid-fit | geometry bench-fit | geometry zigzag-in KIB";
+geometry fit COUNT SEED | geometry grid-fit | geometry bench-fit | geometry zigzag-in KIB | geometry list-fit COUNT SEED";
 
 /// Whether nothing differed or failed; none where the words ask for nothing.
 #[cfg(given)]
 fn run(words: &[String]) -> Option<bool> {
     use oracle::geometry::{
-        arc, bench_fit, bench_simplify, bezier, fit, frame, grid, grid_fit, grid_simplify, list, list_simplify,
-        simplify,
+        arc, bench_fit, bench_simplify, bezier, fit, frame, grid, grid_fit, grid_simplify, list, list_fit,
+        list_simplify, simplify,
     };
     use std::io::{BufWriter, stdout};
 
@@ -29,6 +29,9 @@ fn run(words: &[String]) -> Option<bool> {
         ("bench-simplify", []) => Some(bench_simplify::run()),
         ("list-bezier", [count, seed]) => {
             Some(list::list(*count as usize, *seed, &mut BufWriter::new(stdout())).is_ok())
+        }
+        ("list-fit", [count, seed]) => {
+            Some(list_fit::list(*count as usize, *seed, &mut BufWriter::new(stdout())).is_ok())
         }
         ("list-simplify", [count, seed]) => {
             Some(list_simplify::list(*count as usize, *seed, &mut BufWriter::new(stdout())).is_ok())

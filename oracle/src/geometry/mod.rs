@@ -18,6 +18,7 @@ pub mod grid_fit;
 pub mod grid_simplify;
 pub mod lent;
 pub mod list;
+pub mod list_fit;
 pub mod list_simplify;
 pub mod margins;
 pub mod shapes;

@@ -1,0 +1,204 @@
+// Replays recorded calls of circle fits, deviations and fits of points, and compares each with what the given Rust
+// answered. Standard input has the records, up to 1,000,000 bytes; oracle/src/geometry/list_fit.rs says how they are laid
+// out. The program prints how many were compared, and how many differ; a damaged one differs and ends the run.
+mod calls;
+
+use libc::STDIN_FILENO;
+use libc::STDOUT_FILENO;
+use records::float_of;
+use records::has_pattern;
+use records::word_at;
+ghost use mathlib.Core.Path.{_≡_};
+ghost use Prim.Native.Nat.{_+_, _*_, _≤_};
+ghost use lib.ListN.{length};
+ghost use Rattle.replay_fit.specs.Record.{Whole};
+
+// The bytes of a record before its numbers.
+const HEAD: usize = 88;
+
+// What stands in the lent outputs before a call.
+const BEFORE: f64 = -123456.789;
+
+const BEFORE_KIND: u8 = 200;
+
+// Reads the n numbers of s from `at` on.
+fn read_numbers(s: &[u8], at: usize, n: usize, numbers: &mut [f64])
+    requires { ⌜ (n ≤ length (now numbers)) × (at + 8 * n ≤ length (now s)) ⌝ }
+{
+    for i in 0..n {
+        numbers[i] = float_of(word_at(s, at + 8 * i));
+    }
+}
+
+// Whether the first n numbers have the patterns of s from `at` on.
+fn is_written(s: &[u8], at: usize, n: usize, out: &[f64]) -> bool
+    requires { ⌜ (n ≤ length (now out)) × (at + 8 * n ≤ length (now s)) ⌝ }
+{
+    for i in 0..n {
+        if !has_pattern(out[i], word_at(s, at + 8 * i)) {
+            return false;
+        }
+    }
+    true
+}
+
+// Whether the known number still stands at each place from `from` on.
+fn is_left(out: &[f64], from: usize) -> bool {
+    for i in from..out.len() {
+        if out[i] != BEFORE {
+            return false;
+        }
+    }
+    true
+}
+
+// The same of kinds.
+fn are_kinds_written(s: &[u8], at: usize, n: usize, kinds: &[u8]) -> bool
+    requires { ⌜ (n ≤ length (now kinds)) × (at + 8 * n ≤ length (now s)) ⌝ }
+{
+    for i in 0..n {
+        if kinds[i] != s[at + 8 * i] {
+            return false;
+        }
+    }
+    true
+}
+
+fn are_kinds_left(kinds: &[u8], from: usize) -> bool {
+    for i in from..kinds.len() {
+        if kinds[i] != BEFORE_KIND {
+            return false;
+        }
+    }
+    true
+}
+
+// How many bytes the record at the start of s has; 0 where no whole one stands there.
+fn size_of(s: &[u8]) -> usize
+    ensures { λ r. ⌜ r ≤ length (now (s .entry)) ⌝ }
+    ensures whole { λ r. ⌜ ((r ≡ 0 → ⊥) → Whole (now (s .entry))) ⌝ }
+{
+    if s.len() < HEAD {
+        return 0;
+    }
+    let numbers = word_at(s, 32);
+    let room = word_at(s, 40);
+    let kind_room = word_at(s, 48);
+    let written = word_at(s, 72);
+    let kinds_written = word_at(s, 80);
+    if 6200 < numbers {
+        return 0;
+    }
+    if 19000 < room {
+        return 0;
+    }
+    if 4300 < kind_room {
+        return 0;
+    }
+    if room < written {
+        return 0;
+    }
+    if kind_room < kinds_written {
+        return 0;
+    }
+    let size = HEAD + 8 * (numbers as usize + written as usize + kinds_written as usize);
+    if s.len() < size {
+        return 0;
+    }
+    size
+}
+
+// Whether the outputs are those of the record at the start of s.
+fn is_output(s: &[u8], out: &[f64], kinds: &[u8]) -> bool
+    requires { ⌜ Whole (now s) × (19000 ≤ length (now out)) × (4300 ≤ length (now kinds)) ⌝ }
+{
+    let at = HEAD + 8 * word_at(s, 32) as usize;
+    let written = word_at(s, 72) as usize;
+    let kinds_written = word_at(s, 80) as usize;
+    if !is_written(s, at, written, out) {
+        return false;
+    }
+    if !are_kinds_written(s, at + 8 * written, kinds_written, kinds) {
+        return false;
+    }
+    if !is_left(out, written) {
+        return false;
+    }
+    are_kinds_left(kinds, kinds_written)
+}
+
+// Whether the call of the record at the start of s answers and leaves what it says.
+fn agrees(s: &[u8]) -> bool
+    requires { ⌜ Whole (now s) ⌝ }
+{
+    let n = word_at(s, 32) as usize;
+    let room = word_at(s, 40) as usize;
+    let kind_room = word_at(s, 48) as usize;
+    let mut numbers = [0.0; 6200];
+    let mut out = [BEFORE; 19000];
+    let mut kinds = [BEFORE_KIND; 4300];
+    read_numbers(s, HEAD, n, &mut numbers);
+    let r = calls::call(
+        word_at(s, 0),
+        float_of(word_at(s, 8)),
+        word_at(s, 16) as usize,
+        word_at(s, 24) as usize,
+        &numbers,
+        n,
+        &mut kinds,
+        kind_room,
+        &mut out,
+        room,
+    );
+    if r.number as u64 != word_at(s, 56) {
+        return false;
+    }
+    if r.count as u64 != word_at(s, 64) {
+        return false;
+    }
+    is_output(s, &out, &kinds)
+}
+
+struct Tally {
+    compared: u64,
+    differ: u64,
+}
+
+// Replays the records of s, one behind the other.
+fn replay(s: &[u8]) -> Tally {
+    let mut compared: u64 = 0;
+    let mut differ: u64 = 0;
+    let mut at = 0;
+    while at < s.len() {
+        let size = size_of(&s[at..]);
+        if size == 0 {
+            return Tally {
+                compared,
+                differ: differ + 1,
+            };
+        }
+        if !agrees(&s[at..]) {
+            differ += 1;
+        }
+        compared += 1;
+        at += size;
+    }
+    Tally { compared, differ }
+}
+
+// Room for the records. The promise gives only the length, which lending the array asks.
+fn input_buffer() -> [u8; 1000000]
+    ensures { λ r. ⌜ 1000000 ≡ length r ⌝ }
+{
+    [0; 1000000]
+}
+
+fn main() {
+    let mut input = input_buffer();
+    let n = io::read_full(STDIN_FILENO, &mut input);
+    let t = replay(&input[..n]);
+    io::print_decimal(STDOUT_FILENO, t.compared);
+    io::write_all(STDOUT_FILENO, b" compared, ");
+    io::print_decimal(STDOUT_FILENO, t.differ);
+    io::write_all(STDOUT_FILENO, b" differ\n");
+}

@@ -1,0 +1,232 @@
+//! A list of calls of circle fits, deviations and fits of points, and of what is expected of each, for a replay with no
+//! Rust: records of words, eight bytes each, the lowest first.
+//!
+//! | word | what |
+//! |---|---|
+//! | 0 | the function: its place in `NAMES` |
+//! | 1 | the tolerance, or 0 |
+//! | 2 | the range's start, or 0 |
+//! | 3 | the range's end, or 0 |
+//! | 4 | how many numbers go in |
+//! | 5 | how many numbers the lent output holds |
+//! | 6 | how many kinds the lent output holds |
+//! | 7 | the number of the refusal, or 0 |
+//! | 8 | the count of commands written, the truth, or the index |
+//! | 9 | how many numbers are written |
+//! | 10 | how many kinds are written |
+//! | then | the numbers that go in (a circle before the points, a centre behind them), the numbers that are written, the kinds that are written |
+//!
+//! A fit stands in the list only where document 01's margins hold. A deviation from an arc is the proved function's, and
+//! stands there only where it is within document 01's bound of the Rust's.
+use super::circle;
+use super::draw::Draw;
+use super::fit::{FUNCTIONS, Judged, primitives_of, recursive_of};
+use super::frame::Compared;
+use super::lent::{Lent, Purpose};
+use super::margins::Margins;
+use super::shapes::{raised, track, zigzag};
+use super::simplify::Rooms;
+use crate::random::Random;
+use std::io::{Result, Write};
+
+const NAMES: [&str; 8] = [
+    "are_points_collinear_3d",
+    "fit_circle_to_3_points",
+    "fit_circle_to_points_3d",
+    "project_circle_center_to_bisector",
+    "get_polyline_line_deviation",
+    "get_polyline_arc_deviation",
+    "fit_points_recursive",
+    "fit_points_with_primitives",
+];
+
+/// A drawn record has at most so many words.
+const LONG: usize = 120;
+
+/// The argument of this name; nothing where there is none.
+fn argument<'a>(call: &'a Compared, name: &str) -> &'a [u64] {
+    call.arguments.iter().find(|argument| argument.0 == name).map_or(&[], |argument| &argument.1)
+}
+
+fn first(words: &[u64]) -> u64 {
+    words.first().copied().unwrap_or(0)
+}
+
+fn lent(call: &Compared, purpose: Purpose) -> Option<&Lent> {
+    call.given.lent.iter().find(|lent| lent.purpose == purpose)
+}
+
+/// The count or the index that is expected, or the truth.
+fn count(call: &Compared) -> u64 {
+    if call.given.number != 0 {
+        return 0;
+    }
+    match (lent(call, Purpose::Count), lent(call, Purpose::Flag)) {
+        (Some(count), _) => count.words()[0],
+        (_, Some(flag)) => flag.words()[0] & 0xff,
+        _ => 0,
+    }
+}
+
+fn record(call: &Compared) -> Vec<u64> {
+    let function = NAMES.iter().position(|name| *name == call.function).expect("a function with a place");
+    let numbers = [argument(call, "circle"), argument(call, "points"), argument(call, "centre")].concat();
+    let (range, rooms) = (argument(call, "range"), argument(call, "rooms"));
+    let answer = lent(call, Purpose::Answer);
+    let written = answer.map_or(&[][..], |lent| lent.front());
+    let kinds: Vec<u64> = lent(call, Purpose::Kinds).map_or(vec![], |lent| {
+        lent.words().iter().flat_map(|word| word.to_le_bytes()).take(count(call) as usize).map(u64::from).collect()
+    });
+    let mut words = vec![
+        function as u64,
+        first(argument(call, "tolerance")),
+        first(range),
+        range.get(1).copied().unwrap_or(0),
+        numbers.len() as u64,
+        answer.map_or(0, |lent| lent.len() as u64),
+        first(rooms),
+        call.given.number as u64,
+        count(call),
+        written.len() as u64,
+        kinds.len() as u64,
+    ];
+    for part in [&numbers[..], written, &kinds] {
+        words.extend(part);
+    }
+    words
+}
+
+/// The most of all points of a list.
+fn full(list: &[f64]) -> Rooms {
+    let most = (list.len() / 3).saturating_sub(1);
+    Rooms { kinds: most, numbers: 9 * most }
+}
+
+fn whole(list: &[f64], tolerance: f64) -> Judged {
+    primitives_of(list, tolerance, full(list))
+}
+
+/// Points in the plane, lifted.
+fn lifted(plane: &[f64]) -> Vec<f64> {
+    plane.chunks(2).enumerate().flat_map(|(i, p)| [p[0], p[1], i as f64 / 2.0]).collect()
+}
+
+/// Document 01's worked cases.
+fn worked() -> Vec<Judged> {
+    let corner = lifted(&[0.0, 0.0, 10.0, 0.0, 10.0, 10.0]);
+    let bend = lifted(&[3.0, 4.0, 4.0, 3.0, 5.0, 0.0]);
+    let far = [1_000_000.0, 1_000_000f64.next_up()].map(|x| lifted(&[0.0, 0.0, x, 1.0]));
+    vec![
+        whole(&[], 0.5),
+        whole(&lifted(&[1.0, 2.0]), 0.5),
+        whole(&lifted(&[1.0, 2.0, 1.0, 2.0]), 0.5),
+        whole(&corner, 0.5),
+        whole(&bend, 0.45),
+        whole(&bend, 0.3),
+        whole(&bend, 0.25),
+        whole(&corner, 0.001),
+        whole(&corner, 0.0),
+        whole(&far[0], 0.001),
+        whole(&far[1], 0.001),
+    ]
+}
+
+/// Lists at which a slip shows: a point at the tolerance, equal farthest points, a closed range, less and more than a
+/// turn, a bend that turns sharply.
+fn corners() -> Vec<Vec<f64>> {
+    let octagon =
+        [5.0, 0.0, 4.0, 3.0, 3.0, 4.0, 0.0, 5.0, -3.0, 4.0, -4.0, 3.0, -5.0, 0.0, -4.0, -3.0, -3.0, -4.0, 0.0, -5.0];
+    let round = [&octagon[..], &[3.0, -4.0, 4.0, -3.0]].concat();
+    let open = [&round[..], &[5.0, -0.001]].concat();
+    let closed = [&round[..], &[5.0, 0.0]].concat();
+    let over = [&closed[..], &octagon[2..8]].concat();
+    vec![
+        vec![0.0, 0.0, 4.0, 1.0, 8.0, 0.0],
+        vec![0.0, 0.0, 1.0, 1.0, 2.0, 0.0],
+        vec![0.0, 0.0, 1.0, 2.0, 2.0, 0.0, 3.0, 2.0, 4.0, 0.0],
+        vec![0.0, 0.0, 1.0, 2.0, 2.0, -2.0, 3.0, 2.0, 4.0, 0.0],
+        vec![0.0, 0.0, 5.0, 1.5, 10.0, 2.0, 15.0, 1.5, 20.0, 0.0],
+        vec![0.0, 0.0, 5.0, 1.5, 10.0, 2.5, 15.0, 1.0, 20.0, 0.0],
+        octagon.to_vec(),
+        round,
+        open,
+        closed,
+        over,
+    ]
+}
+
+/// Each of them at some tolerances, whole and in part.
+fn at_tolerances() -> Vec<Judged> {
+    let mut calls = Vec::new();
+    for plane in corners() {
+        let list = lifted(&plane);
+        let last = list.len() / 3 - 1;
+        for tolerance in [0.1, 0.5, 1.0, 1f64.next_up(), 3.0] {
+            calls.push(whole(&list, tolerance));
+            calls.push(recursive_of(&list, tolerance, [1, last], full(&list)));
+        }
+    }
+    calls
+}
+
+/// The calls of the other functions on the same lists.
+fn measures() -> Vec<Compared> {
+    let mut calls = Vec::new();
+    for plane in corners() {
+        let list = lifted(&plane);
+        let last = list.len() / 3 - 1;
+        calls.push(circle::circle_of(&list, false));
+        calls.push(circle::collinear_of(&list, 1.0, false));
+        calls.push(circle::line_of(&list, [0, last]));
+        calls.push(circle::line_of(&list, [last, 0]));
+        calls.push(circle::arc_of(&list, [0.0, 0.0], 5.0));
+        calls.push(circle::through_of(&list[..9], false));
+        calls.push(circle::bisector_of(&list[..6], [1.5, -7.0]));
+    }
+    calls
+}
+
+/// Most points and one more, a deep recursion, ranges at the edges, outputs one short.
+fn edges(draw: &mut Draw) -> Vec<Judged> {
+    let long = raised(&track(draw, 2_048, 4.0, 1.0), draw);
+    let more = [&long[..], &[1.0, 2.0, 3.0]].concat();
+    let deep = lifted(&zigzag(500, 1.0));
+    let bend = lifted(&[3.0, 4.0, 4.0, 3.0, 5.0, 0.0, 4.0, -3.0]);
+    let short = [Rooms { kinds: 2, numbers: 27 }, Rooms { kinds: 3, numbers: 18 }, Rooms { kinds: 3, numbers: 26 }];
+    let mut calls = vec![whole(&long, 5.0), whole(&more, 2.0), whole(&deep, 0.5)];
+    for range in [[0, 3], [0, 4], [3, 3], [3, 1], [4, 4], [7, 5], [5, 7], [2, usize::MAX]] {
+        calls.push(recursive_of(&bend, 0.3, range, full(&bend)));
+    }
+    calls.extend(short.map(|rooms| primitives_of(&bend, 0.3, rooms)));
+    calls
+}
+
+/// The calls whose answer is owed.
+fn owed(calls: Vec<Judged>) -> impl Iterator<Item = Compared> {
+    let inside = |call: &Judged| call.stands.is_none_or(|stands| stands.margins != Margins::Outside);
+    calls.into_iter().filter(inside).map(|call| call.call)
+}
+
+fn write(words: &[u64], out: &mut impl Write) -> Result<()> {
+    words.iter().try_for_each(|word| out.write_all(&word.to_le_bytes()))
+}
+
+/// Writes `count` records: the worked cases, the corners, the edges, and then the functions in turn, fits in every other
+/// place. One that is long, or whose answer is not owed, is drawn again.
+pub fn list(count: usize, seed: u64, out: &mut impl Write) -> Result<()> {
+    let mut draw = Draw::new(Random::new(seed));
+    let fixed = owed(worked()).chain(owed(at_tolerances())).chain(measures()).chain(owed(edges(&mut draw)));
+    let mut records: Vec<Vec<u64>> = fixed.map(|call| record(&call)).collect();
+    while records.len() < count {
+        let index = records.len();
+        let function = if index % 2 == 0 { FUNCTIONS[6 + index / 2 % 2] } else { FUNCTIONS[index / 2 % 6] };
+        let call = function(&mut draw);
+        assert!(call.proved == call.given, "a difference in {}", call.function);
+        let words = record(&call);
+        if words.len() <= LONG && !draw.labels().contains(&Margins::Outside.label()) {
+            records.push(words);
+        }
+    }
+    records.iter().take(count).try_for_each(|words| write(words, out))?;
+    out.flush()
+}
