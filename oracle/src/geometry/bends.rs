@@ -75,7 +75,8 @@ fn repetitions(draw: &mut Draw, count: usize) -> Vec<f64> {
     list
 }
 
-fn recording(draw: &mut Draw, count: usize) -> Vec<f64> {
+/// One of the recordings above.
+pub fn recording(draw: &mut Draw, count: usize) -> Vec<f64> {
     match draw.below(6) {
         0 => {
             draw.label("points: shuttles");

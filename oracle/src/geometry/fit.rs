@@ -2,6 +2,7 @@
 //!
 //! Document 01 owes the Rust's answer where its margins hold in each arc trial. Elsewhere the answer is left open: what
 //! is compared there is that the call is accepted and changes its outputs only as far as it says that it wrote.
+use super::bends;
 use super::bezier::words_of_triples;
 use super::calls::{rt_fit_points_recursive, rt_fit_points_with_primitives};
 use super::circle::{self, drawn, range, rows};
@@ -151,6 +152,18 @@ fn fit_points_with_primitives(draw: &mut Draw) -> Compared {
     let list = drawn(draw);
     let tolerance = tolerance_of(draw, &list);
     let rooms = room(draw, (list.len() / 3).saturating_sub(1));
+    primitives_of(&list, tolerance, rooms).labelled(draw)
+}
+
+/// Recordings as a watch makes them, at tolerances as a runner sets them, and nothing put in on purpose: how often the
+/// margins hold there.
+pub fn recorded(draw: &mut Draw) -> Compared {
+    let count = 30 + draw.below(2_019);
+    let plane = bends::recording(draw, count);
+    let list: Vec<f64> = plane.chunks(2).flat_map(|p| [p[0], p[1], 0.0]).collect();
+    let tolerance =
+        draw.edge(&[(0.5, "tolerance 0.5"), (1.0, "tolerance 1"), (2.0, "tolerance 2"), (5.0, "tolerance 5")]);
+    let rooms = Rooms { kinds: count - 1, numbers: 9 * (count - 1) };
     primitives_of(&list, tolerance, rooms).labelled(draw)
 }
 
