@@ -7,6 +7,7 @@ pub mod arcs;
 pub mod beziers;
 pub mod circles;
 pub mod counts;
+pub mod courses;
 pub mod fits;
 pub mod numbers;
 pub mod points;
