@@ -4,13 +4,13 @@ use std::process::ExitCode;
 const USAGE: &str = "\
 geometry bezier COUNT SEED | geometry arc COUNT SEED | geometry grid | geometry list-bezier COUNT SEED
 geometry simplify COUNT SEED | geometry grid-simplify | geometry bench-simplify | geometry list-simplify COUNT SEED
-geometry fit COUNT SEED | geometry recordings COUNT SEED | geometry grid-fit | geometry bench-fit | geometry zigzag-in KIB | geometry list-fit COUNT SEED";
+geometry course COUNT SEED | geometry fit COUNT SEED | geometry recordings COUNT SEED | geometry grid-fit | geometry bench-fit | geometry zigzag-in KIB | geometry list-fit COUNT SEED";
 
 /// Whether nothing differed or failed; none where the words ask for nothing.
 #[cfg(given)]
 fn run(words: &[String]) -> Option<bool> {
     use oracle::geometry::{
-        arc, bench_fit, bench_simplify, bezier, fit, frame, grid, grid_fit, grid_simplify, list, list_fit,
+        arc, bench_fit, bench_simplify, bezier, course, fit, frame, grid, grid_fit, grid_simplify, list, list_fit,
         list_simplify, simplify,
     };
     use std::io::{BufWriter, stdout};
@@ -21,6 +21,7 @@ fn run(words: &[String]) -> Option<bool> {
         ("arc", [count, seed]) => Some(frame::run(&arc::FUNCTIONS, *count, *seed)),
         ("simplify", [count, seed]) => Some(frame::run(&simplify::FUNCTIONS, *count, *seed)),
         ("fit", [count, seed]) => Some(frame::run(&fit::FUNCTIONS, *count, *seed)),
+        ("course", [count, seed]) => Some(frame::run(&course::FUNCTIONS, *count, *seed)),
         ("recordings", [count, seed]) => Some(frame::run(&[fit::recorded], *count, *seed)),
         ("grid", []) => Some(grid::run()),
         ("grid-fit", []) => Some(grid_fit::run()),

@@ -238,4 +238,31 @@ unsafe extern "C" {
         room_nums: usize,
         count: *mut usize,
     ) -> u32;
+
+    pub fn rt_fit_arcs(
+        kinds: *const u8,
+        count_kinds: usize,
+        nums: *const f64,
+        count_nums: usize,
+        tolerance: f64,
+        out_kinds: *mut u8,
+        room_kinds: usize,
+        out_nums: *mut f64,
+        room_nums: usize,
+        count: *mut usize,
+    ) -> u32;
+
+    pub fn rt_optimize_path_from_array(
+        kinds: *const u8,
+        count_kinds: usize,
+        nums: *const f64,
+        count_nums: usize,
+        tolerance: f64,
+        use_fit_arcs: bool,
+        out_kinds: *mut u8,
+        room_kinds: usize,
+        out_nums: *mut f64,
+        room_nums: usize,
+        count: *mut usize,
+    ) -> u32;
 }

@@ -1,9 +1,7 @@
 //! The functions of fitting.rs that take a course: `fit_arcs` and `optimize_path_from_array`.
-//!
-//! Each takes the proved function as an argument, so that this can be compiled before that is exported. To compare one:
-//! declare it in `calls.rs`, put a function into `FUNCTIONS` here that hands it on, and a word into `bin/geometry.rs`.
 use super::bends;
 use super::bezier::steps_needed;
+use super::calls;
 use super::draw::Draw;
 use super::fit::{Judged, Stands, judged, outputs, room, same};
 use super::frame::{Call, Compared, Function};
@@ -16,27 +14,7 @@ use raygeo::geo::algo::simplify::simplify_polyline_3d;
 use raygeo::geo::shape::bezier::linearize_bezier_from_params;
 use raygeo::geo::types::{Command, Point3D};
 
-/// Commands and their count, tolerance, outputs and their rooms, count.
-pub type FitArcs =
-    unsafe extern "C" fn(*const u8, usize, *const f64, usize, f64, *mut u8, usize, *mut f64, usize, *mut usize) -> u32;
-
-/// The same with a flag behind the tolerance: whether chains are fitted and not only thinned.
-pub type OptimizePath = unsafe extern "C" fn(
-    *const u8,
-    usize,
-    *const f64,
-    usize,
-    f64,
-    bool,
-    *mut u8,
-    usize,
-    *mut f64,
-    usize,
-    *mut usize,
-) -> u32;
-
-/// Those that are exported.
-pub const FUNCTIONS: [Function; 0] = [];
+pub const FUNCTIONS: [Function; 2] = [draw_arcs, draw_optimized];
 
 // ---- the Rust's way through a course
 
@@ -175,7 +153,7 @@ fn call(
     }
 }
 
-pub fn arcs_of(proved: FitArcs, c: &Commands, tolerance: f64, rooms: Rooms) -> Judged {
+pub fn arcs_of(c: &Commands, tolerance: f64, rooms: Rooms) -> Judged {
     let most = most(c, tolerance);
     let others = [
         table::too_much(most),
@@ -188,7 +166,8 @@ pub fn arcs_of(proved: FitArcs, c: &Commands, tolerance: f64, rooms: Rooms) -> J
             let (out_nums, count, out_kinds) = (lent[0].as_mut_ptr(), lent[1].as_mut_ptr(), lent[2].as_mut_ptr());
             let (nums, kinds) = (lent[3].as_mut_ptr::<f64>(), lent[4].as_mut_ptr::<u8>());
             let (n, size) = (c.kinds.len(), c.numbers.len());
-            proved(kinds, n, nums, size, tolerance, out_kinds, rooms.kinds, out_nums, rooms.numbers, count)
+            let (ok, on) = (rooms.kinds, rooms.numbers);
+            calls::rt_fit_arcs(kinds, n, nums, size, tolerance, out_kinds, ok, out_nums, on, count)
         },
         |before| {
             let data = c.given();
@@ -200,7 +179,7 @@ pub fn arcs_of(proved: FitArcs, c: &Commands, tolerance: f64, rooms: Rooms) -> J
     judged(compared, stands, rooms)
 }
 
-pub fn optimized_of(proved: OptimizePath, c: &Commands, tolerance: f64, fitted: bool, rooms: Rooms) -> Judged {
+pub fn optimized_of(c: &Commands, tolerance: f64, fitted: bool, rooms: Rooms) -> Judged {
     let most = c.kinds.len();
     let others = [table::no_room(rooms.kinds, most), table::no_room(rooms.numbers / 9, most)];
     let (rows, extra) = (rows(c, tolerance, rooms, &others), [("use_fit_arcs", fitted as u64)]);
@@ -210,7 +189,8 @@ pub fn optimized_of(proved: OptimizePath, c: &Commands, tolerance: f64, fitted: 
             let (out_nums, count, out_kinds) = (lent[0].as_mut_ptr(), lent[1].as_mut_ptr(), lent[2].as_mut_ptr());
             let (nums, kinds) = (lent[3].as_mut_ptr::<f64>(), lent[4].as_mut_ptr::<u8>());
             let (n, size) = (c.kinds.len(), c.numbers.len());
-            proved(kinds, n, nums, size, tolerance, fitted, out_kinds, rooms.kinds, out_nums, rooms.numbers, count)
+            let (ok, on) = (rooms.kinds, rooms.numbers);
+            calls::rt_optimize_path_from_array(kinds, n, nums, size, tolerance, fitted, out_kinds, ok, out_nums, on, count)
         },
         |before| {
             let data = c.given();
@@ -303,17 +283,17 @@ fn tolerance_for(draw: &mut Draw, c: &Commands) -> f64 {
 }
 
 /// Draws a course and calls both sides.
-pub fn draw_arcs(proved: FitArcs, draw: &mut Draw) -> Compared {
+pub fn draw_arcs(draw: &mut Draw) -> Compared {
     let (c, tolerance) = course(draw);
     let most = most(&c, tolerance);
     // where the most is refused, the room is not looked at
     let rooms = if most <= 800.0 { room(draw, most as usize) } else { room(draw, 900) };
-    arcs_of(proved, &c, tolerance, rooms).labelled(draw)
+    arcs_of(&c, tolerance, rooms).labelled(draw)
 }
 
-pub fn draw_optimized(proved: OptimizePath, draw: &mut Draw) -> Compared {
+pub fn draw_optimized(draw: &mut Draw) -> Compared {
     let (c, tolerance) = course(draw);
     let fitted = draw.flag();
     let rooms = room(draw, c.kinds.len());
-    optimized_of(proved, &c, tolerance, fitted, rooms).labelled(draw)
+    optimized_of(&c, tolerance, fitted, rooms).labelled(draw)
 }
