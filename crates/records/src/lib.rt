@@ -12,7 +12,7 @@ fn wide(b: u8) -> u64
 }
 
 // The number in the four bytes of s from `at` on.
-fn half_at(s: &[u8], at: usize) -> u64
+pub fn half_at(s: &[u8], at: usize) -> u64
     requires { ⌜ at + 4 ≤ length (now s) ⌝ }
     ensures { λ r. ⌜ (r ≡ halfAt (now (s .entry)) at) × (r < 0x1_0000_0000) ⌝ }
 {

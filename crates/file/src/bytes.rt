@@ -1,0 +1,55 @@
+// Whole numbers and floats as bytes, the lowest first.
+use records::float_of;
+use records::word_at;
+ghost use mathlib.Core.Path.{_≡_};
+ghost use Prim.Native.Nat.{_+_, _%_, _≤_};
+ghost use lib.ListN.{length};
+ghost use lib.Seq.{sets};
+ghost use lib.Ieee.{toBits, binary64};
+ghost use Rattle.file.specs.Bytes.{u32Bytes, f64Bytes, numberAt};
+
+// The number whose eight bytes stand from `at` on.
+pub fn number_at(s: &[u8], at: usize) -> f64
+    requires { ⌜ at + 8 ≤ length (now s) ⌝ }
+    ensures { λ r. ⌜ r ≡ numberAt (now (s .entry)) at ⌝ }
+{
+    float_of(word_at(s, at))
+}
+
+// The lowest byte of n.
+fn low(n: u64) -> u8
+    ensures { λ r. ⌜ r ≡ n % 256 ⌝ }
+{
+    (n % 256) as u8
+}
+
+// Writes the four low bytes of n from `at` on.
+pub fn put_u32(out: &mut [u8], at: usize, n: u64)
+    requires { ⌜ at + 4 ≤ length (now out) ⌝ }
+    ensures { λ _. ⌜ now (out .exit) ≡ sets (now (out .entry)) at (u32Bytes n) ⌝ }
+{
+    out[at] = low(n);
+    out[at + 1] = low(n / 256);
+    out[at + 2] = low(n / 65536);
+    out[at + 3] = low(n / 16777216);
+}
+
+// The pattern of x. A NaN has many, and one stands for all.
+fn pattern_of(x: f64) -> u64
+    ensures { λ r. ⌜ r ≡ toBits binary64 x ⌝ }
+{
+    if x != x {
+        return 0x7ff8_0000_0000_0000;
+    }
+    f64::to_bits(x)
+}
+
+// Writes the eight bytes of x from `at` on.
+pub fn put_f64(out: &mut [u8], at: usize, x: f64)
+    requires { ⌜ at + 8 ≤ length (now out) ⌝ }
+    ensures { λ _. ⌜ now (out .exit) ≡ sets (now (out .entry)) at (f64Bytes x) ⌝ }
+{
+    let n = pattern_of(x);
+    put_u32(out, at, n);
+    put_u32(out, at + 4, n / 4294967296);
+}

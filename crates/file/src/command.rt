@@ -1,0 +1,119 @@
+// The 73 bytes of a command: its kind, and its nine numbers.
+use crate::bytes::number_at;
+use crate::bytes::put_f64;
+use types::domain::is_formed;
+use types::lent::command_at;
+use types::lent::make_command;
+use types::lent::put_command;
+use types::types::Command;
+use types::types::Point3D;
+ghost use mathlib.Core.Path.{_≡_};
+ghost use mathlib.Core.List.{map};
+ghost use Prim.Native.Nat.{_+_, _*_, _≤_};
+ghost use lib.ListN.{length};
+ghost use lib.Seq.{sets};
+ghost use Rattle.types.specs.Lent.{flat, triple, kindOf, numbersOf, commandsFrom};
+ghost use Rattle.file.specs.Bytes.{f64Bytes};
+ghost use Rattle.file.specs.Command.{pointFrom, decoded, wellFormed, laid, enc, commandsAt};
+
+// The point whose three numbers stand from `at` on.
+fn point_from(s: &[u8], at: usize) -> Point3D
+    requires { ⌜ at + 24 ≤ length (now s) ⌝ }
+    ensures { λ r. ⌜ r ≡ pointFrom (now (s .entry)) at ⌝ }
+{
+    Point3D {
+        x: number_at(s, at),
+        y: number_at(s, at + 8),
+        z: number_at(s, at + 16),
+    }
+}
+
+// The command of 73 bytes.
+pub fn read_command(s: &[u8]) -> Command
+    requires { ⌜ 73 ≤ length (now s) ⌝ }
+    ensures { λ r. ⌜ r ≡ decoded (now (s .entry)) ⌝ }
+{
+    let p = point_from(s, 1);
+    let q = point_from(s, 25);
+    let r = point_from(s, 49);
+    make_command(s[0], p, q, r)
+}
+
+// Whether 73 bytes have a known kind, and the numbers that it does not use are +0.
+pub fn is_well_formed(s: &[u8]) -> bool
+    requires { ⌜ 73 ≤ length (now s) ⌝ }
+    ensures { λ r. ⌜ r ≡ wellFormed (now (s .entry)) ⌝ }
+{
+    let q = point_from(s, 25);
+    let r = point_from(s, 49);
+    is_formed(s[0], q, r)
+}
+
+// Writes the 24 bytes of a point from `at` on.
+fn put_point(out: &mut [u8], at: usize, p: Point3D)
+    requires { ⌜ at + 24 ≤ length (now out) ⌝ }
+    ensures { λ _. ⌜ now (out .exit) ≡ sets (now (out .entry)) at (flat f64Bytes (triple p)) ⌝ }
+{
+    put_f64(out, at, p.x);
+    put_f64(out, at + 8, p.y);
+    put_f64(out, at + 16, p.z);
+}
+
+// Writes a kind and three points from `at` on.
+fn put_points(out: &mut [u8], at: usize, kind: u8, p: Point3D, q: Point3D, r: Point3D)
+    requires { ⌜ at + 73 ≤ length (now out) ⌝ }
+    ensures { λ _. ⌜ now (out .exit) ≡ sets (now (out .entry)) at (laid kind p q r) ⌝ }
+{
+    out[at] = kind;
+    put_point(out, at + 1, p);
+    put_point(out, at + 25, q);
+    put_point(out, at + 49, r);
+}
+
+// Writes the 73 bytes of a command from `at` on.
+pub fn write_command(out: &mut [u8], at: usize, c: Command)
+    requires { ⌜ at + 73 ≤ length (now out) ⌝ }
+    ensures { λ _. ⌜ now (out .exit) ≡ sets (now (out .entry)) at (enc c) ⌝ }
+{
+    let o = Point3D::ZERO;
+    match c {
+        Command::Move { end } => put_points(out, at, 0, end, o, o),
+        Command::Line { end } => put_points(out, at, 1, end, o, o),
+        Command::Arc {
+            end,
+            center_offset,
+            normal,
+        } => put_points(out, at, 2, end, center_offset, normal),
+        Command::Bezier {
+            end,
+            control1,
+            control2,
+        } => put_points(out, at, 3, end, control1, control2),
+    }
+}
+
+// Reads the n commands from `at` on, to the front of kinds and numbers.
+pub fn read_commands(s: &[u8], at: usize, n: usize, kinds: &mut [u8], nums: &mut [f64])
+    requires { ⌜ (at + 73 * n ≤ length (now s)) × (n ≤ length (now kinds)) × (9 * n ≤ length (now nums)) ⌝ }
+    ensures kinds { λ _. ⌜ now (kinds .exit) ≡ sets (now (kinds .entry)) 0 (map kindOf (map decoded (commandsAt (now (s .entry)) at n))) ⌝ }
+    ensures numbers { λ _. ⌜ now (nums .exit) ≡ sets (now (nums .entry)) 0 (flat numbersOf (map decoded (commandsAt (now (s .entry)) at n))) ⌝ }
+{
+    let mut b = at;
+    for i in 0..n {
+        let e = b + 73;
+        put_command(kinds, nums, i, read_command(&s[b..e]));
+        b = e;
+    }
+}
+
+// Writes the first n lent commands from `to` on.
+pub fn write_commands(kinds: &[u8], nums: &[f64], n: usize, out: &mut [u8], to: usize)
+    requires { ⌜ (n ≤ length (now kinds)) × (9 * n ≤ length (now nums)) × (to + 73 * n ≤ length (now out)) ⌝ }
+    ensures { λ _. ⌜ now (out .exit) ≡ sets (now (out .entry)) to (flat enc (commandsFrom (now (kinds .entry)) (now (nums .entry)) n 0)) ⌝ }
+{
+    let mut t = to;
+    for i in 0..n {
+        write_command(out, t, command_at(kinds, nums, i));
+        t += 73;
+    }
+}
