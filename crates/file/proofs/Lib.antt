@@ -1,3 +1,5 @@
 pub mod Floats
 pub mod Stores
 pub mod Walks
+pub mod RoundTrip
+pub mod Lent

@@ -1,11 +1,14 @@
 -- The bytes of a command: "A command has 73 bytes: kind, nine numbers" (document 01, "The lap file"). Definitions only.
-use Prim.Native.Nat.{ℕ, zero, suc, _+_}
+use Prim.Native.Nat.{ℕ, zero, suc, _+_, _*_}
 use mathlib.Core.Bool.{Bool}
 use mathlib.Core.List.{List, [], _∷_, _++_}
-use lib.ListN.{getD, take, drop}
+use lib.ListN.{length, getD, take, drop}
+use lib.Dec.{T}
+use lib.Ieee.{Float, nan, binary64, fits}
 use Rattle.types.specs.declared.types.Point3D.{Point3D}
 use Rattle.types.specs.declared.types.Command.{Command}
-use Rattle.types.specs.Lent.{flat, triple, kindOf, numbersOf, commandOf}
+use Rattle.types.specs.Walk.{listFrom}
+use Rattle.types.specs.Lent.{flat, triple, pointAt, kindOf, numbersOf, commandOf}
 use Rattle.types.specs.Domain.{formed}
 use Rattle.file.specs.Bytes.{f64Bytes, numberAt}
 
@@ -35,3 +38,18 @@ laid k p q r = k ∷ flat f64Bytes (triple p ++ triple q ++ triple r)
 -- a command
 unfoldable pub enc : Command → List ℕ
 enc c = kindOf c ∷ flat f64Bytes (numbersOf c)
+
+-- the command that is lent at index i, as it stands, whatever its kind
+unfoldable pub lentBytes : List ℕ → List Float → ℕ → List ℕ
+lentBytes ks ns i = laid (getD ks i 0) (pointAt ns (3 * i)) (pointAt ns (3 * i + 1)) (pointAt ns (3 * i + 2))
+
+-- all lent commands
+unfoldable pub lentLap : List ℕ → List Float → List (List ℕ)
+lentLap ks ns = listFrom (lentBytes ks ns) (length ks) 0
+
+-- ---- what an f64 can hold: each number of a list, of a point, of a command
+abbrev pub Held : List Float → Type 0
+Held ns = (i : ℕ) → T (fits binary64 (getD ns i nan))
+
+abbrev pub HeldPoint : Point3D → Type 0
+HeldPoint p = T (fits binary64 (p .x)) × T (fits binary64 (p .y)) × T (fits binary64 (p .z))
