@@ -1,11 +1,10 @@
 -- Decoding what was encoded gives it back, for all numbers that an f64 can hold. Assumes nothing.
 use Prim.Native.Nat.{ℕ, _+_, _*_, _/_, _%_, _<_}
 use mathlib.Core.Path.{_≡_, refl, sym, ap, _∙_}
-use mathlib.Core.Bool.{Bool}
-use mathlib.Core.List.{List, [], _∷_, _++_}
+use mathlib.Core.List.{List, _++_}
 use native.Mathlib.Nat.{add-zero, div-div-eq-div-mul}
 use native.Mathlib.Omega.{arith}
-use lib.ListN.{length, getD, drop}
+use lib.ListN.{getD, drop}
 use lib.Seq.{getD-drop, drop-drop}
 use lib.Dec.{T}
 use lib.Ieee.{Float, binary64, ofBits, toBits, fits}
@@ -14,7 +13,7 @@ use Rattle.records.specs.Words.{halfAt, wordAt}
 use Rattle.types.specs.declared.types.Point3D.{Point3D}
 use Rattle.types.specs.declared.types.Command.{Command}
 use Rattle.types.specs.declared.types.Command.the-variants.{Move, Line, Arc, Bezier}
-use Rattle.types.specs.Lent.{flat, triple, origin, commandOf}
+use Rattle.types.specs.Lent.{flat, origin, commandOf}
 use Rattle.types.specs.Domain.{formed}
 use Rattle.file.specs.Bytes.{u32Bytes, f64Bytes, numberAt}
 use Rattle.file.specs.Command.{pointFrom, decoded, wellFormed, laid, enc, HeldPoint}

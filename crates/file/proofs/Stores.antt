@@ -1,7 +1,7 @@
 -- Bytes stored one behind the other: numbers, points, commands. Assumes nothing.
 use Prim.Native.Nat.{ℕ, suc, _+_, _/_, _%_}
 use mathlib.Core.Path.{_≡_, refl, sym, ap, _∙_}
-use mathlib.Core.List.{List, [], _∷_, _++_}
+use mathlib.Core.List.{List, _++_}
 use native.Mathlib.Omega.{arith}
 use lib.ListN.{length, set}
 use lib.Seq.{sets}
@@ -11,7 +11,6 @@ use Rattle.types.specs.declared.types.Command.{Command}
 use Rattle.types.specs.declared.types.Command.the-variants.{Move, Line, Arc, Bezier}
 use Rattle.types.specs.Lent.{flat, triple, origin, kindOf, numbersOf}
 use Rattle.types.proofs.Stores.{sets-append, thrice}
-use Rattle.types.proofs.Flat.{flat-append}
 use Rattle.file.specs.Bytes.{u32Bytes, f64Bytes}
 use Rattle.file.specs.Command.{laid, enc}
 
