@@ -9,3 +9,7 @@ pub mod Along
 pub mod Accepted
 pub mod Paths
 pub mod Demand
+pub mod FiniteCenters
+pub mod FiniteFit
+pub mod FinitePoints
+pub mod FiniteCourse

@@ -2,3 +2,4 @@ pub mod Parts
 pub mod Course
 pub mod Walks
 pub mod Demand
+pub mod Finite

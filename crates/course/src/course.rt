@@ -145,7 +145,7 @@ pub fn course_most(kinds: &[u8], nums: &[f64], tolerance: f64) -> usize
 }
 
 // A Line's end joins the chain.
-fn add_line(end: Point3D, w: Walk, chain: &mut [f64]) -> Walk
+pub fn add_line(end: Point3D, w: Walk, chain: &mut [f64]) -> Walk
     requires { ⌜ (w .points ≤ 800) × (3 * w .points + 3 ≤ length (now chain)) ⌝ }
     ensures { λ r. ⌜ (r ≡ record { points = w .points + 1; last = end; written = w .written }) × (now (chain .exit) ≡ sets (now (chain .entry)) (3 * w .points) (triple end)) ⌝ }
 {
@@ -158,7 +158,7 @@ fn add_line(end: Point3D, w: Walk, chain: &mut [f64]) -> Walk
 }
 
 // The ends of a Bezier's steps join the chain.
-fn add_bezier(
+pub fn add_bezier(
     end: Point3D,
     control1: Point3D,
     control2: Point3D,

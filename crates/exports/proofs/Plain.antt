@@ -29,7 +29,7 @@ module _ {A B : Type 0} (of : A → B) (o : Outcome A) (b : B) where
   tells-nothing n e = record { says = rw e; leaves = rw e }
 
 -- what was written, and the answer that was handed on
-pub listed : {A : Type 0} (lay : List A → List Float) (o : Outcome (List A)) (out out′ : List Float) (a : Answer) (count count′ r : ℕ) → Wrote lay o out out′ a → Handed a count count′ r
+pub listed : {A B : Type 0} (lay : List A → List B) (o : Outcome (List A)) (out out′ : List B) (a : Answer) (count count′ r : ℕ) → Wrote lay o out out′ a → Handed a count count′ r
     → Listed lay o out out′ count count′ r
 unfolding answer refusedBy countOr numberOf told
 listed lay (refused n) out out′ a count count′ r w h = record { says = h .says ∙ ap refusedBy (w .says); counts = h .leaves ∙ ap (countOr count) (w .says); leaves = w .leaves }

@@ -119,8 +119,8 @@ pub record Handed (a : Answer) (count count′ : ℕ) (r : ℕ) : Type 0 where
   pub says : r ≡ refusedBy a
   pub leaves : count′ ≡ countOr count a
 
--- the value is a list of items, whose numbers go to lent memory and whose count to a lent number
-pub record Listed {A : Type 0} (lay : List A → List Float) (o : Outcome (List A)) (out out′ : List Float) (count count′ : ℕ) (r : ℕ) : Type 0 where
+-- the value is a list of items, whose numbers or bytes go to lent memory and whose count to a lent number
+pub record Listed {A B : Type 0} (lay : List A → List B) (o : Outcome (List A)) (out out′ : List B) (count count′ : ℕ) (r : ℕ) : Type 0 where
   pub says : r ≡ numberOf o
   pub counts : count′ ≡ told length count o
   pub leaves : out′ ≡ left lay out o

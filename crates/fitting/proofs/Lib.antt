@@ -3,5 +3,4 @@ pub mod Fitted
 pub mod Pieces
 pub mod Writing
 pub mod Accepted
-pub mod Worked
 pub mod Chain

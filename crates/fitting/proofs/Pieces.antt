@@ -1,10 +1,11 @@
 -- The laws of the pieces of a fit, each stated alone, over any measure, for a tolerance above zero. Assumes nothing.
-use Prim.Native.Nat.{ℕ, zero, suc, _+_, _-_, _≤_, _<_}
+use Prim.Native.Nat.{ℕ, zero, suc, _+_, _-_, _*_, _≤_, _<_}
 use mathlib.Core.Path.{_≡_, refl, sym, subst}
 use mathlib.Core.Logic.{⊎-elim}
 use mathlib.Core.Bool.{true}
 use mathlib.Core.List.{List, [], _∷_, _++_}
 use native.Mathlib.Omega.{arith}
+use lib.ListN.{length, length-append}
 use lib.Dec.{eqb}
 use lib.Ieee.{Float, lt}
 use Rattle.number.specs.Ops.{_≺_, +0}
@@ -22,7 +23,7 @@ use Rattle.trial.specs.Deviation.{arcDeviation}
 use Rattle.trial.specs.Traversal.{traverses}
 use Rattle.trial.specs.Trial.{sharpAt, closedRange, trialRound, trialOf, ofCircle, ofCenter, trialThree, trialLeast, orElse, tryArcs}
 use Rattle.simplify.specs.Measure.{Measure}
-use Rattle.fitting.specs.Pieces.{lineDeviation, arc, Piece, Choice, whole, cutAt, arcOrCut, chooseBy, choice, follow, piecesBy, piecesIn}
+use Rattle.fitting.specs.Pieces.{lineDeviation, arc, Piece, Choice, whole, cutAt, arcOrCut, chooseBy, choice, follow, piecesBy, piecesIn, rangesOf, rangesBy, rangesIn}
 use Rattle.fitting.specs.Laws.{Covers, Below, AllBelow, AllFail}
 use Rattle.fitting.proofs.Recursion.{Inside, inside}
 
@@ -132,6 +133,27 @@ module _ (m : Measure Point3D) (tol : Float) (pos : (+0 ≺ tol) ≡ true) (at :
   -- A Line's or a new Arc's computed deviation over its piece is below the tolerance.
   pub pieces-below : (lo hi : ℕ) → lo < hi → AllBelow m tol at (piecesIn m tol at lo hi)
   pieces-below lo hi h = below-by (hi - lo) lo hi h (omega arith)
+
+-- ---- the ranges examined
+module _ (m : Measure Point3D) (tol : Float) (pos : (+0 ≺ tol) ≡ true) (at : ℕ → Point3D) where
+  ranges-choice : (f : ℕ → ℕ → List Piece) (g : ℕ → ℕ → ℕ) (lo hi : ℕ) (c : Choice) → Inside m tol pos at lo hi c
+      → ((a b : ℕ) → a < b → b - a < hi - lo → g a b + 1 ≡ 2 * length (f a b)) → rangesOf g lo hi c + 1 ≡ 2 * length (follow f lo hi c)
+  unfolding follow rangesOf
+  ranges-choice f g lo hi (whole s) v e = refl
+  ranges-choice f g lo hi (cutAt k) v e =
+      let a = e lo k (v .0) (omega (arith, v .1)) in
+      let b = e k hi (v .1) (omega (arith, v .0)) in
+      let l = length-append (f lo k) (f k hi) in omega arith
+
+  ranges-by : (n lo hi : ℕ) → lo < hi → hi - lo ≤ n → rangesBy m tol at n lo hi + 1 ≡ 2 * length (piecesBy m tol at n lo hi)
+  unfolding piecesBy rangesBy
+  ranges-by zero lo hi h p = absurd (omega arith)
+  ranges-by (suc n) lo hi h p =
+      ranges-choice (piecesBy m tol at n) (rangesBy m tol at n) lo hi (choice m tol at lo hi) (inside m tol pos at lo hi) (λ a b g r. ranges-by n a b g (omega arith))
+
+  -- A fit examines twice as many ranges as it has pieces, less one.
+  pub ranges-examined : (lo hi : ℕ) → lo < hi → rangesIn m tol at lo hi ≡ 2 * length (piecesIn m tol at lo hi) - 1
+  ranges-examined lo hi h = let e = ranges-by (hi - lo) lo hi h (omega arith) in omega arith
 
 -- ---- the cut rule
 module _ (m : Measure Point3D) (tol : Float) (at : ℕ → Point3D) (lo hi : ℕ) where

@@ -3,4 +3,3 @@ pub mod Commands
 pub mod Written
 pub mod Laws
 pub mod Calls
-pub mod Worked

@@ -195,6 +195,16 @@ fn turns(draw: &mut Draw, count: usize) -> Vec<f64> {
     }
 }
 
+/// The same shape far from the origin, where the squares of coordinates are rounded by more than a point's noise.
+fn move_away(draw: &mut Draw, list: &mut [f64]) {
+    draw.label("points: moved far from the origin");
+    let by = [0; 2].map(|_| (draw.unit() * 2.0 - 1.0) * 900_000.0);
+    for (place, x) in list.iter_mut().enumerate() {
+        let moved = *x + by[place % 2];
+        *x = if moved.is_nan() { moved } else { moved.clamp(-1_000_000.0, 1_000_000.0) };
+    }
+}
+
 /// A list of so many triples. Heights are measured by no call, and handed on by a fit.
 pub fn points(draw: &mut Draw, count: usize) -> Vec<f64> {
     let mut plane = match draw.below(8) {
@@ -203,6 +213,9 @@ pub fn points(draw: &mut Draw, count: usize) -> Vec<f64> {
         6 => draw.round_trip(count),
         _ => shapes::shape(draw, count),
     };
+    if draw.one_in(4) {
+        move_away(draw, &mut plane);
+    }
     shapes::change(draw, &mut plane);
     if draw.one_in(3) {
         draw.label("heights: hills");

@@ -265,4 +265,29 @@ unsafe extern "C" {
         room_nums: usize,
         count: *mut usize,
     ) -> u32;
+
+    pub fn rt_fit_file(
+        recorded: *const u8,
+        length: usize,
+        tolerance: f64,
+        out: *mut u8,
+        room: usize,
+        count: *mut usize,
+    ) -> u32;
+
+    pub fn rt_replace_lap(
+        recorded: *const u8,
+        length: usize,
+        fitted: *const u8,
+        length_fitted: usize,
+        lap: usize,
+        kinds: *const u8,
+        count_kinds: usize,
+        nums: *const f64,
+        count_nums: usize,
+        tolerance: f64,
+        out: *mut u8,
+        room: usize,
+        count: *mut usize,
+    ) -> u32;
 }

@@ -19,7 +19,7 @@ pub const FUNCTIONS: [Function; 2] = [draw_arcs, draw_optimized];
 // ---- the Rust's way through a course
 
 /// What was made of a course so far, and where its arc trials stand.
-struct Way {
+pub struct Way {
     tolerance: f64,
     made: Vec<Command>,
     stands: Stands,
@@ -44,13 +44,13 @@ impl Way {
     }
 
     /// Where the Rust's answer stands.
-    fn stands(self, answer: &[Command]) -> Stands {
+    pub fn stands(self, answer: &[Command]) -> Stands {
         if same(&self.made, answer) { self.stands } else { Stands::ASTRAY }
     }
 }
 
 /// The way of `fit_arcs`: Arcs stay, Beziers are taken in steps of a quarter of the tolerance.
-fn way_of_arcs(data: &[Command], tolerance: f64) -> Way {
+pub fn way_of_arcs(data: &[Command], tolerance: f64) -> Way {
     let mut way = Way::new(tolerance);
     let mut last = Point3D::new(0.0, 0.0, 0.0);
     for command in data {
@@ -190,7 +190,9 @@ pub fn optimized_of(c: &Commands, tolerance: f64, fitted: bool, rooms: Rooms) ->
             let (nums, kinds) = (lent[3].as_mut_ptr::<f64>(), lent[4].as_mut_ptr::<u8>());
             let (n, size) = (c.kinds.len(), c.numbers.len());
             let (ok, on) = (rooms.kinds, rooms.numbers);
-            calls::rt_optimize_path_from_array(kinds, n, nums, size, tolerance, fitted, out_kinds, ok, out_nums, on, count)
+            calls::rt_optimize_path_from_array(
+                kinds, n, nums, size, tolerance, fitted, out_kinds, ok, out_nums, on, count,
+            )
         },
         |before| {
             let data = c.given();
@@ -234,7 +236,7 @@ fn course_kinds(draw: &mut Draw, count: usize) -> Vec<u8> {
 }
 
 /// Controls beside the thirds of the step from one end to another.
-fn controls(draw: &mut Draw, from: &[f64], to: &[f64]) -> [f64; 6] {
+pub fn controls(draw: &mut Draw, from: &[f64], to: &[f64]) -> [f64; 6] {
     let size = draw.of(&[0.0, 0.1, 3.0]);
     let mut all = [0.0; 6];
     for (place, x) in all.iter_mut().enumerate() {
@@ -268,7 +270,7 @@ pub fn course(draw: &mut Draw) -> (Commands, f64) {
 }
 
 /// A tolerance as a runner sets it, any, or one at which the most is about 800.
-fn tolerance_for(draw: &mut Draw, c: &Commands) -> f64 {
+pub fn tolerance_for(draw: &mut Draw, c: &Commands) -> f64 {
     let curves = c.kinds.iter().filter(|kind| **kind == 3).count();
     if curves > 0 && draw.one_in(3) {
         draw.label("a most of about 800");

@@ -114,16 +114,25 @@ pub fn outputs(rooms: Rooms, read: &[Lent]) -> Vec<Lent> {
     lent
 }
 
+/// The deviation that the Rust measures in a trial round a fitted centre.
+pub fn deviation_round(points: &[Point3D], centre: Point) -> f64 {
+    let moved = fitting::project_circle_center_to_bisector(points[0], points[points.len() - 1], centre);
+    let radius = Point::new(points[0].x, points[0].y).distance(moved);
+    fitting::get_polyline_arc_deviation(points, moved, radius)
+}
+
 /// A tolerance, now and then about an arc's deviation.
 fn tolerance_of(draw: &mut Draw, list: &[f64]) -> f64 {
     let points = triples(list);
-    let fitted = if draw.one_in(6) { fitting::fit_circle_to_points_3d(&points) } else { None };
-    let Some((centre, _, _)) = fitted else { return tolerance_for(draw, list, 3) };
+    let fitted = match draw.below(6) {
+        0 => fitting::fit_circle_to_points_3d(&points).map(|(centre, _, _)| centre),
+        1 if points.len() == 3 => fitting::fit_circle_to_3_points(points[0], points[1], points[2]).map(|fit| fit.0),
+        _ => None,
+    };
+    let Some(centre) = fitted else { return tolerance_for(draw, list, 3) };
     draw.label("tolerance about an arc's deviation");
-    let moved = fitting::project_circle_center_to_bisector(points[0], points[points.len() - 1], centre);
-    let radius = Point::new(points[0].x, points[0].y).distance(moved);
-    let deviation = fitting::get_polyline_arc_deviation(&points, moved, radius);
-    let off = draw.of(&[0.0, 5e-10, 1.1e-9, 2e-9, 1e-8, 1e-4, 0.1]);
+    let deviation = deviation_round(&points, centre);
+    let off = draw.of(&[0.0, 5e-10, 1.1e-9, 2e-9, 1e-8, 1e-7, 1e-6, 1e-5, 1e-4, 0.1]);
     let tolerance = deviation + draw.signed(off);
     // it is a NaN for points that are refused
     if tolerance.is_nan() { 1.0 } else { tolerance.clamp(0.001, 1_000.0) }

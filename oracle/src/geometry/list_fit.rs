@@ -20,13 +20,14 @@
 //! stands there only where it is within document 01's bound of the Rust's.
 use super::circle;
 use super::draw::Draw;
-use super::fit::{FUNCTIONS, Judged, primitives_of, recursive_of};
+use super::fit::{FUNCTIONS, Judged, deviation_round, primitives_of, recursive_of};
 use super::frame::Compared;
 use super::lent::{Lent, Purpose};
 use super::margins::Margins;
-use super::shapes::{raised, track, zigzag};
-use super::simplify::Rooms;
+use super::shapes::{raised, reversed, track, zigzag};
+use super::simplify::{Rooms, triples};
 use crate::random::Random;
+use raygeo::geo::algo::fitting;
 use std::io::{Result, Write};
 
 const NAMES: [&str; 8] = [
@@ -131,28 +132,31 @@ fn worked() -> Vec<Judged> {
     ]
 }
 
-/// Lists at which a slip shows: a point at the tolerance, equal farthest points, a closed range, less and more than a
-/// turn, a bend that turns sharply.
+/// Points on a circle of radius 25, no two of them across from each other, and then the end.
+fn ring(end: [f64; 2]) -> Vec<f64> {
+    let mut list = vec![25.0, 0.0, 20.0, 15.0, 7.0, 24.0, -7.0, 24.0, -20.0, 15.0];
+    list.extend([-24.0, -7.0, -15.0, -20.0, 0.0, -25.0, 15.0, -20.0, 24.0, -7.0]);
+    list.extend(end);
+    list
+}
+
+/// Lists at which a slip shows: a point at the tolerance, equal farthest points, closed ranges, short chords, just less
+/// than a turn and just more, both ways round.
 fn corners() -> Vec<Vec<f64>> {
-    let octagon =
-        [5.0, 0.0, 4.0, 3.0, 3.0, 4.0, 0.0, 5.0, -3.0, 4.0, -4.0, 3.0, -5.0, 0.0, -4.0, -3.0, -3.0, -4.0, 0.0, -5.0];
-    let round = [&octagon[..], &[3.0, -4.0, 4.0, -3.0]].concat();
-    let open = [&round[..], &[5.0, -0.001]].concat();
-    let closed = [&round[..], &[5.0, 0.0]].concat();
-    let over = [&closed[..], &octagon[2..8]].concat();
-    vec![
+    let rings = [[25.0, -0.01], [25.0, -0.03], [25.0, 0.0], [25.0, 0.01], [24.0, 7.0]].map(ring);
+    let mut lists = vec![
         vec![0.0, 0.0, 4.0, 1.0, 8.0, 0.0],
         vec![0.0, 0.0, 1.0, 1.0, 2.0, 0.0],
         vec![0.0, 0.0, 1.0, 2.0, 2.0, 0.0, 3.0, 2.0, 4.0, 0.0],
         vec![0.0, 0.0, 1.0, 2.0, 2.0, -2.0, 3.0, 2.0, 4.0, 0.0],
         vec![0.0, 0.0, 5.0, 1.5, 10.0, 2.0, 15.0, 1.5, 20.0, 0.0],
         vec![0.0, 0.0, 5.0, 1.5, 10.0, 2.5, 15.0, 1.0, 20.0, 0.0],
-        octagon.to_vec(),
-        round,
-        open,
-        closed,
-        over,
-    ]
+        vec![0.0, 0.0, 2.0, 1.0, 2.0, 1.0, 1.0, 0.0, 0.0, 0.0],
+        vec![0.0, 0.0, 5.0, 0.0, 1e-6, 0.0],
+    ];
+    lists.extend(rings.iter().map(|ring| reversed(ring)));
+    lists.extend(rings);
+    lists
 }
 
 /// Each of them at some tolerances, whole and in part.
@@ -169,6 +173,20 @@ fn at_tolerances() -> Vec<Judged> {
     calls
 }
 
+/// Three points a kilometre from the origin, where the first arc trial fails and the second passes: rounding moves the two centres
+/// apart, and the tolerance lies between the deviations.
+fn second_trials() -> Vec<Judged> {
+    let far = |i: usize| {
+        let (x, y) = (1_000.1 + i as f64 * 77.7, -900.3 - i as f64 * 55.5);
+        let list = lifted(&[x, y, x + 4.0, y + 1.0, x + 8.0, y]);
+        let points = triples(&list);
+        let first = deviation_round(&points, fitting::fit_circle_to_3_points(points[0], points[1], points[2])?.0);
+        let second = deviation_round(&points, fitting::fit_circle_to_points_3d(&points)?.0);
+        (first - second > 1e-7).then(|| whole(&list, (first + second) / 2.0))
+    };
+    (0..100).filter_map(far).take(3).collect()
+}
+
 /// The calls of the other functions on the same lists.
 fn measures() -> Vec<Compared> {
     let mut calls = Vec::new();
@@ -179,9 +197,40 @@ fn measures() -> Vec<Compared> {
         calls.push(circle::collinear_of(&list, 1.0, false));
         calls.push(circle::line_of(&list, [0, last]));
         calls.push(circle::line_of(&list, [last, 0]));
+        calls.push(circle::line_of(&list, [last + 1, 0]));
+        calls.push(circle::line_of(&list, [0, last + 1]));
         calls.push(circle::arc_of(&list, [0.0, 0.0], 5.0));
         calls.push(circle::through_of(&list[..9], false));
         calls.push(circle::bisector_of(&list[..6], [1.5, -7.0]));
+    }
+    calls
+}
+
+/// The least and the greatest arguments, and those beside the source's own limits.
+fn limits() -> Vec<Compared> {
+    let list = lifted(&[0.0, 0.0, 4.0, 1.0, 8.0, 0.0]);
+    let (most, more) = (1e12, 1e12f64.next_up());
+    let mut calls = Vec::new();
+    for radius in [0.0, -0.0, most, more, -f64::from_bits(1)] {
+        calls.push(circle::arc_of(&list, [4.0, -7.5], radius));
+    }
+    for centre in [[most, -most], [more, 0.0], [0.0, -more]] {
+        calls.push(circle::arc_of(&list, centre, 1.0));
+        calls.push(circle::bisector_of(&list[..6], centre));
+    }
+    for chord in [1e-6f64.next_down(), 1e-6, 2e-6] {
+        calls.push(circle::bisector_of(&[0.0, 0.0, 0.0, chord, 0.0, 1.0], [3.0, 4.0]));
+    }
+    for height in [0.4e-9, 0.5e-9, 1e-9, 2e-9] {
+        calls.push(circle::through_of(&lifted(&[0.0, 0.0, 1.0, height, 2.0, 0.0]), true));
+    }
+    for off in [0.01, 0.01f64.next_up(), 0.015] {
+        calls.push(circle::circle_of(&lifted(&[0.0, 0.0, 0.0, off, 1.0, 0.0, 2.0, 0.0]), true));
+        calls.push(circle::circle_of(&lifted(&[0.0, 0.0, 0.0, off, 0.0, 0.0]), true));
+    }
+    for tolerance in [0.001f64.next_down(), 0.001, 1_000.0, 1_000f64.next_up()] {
+        calls.push(circle::collinear_of(&list, tolerance, true));
+        calls.push(whole(&list, tolerance).call);
     }
     calls
 }
@@ -215,7 +264,8 @@ fn write(words: &[u64], out: &mut impl Write) -> Result<()> {
 /// place. One that is long, or whose answer is not owed, is drawn again.
 pub fn list(count: usize, seed: u64, out: &mut impl Write) -> Result<()> {
     let mut draw = Draw::new(Random::new(seed));
-    let fixed = owed(worked()).chain(owed(at_tolerances())).chain(measures()).chain(owed(edges(&mut draw)));
+    let fits = [worked(), at_tolerances(), second_trials(), edges(&mut draw)];
+    let fixed = fits.into_iter().flat_map(owed).chain(measures()).chain(limits());
     let mut records: Vec<Vec<u64>> = fixed.map(|call| record(&call)).collect();
     while records.len() < count {
         let index = records.len();

@@ -4,6 +4,7 @@
 //! and compares. Another layer is another such list.
 pub mod arc;
 pub mod bench_fit;
+pub mod bench_laps;
 pub mod bench_simplify;
 pub mod bends;
 pub mod bezier;
@@ -16,9 +17,11 @@ pub mod frame;
 pub mod grid;
 pub mod grid_fit;
 pub mod grid_simplify;
+pub mod laps;
 pub mod lent;
 pub mod list;
 pub mod list_fit;
+pub mod list_laps;
 pub mod list_simplify;
 pub mod margins;
 pub mod shapes;

@@ -96,6 +96,7 @@ pub fn triples_of(list: &[f64], tolerance: f64, room: usize) -> Compared {
 // ---- commands
 
 /// Commands as they are lent.
+#[derive(Clone)]
 pub struct Commands {
     pub kinds: Vec<u8>,
     pub numbers: Vec<f64>,

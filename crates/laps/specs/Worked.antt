@@ -1,8 +1,9 @@
--- Document 01's worked laps that carry its mark, as far as they speak of thinning and fitting: one table. Definitions only; proofs/Worked.antt shows that it holds.
+-- Document 01's worked laps that carry its mark: one table. Definitions only; proofs/Worked.antt shows that it holds.
 use Prim.Native.Nat.{ℕ}
 use mathlib.Core.Path.{_≡_}
 use mathlib.Core.Bool.{false}
 use mathlib.Core.List.{List, [], _∷_}
+use lib.ListN.{length}
 use lib.Ieee.{Float, binary64, round, neg}
 use Rattle.number.specs.Ops.{+0, one}
 use Rattle.number.specs.Root.{rootOf}
@@ -12,7 +13,9 @@ use Rattle.types.specs.declared.types.Command.the-variants.{Line, Arc}
 use Rattle.types.specs.Domain.{thousandth}
 use Rattle.types.specs.Outcome.{Outcome, refused, gives}
 use Rattle.simplify.specs.Simplify.{simplifyPolyline3d}
+use Rattle.bezier.specs.Linearize.{paramSteps}
 use Rattle.fitting.specs.Calls.{primitivesCall}
+use Rattle.laps.specs.Calls.{fitFile}
 
 -- n/d as a float, and a whole number
 abbrev pub share : ℕ → ℕ → Float
@@ -53,6 +56,14 @@ from-start = record { x = neg (whole 3); y = neg (whole 4); z = +0 }
 abbrev pub down : Point3D
 down = record { x = +0; y = +0; z = neg one }
 
+-- the steps of a Bezier with all points at p
+abbrev pub steps-at : Point3D → ℕ
+steps-at p = length (paramSteps p p p p (share 1 2))
+
+-- "LAPS" and no laps
+abbrev pub no-laps : List ℕ
+no-laps = 0x4c ∷ 0x41 ∷ 0x50 ∷ 0x53 ∷ 0 ∷ 0 ∷ 0 ∷ 0 ∷ []
+
 -- the table, in the order of document 01
 pub record WorkedLaps : Type 0 where
   pub root-of-25 : rootOf (whole 25) ≡ whole 5
@@ -67,3 +78,5 @@ pub record WorkedLaps : Type 0 where
   pub bend-as-two-lines : fit bend (share 25 100) ≡ gives (Line (point 4 3) ∷ Line (point 5 0) ∷ [])
   pub least-tolerance : fit twice thousandth ≡ gives (Line (point 7 7) ∷ [])
   pub no-tolerance : fit twice +0 ≡ refused 6
+  pub curve-of-equal-points : steps-at (point 7 7) ≡ 2
+  pub empty-file : fitFile no-laps (share 1 2) 8 ≡ gives no-laps

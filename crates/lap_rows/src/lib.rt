@@ -1,0 +1,2 @@
+// The listing of one lap of a recorded file.
+pub mod lap_rows;

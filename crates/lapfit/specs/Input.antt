@@ -1,0 +1,12 @@
+-- What the program makes of its input: "eight bytes of tolerance, then a lap file"; "input below 16 bytes gives 1" (document 01). Definitions only.
+use Prim.Native.Nat.{ℕ}
+use mathlib.Core.List.{List}
+use lib.ListN.{length, drop}
+use lib.Dec.{ltb}
+use Rattle.number.specs.Ops.{if_then_else_}
+use Rattle.types.specs.Outcome.{Outcome, refused}
+use Rattle.file.specs.Bytes.{numberAt}
+use Rattle.laps.specs.Calls.{fitFile}
+
+unfoldable pub fitInput : List ℕ → ℕ → Outcome (List ℕ)
+fitInput s room = if ltb (length s) 16 then refused 1 else fitFile (drop 8 s) (numberAt s 0) room

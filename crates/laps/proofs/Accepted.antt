@@ -1,0 +1,62 @@
+-- What an accepted fit has, and its fitted file read back. Assumes nothing.
+use Prim.Native.Nat.{ℕ, zero, suc, _≤_}
+use mathlib.Core.Path.{_≡_, refl, _∙_}
+use mathlib.Core.Bool.{true}
+use mathlib.Core.List.{List, map}
+use native.Mathlib.Omega.{arith}
+use lib.ListN.{length, length-map}
+use lib.Ieee.{Float}
+use Rattle.types.specs.Outcome.{gives, unless, refusal}
+use Rattle.types.proofs.Tolerance.{tolerance-positive}
+use Rattle.laps.specs.File.{Lap, lapCount, lapsOf, encode, tableOk}
+use Rattle.laps.specs.Fit.{fitLap, mostOf}
+use Rattle.laps.specs.Calls.{fitRows, fitFile}
+use Rattle.laps.specs.Demand.{Wholes}
+use Rattle.laps.proofs.Walks.{not-big}
+use Rattle.laps.proofs.Rows.{FitPassed, fit-passed}
+use Rattle.laps.proofs.Whole.{wholes-fit, length-encode}
+use Rattle.laps.proofs.Turns.{length-laps-of, total-most}
+use Rattle.laps.proofs.ReadBack.{lap-count-encode, laps-encode, table-encode}
+use Rattle.laps.proofs.Replaced.{somes-of, somes-fit}
+
+-- what gives a value was refused by no row
+unless-given : {A : Type 0} (n : ℕ) (a b : A) → unless n a ≡ gives b → (0 ≡ n) × (a ≡ b)
+unfolding unless
+unless-given zero a b e = (refl, cc)
+unless-given (suc n) a b e = let z : _≡_ {A = ℕ} 0 1 = cc in absurd (omega arith)
+
+pub record Accepted (s : List ℕ) (tol : Float) (room : ℕ) (f : List ℕ) : Type 0 where
+  pub passed : FitPassed s tol room
+  pub bytes : encode (map (fitLap tol) (lapsOf s)) ≡ f
+
+pub accepted : (s : List ℕ) (tol : Float) (room : ℕ) (f : List ℕ) → fitFile s tol room ≡ gives f → Accepted s tol room f
+unfolding fitFile
+accepted s tol room f e = let a = unless-given (refusal (fitRows s tol room)) _ f e in record { passed = fit-passed s tol room (a .0); bytes = a .1 }
+
+-- the fitted file, read back
+pub record Fitted (s : List ℕ) (tol : Float) (f : List ℕ) : Type 0 where
+  pub laps : lapsOf f ≡ map (fitLap tol) (lapsOf s)
+  pub count : lapCount f ≡ lapCount s
+  pub table : tableOk f ≡ true
+  pub size : length f ≤ 65536
+  pub long : 8 ≤ length f
+
+pub fitted : (s : List ℕ) (tol : Float) (room : ℕ) (f : List ℕ) → Accepted s tol room f → Fitted s tol f
+fitted s tol room f a =
+    let p = a .passed in
+    let pos = tolerance-positive tol (p .within) in
+    let ls : List Lap = map (fitLap tol) (lapsOf s) in
+    let b = not-big s (p .file .small) in
+    let n : length ls ≡ lapCount s = length-map (lapsOf s) (fitLap tol) ∙ length-laps-of s in
+    let t = total-most tol pos (lapsOf s) in
+    let few : mostOf tol (lapsOf s) ≤ 800 = p .few in
+    let w : Wholes ls = wholes-fit tol (lapsOf s) in
+    let e = length-encode ls w in
+    rw (← a .bytes)
+    (record {
+      laps = laps-encode ls w (omega arith) (omega arith);
+      count = lap-count-encode ls w (omega arith) ∙ n;
+      table = table-encode ls w (omega arith) (omega arith) (omega arith) (somes-fit tol (lapsOf s) (somes-of s (p .file .table)) (p .file .formed));
+      size = omega arith;
+      long = omega arith;
+    })

@@ -1,0 +1,60 @@
+-- The fit of a lap: how much it writes, and that it writes something. Assumes nothing.
+use Prim.Native.Nat.{ℕ, zero, suc, _+_, _-_, _*_, _≤_, _<_}
+use mathlib.Core.Path.{_≡_, refl, ap}
+use mathlib.Core.Bool.{true}
+use mathlib.Core.List.{List, [], _∷_, map}
+use native.Mathlib.Omega.{arith}
+use borrow.Author.Tests.{eqb-true}
+use lib.ListN.{length, getD, length-map}
+use lib.Dec.{eqb}
+use lib.Ieee.{Float}
+use Rattle.number.specs.Ops.{_≺_, +0}
+use Rattle.number.proofs.Order.{and-left}
+use Rattle.types.specs.declared.types.Command.the-variants.{Move}
+use Rattle.types.specs.Lent.{commandOf}
+use Rattle.file.specs.Command.{commandsAt, decoded, enc, pointFrom}
+use Rattle.course.specs.Course.{courseFit, courseMost, lentCourse}
+use Rattle.laps.specs.File.{Lap, lapsAt, countAt, placed, formOk, holds, lapOk}
+use Rattle.laps.specs.Fit.{fitLap, mostLap, mostOf, fitNew}
+use Rattle.laps.proofs.Here.{cond-false}
+use Rattle.course.proofs.Accepted.{course-few}
+use Rattle.laps.proofs.Course.{course-some}
+
+pub length-commands : (s : List ℕ) (at n : ℕ) → length (commandsAt s at n) ≡ n
+unfolding commandsAt
+length-commands s at zero = refl
+length-commands s at (suc n) = ap suc (length-commands s (at + 73) n)
+
+-- a fit writes no more than its most
+module _ (tol : Float) (pos : (+0 ≺ tol) ≡ true) where
+  pub fit-most : (l : Lap) → length (fitLap tol l) ≤ mostLap tol l
+  unfolding fitLap mostLap
+  fit-most l = rw (length-map (courseFit tol (map decoded l)) enc) (course-few tol pos (map decoded l))
+
+  pub new-most : (ks : List ℕ) (ns : List Float) → length (fitNew tol ks ns) ≤ courseMost tol (lentCourse ks ns)
+  unfolding fitNew
+  new-most ks ns = rw (length-map (courseFit tol (lentCourse ks ns)) enc) (course-few tol pos (lentCourse ks ns))
+
+-- and something where the lap starts with a Move, as row 4 asks
+starts-with-move : (c : List ℕ) → holds 4 true c ≡ true → decoded c ≡ Move (pointFrom c 1)
+unfolding holds formOk placed decoded commandOf
+starts-with-move c e = let k = eqb-true (getD c 0 0) 0 (and-left (eqb (getD c 0 0) 0) _ e) in rw k
+
+pub fit-some : (tol : Float) (l : Lap) → 0 < length l → lapOk 4 true l ≡ true → 0 < length (fitLap tol l)
+unfolding fitLap lapOk
+fit-some tol [] h e = absurd (omega arith)
+fit-some tol (c ∷ l) h e =
+    let a = cond-false (holds 4 true c) _ e in
+    let m = starts-with-move c (a .0) in
+    let s = course-some tol (pointFrom c 1) (map decoded l) in
+    rw (length-map (courseFit tol (map decoded (c ∷ l))) enc, m) (omega arith)
+
+-- ---- the laps of a file, one by one
+pub mosts-step : (tol : Float) (s : List ℕ) (j at l n : ℕ) → j < l → n ≡ countAt s j
+    → mostOf tol (lapsAt s j at (l - j)) ≡ mostLap tol (commandsAt s at n) + mostOf tol (lapsAt s (j + 1) (at + 73 * n) (l - (j + 1)))
+unfolding mostOf lapsAt
+mosts-step tol s j at l n h e = let z : l - j ≡ suc (l - (j + 1)) = omega arith in rw (z, e)
+
+pub mosts-end : (tol : Float) (s : List ℕ) (j at l : ℕ) → l ≤ j → mostOf tol (lapsAt s j at (l - j)) ≡ 0
+unfolding mostOf lapsAt
+mosts-end tol s j at l h = let z : l - j ≡ zero = omega arith in rw z

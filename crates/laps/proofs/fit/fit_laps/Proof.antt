@@ -1,0 +1,101 @@
+-- `laps::fit::fit_laps` meets its contract: the laps that are left, written from here, give the whole file; each place lies in the file, and each fit in what is left of the output. The measure is how many laps are left. Assumes nothing.
+use Prim.Native.Nat.{_-_, _≤_}
+use mathlib.Core.Path.{sym, subst}
+use mathlib.Core.List.{List, map}
+use native.Mathlib.Omega.{arith}
+use Rattle.laps.specs.File.{Lap, lapsAt, lapsOf}
+use Rattle.laps.specs.Fit.{fitLap, mostOf}
+use Rattle.laps.proofs.Here.{Here, step, start-at, all-laps}
+use Rattle.laps.proofs.Going.{Going, turn}
+use Rattle.laps.proofs.Lap.{mosts-step}
+use Rattle.laps.proofs.Turns.{fit-begin, fit-cons, fits-next, fit-done}
+use Rattle.laps.proofs.fit.fit_laps.Statement.{statement}
+use Rattle.laps.proofs.fit.fit_laps.Tie as tie
+
+abbrev Inv-loop : tie.InvT-loop
+Inv-loop s tolerance out₀ l at₀ to₀ j₀ out at to j = (j ≤ l) × Here s j at l × (mostOf tolerance (lapsAt s j at (l - j)) ≤ 800) × Going out₀ out l j to (map (fitLap tolerance) (lapsAt s j at (l - j))) (map (fitLap tolerance) (lapsOf s))
+
+abbrev μ-loop : tie.MeasureT-loop
+μ-loop s tolerance out₀ l at₀ to₀ j₀ out at to j = l - j
+
+lap-count-requires : tie.Need-lap-count-requires Inv-loop μ-loop
+lap-count-requires c κs = omega (arith, c .before .before .pre)
+
+put-head-requires : tie.Need-put-head-requires Inv-loop μ-loop
+put-head-requires c κs = omega (arith, c .before .before .before .before .pre)
+
+mul-at : tie.Need-mul-at Inv-loop μ-loop
+mul-at c = omega arith
+
+add-at : tie.Need-add-at Inv-loop μ-loop
+add-at c = omega arith
+
+loop-holds : tie.Need-loop-holds Inv-loop μ-loop
+loop-holds c = let a = c .before .before .before .before .before .before .before .args in let p = c .before .before .before .before .before .before .before .pre in let e = c .before .before .before .before .lap-count .ensures .0 in (omega arith, start-at (a .s .now) _ e (p .2), subst (λ (ls : List Lap). mostOf (a .tolerance) ls ≤ 800) (sym (all-laps (a .s .now) _ e)) (p .3), fit-begin (a .tolerance) (p .0) (a .s .now) _ _ e (omega (arith, p)))
+
+count-at-requires : tie.Need-count-at-requires Inv-loop μ-loop
+count-at-requires c κs = omega (arith, c .before .loop .inv .1 .table)
+
+fit-lap-requires : tie.Need-fit-lap-requires Inv-loop μ-loop
+fit-lap-requires c κs = let a = c .before .before .before .before .before .before .before .before .before .before .before .args in let l = c .before .before .before .loop in let e = c .before .count-at .ensures .0 in let t = c .before .before .loop-test .taken in
+    let w = step (a .s .now) (l .j) (l .at) _ _ e (l .inv .1) t in
+    let m = mosts-step (a .tolerance) (a .s .now) (l .j) (l .at) _ _ t e in
+    let q = l .inv .2 in
+    (c .before .before .before .before .before .before .before .before .before .before .before .pre .0, w .fits, w .few, omega (arith, m, q), fits-next _ _ _ _ _ _ _ _ (fit-cons (a .tolerance) (a .s .now) _ (l .out) _ (l .j) (l .at) (l .to) _ _ t e (l .inv .3)))
+
+put-entry-requires : tie.Need-put-entry-requires Inv-loop μ-loop
+put-entry-requires c κs = let g = c .before .before .before .before .before .before .before .loop .inv .3 in let h = c .before .before .before .before .before .before .before .loop .inv .1 in omega (arith, c .before .before .before .before .before .before .loop-test .taken)
+
+mul-at-2 : tie.Need-mul-at-2 Inv-loop μ-loop
+mul-at-2 c = let l = c .before .before .before .before .before .before .before .before .before .before .loop in let w = step (c .before .before .before .before .before .before .before .before .before .before .before .before .before .before .before .before .before .before .args .s .now) (l .j) (l .at) _ _ (c .before .before .before .before .before .before .before .before .count-at .ensures .0) (l .inv .1) (c .before .before .before .before .before .before .before .before .before .loop-test .taken) in omega arith
+
+add-at-2 : tie.Need-add-at-2 Inv-loop μ-loop
+add-at-2 c = let l = c .before .before .before .before .before .before .before .before .before .before .loop in let w = step (c .before .before .before .before .before .before .before .before .before .before .before .before .before .before .before .before .before .before .args .s .now) (l .j) (l .at) _ _ (c .before .before .before .before .before .before .before .before .count-at .ensures .0) (l .inv .1) (c .before .before .before .before .before .before .before .before .before .loop-test .taken) in omega arith
+
+mul-to : tie.Need-mul-to Inv-loop μ-loop
+mul-to c = let a = c .before .before .before .before .before .before .before .before .before .before .before .before .before .before .before .before .before .before .args in let l = c .before .before .before .before .before .before .before .before .before .before .loop in let g = fits-next _ _ _ _ _ _ _ _ (fit-cons (a .tolerance) (a .s .now) _ (l .out) _ (l .j) (l .at) (l .to) _ _ (c .before .before .before .before .before .before .before .before .before .loop-test .taken) (c .before .before .before .before .before .before .before .before .count-at .ensures .0) (l .inv .3)) in let k = c .before .before .before .before .before .before .fit-lap .ensures .count in omega arith
+
+add-to : tie.Need-add-to Inv-loop μ-loop
+add-to c = let a = c .before .before .before .before .before .before .before .before .before .before .before .before .before .before .before .before .before .before .args in let l = c .before .before .before .before .before .before .before .before .before .before .loop in let g = fits-next _ _ _ _ _ _ _ _ (fit-cons (a .tolerance) (a .s .now) _ (l .out) _ (l .j) (l .at) (l .to) _ _ (c .before .before .before .before .before .before .before .before .before .loop-test .taken) (c .before .before .before .before .before .before .before .before .count-at .ensures .0) (l .inv .3)) in let k = c .before .before .before .before .before .before .fit-lap .ensures .count in omega arith
+
+add-j : tie.Need-add-j Inv-loop μ-loop
+add-j c = omega arith
+
+loop-less : tie.Need-loop-less Inv-loop μ-loop
+loop-less c = omega arith
+
+loop-again : tie.Need-loop-again Inv-loop μ-loop
+loop-again c = let a = c .before .before .before .before .before .before .before .before .before .before .before .before .before .before .before .before .before .before .args in let l = c .before .before .before .before .before .before .before .before .before .before .loop in let e = c .before .before .before .before .before .before .before .before .count-at .ensures .0 in let t = c .before .before .before .before .before .before .before .before .before .loop-test .taken in
+    let m = mosts-step (a .tolerance) (a .s .now) (l .j) (l .at) _ _ t e in
+    let q = l .inv .2 in
+    (omega arith, step (a .s .now) (l .j) (l .at) _ _ e (l .inv .1) t .then, omega (arith, m, q), turn _ (l .out) _ _ _ (l .j) (l .to) _ _ _ _ (fit-cons (a .tolerance) (a .s .now) _ (l .out) _ (l .j) (l .at) (l .to) _ _ t e (l .inv .3)) (c .before .before .before .before .before .before .fit-lap .ensures .count) (c .before .before .before .before .before .before .fit-lap .ensures .bytes) (c .before .before .put-entry .ensures))
+
+same-length : tie.Need-same-length Inv-loop μ-loop
+same-length c = omega (arith, c .before .loop .inv .3 .same, c .before .before .before .before .put-head .kept .0)
+
+returns : tie.Need-returns Inv-loop μ-loop
+returns c = let a = c .before .before .before .before .before .before .before .before .before .args in let l = c .before .loop in fit-done (a .tolerance) (a .s .now) (a .out .now) _ (l .out) _ (l .j) (l .at) (l .to) (c .before .before .before .before .before .before .lap-count .ensures .0) (c .loop-test .left) (c .before .before .before .before .put-head .ensures) (l .inv .3)
+
+pub fit-laps-spec : {M : Type 1} → statement M
+fit-laps-spec =
+    tie.close
+    (tie.spec
+    Inv-loop
+    μ-loop
+    lap-count-requires
+    put-head-requires
+    mul-at
+    add-at
+    loop-holds
+    count-at-requires
+    fit-lap-requires
+    put-entry-requires
+    mul-at-2
+    add-at-2
+    mul-to
+    add-to
+    add-j
+    loop-less
+    loop-again
+    same-length
+    returns)

@@ -1,0 +1,141 @@
+// The fit of a lap file: `fit_arcs` of each lap, under a new table.
+use crate::lap_file::check_file;
+use crate::lap_file::count_at;
+use crate::lap_file::lap_count;
+use crate::lap_file::put_entry;
+use crate::lap_file::put_head;
+use course::course::course_most;
+use course::course::fit_course;
+use file::command::read_commands;
+use file::command::write_commands;
+use types::domain::is_within;
+use types::types::Answer;
+ghost use mathlib.Core.Path.{_≡_};
+ghost use mathlib.Core.Bool.{true};
+ghost use mathlib.Core.List.{List, map, _++_};
+ghost use Prim.Native.Nat.{ℕ, _+_, _*_, _≤_};
+ghost use lib.ListN.{length, drop};
+ghost use Rattle.number.specs.Ops.{_≺_, +0};
+ghost use Rattle.types.specs.Outcome.{refusal, Wrote};
+ghost use Rattle.file.specs.Command.{commandsAt};
+ghost use Rattle.course.specs.Course.{courseMost, lentCourse, cap};
+ghost use Rattle.laps.specs.File.{lapCount, lapsOf, encode, tableOk, PutLap};
+ghost use Rattle.laps.specs.Fit.{fitLap, mostLap, mostOf, sizeOf, fitNew};
+ghost use Rattle.laps.specs.Calls.{fitRows, fitFile};
+
+// A count, where all above 800 are told as 801.
+fn capped(n: usize) -> usize
+    ensures { λ r. ⌜ (r ≡ cap n) × (r ≤ 801) ⌝ }
+{
+    if 800 < n {
+        return 801;
+    }
+    n
+}
+
+// What the n commands from `at` on could become at most.
+pub fn most_lap(s: &[u8], at: usize, n: usize, tolerance: f64) -> usize
+    requires { ⌜ (at + 73 * n ≤ length (now s)) × (n ≤ 800) ⌝ }
+    ensures { λ r. ⌜ r ≡ cap (mostLap tolerance (commandsAt (now (s .entry)) at n)) ⌝ }
+{
+    let mut kinds = [0u8; 800];
+    let mut nums = [0.0f64; 7200];
+    read_commands(s, at, n, &mut kinds, &mut nums);
+    let m = 9 * n;
+    course_most(&kinds[..n], &nums[..m], tolerance)
+}
+
+// What the laps of a file could become at most.
+pub fn most_of(s: &[u8], tolerance: f64) -> usize
+    requires { ⌜ (8 ≤ length (now s)) × (tableOk (now s) ≡ true) ⌝ }
+    ensures { λ r. ⌜ r ≡ cap (mostOf tolerance (lapsOf (now (s .entry)))) ⌝ }
+{
+    let l = lap_count(s);
+    let mut at = 8 + 8 * l;
+    let mut most = 0;
+    let mut j = 0;
+    while j < l {
+        let n = count_at(s, j);
+        most = capped(most + most_lap(s, at, n, tolerance));
+        at += 73 * n;
+        j += 1;
+    }
+    most
+}
+
+// Writes the fit of lent commands from `to` on, and returns how many commands it has.
+pub fn fit_commands(kinds: &[u8], nums: &[f64], tolerance: f64, out: &mut [u8], to: usize) -> usize
+    requires { ⌜ ((+0 ≺ tolerance) ≡ true) × (9 * length (now kinds) ≤ length (now nums)) × (courseMost tolerance (lentCourse (now kinds) (now nums)) ≤ 800) × (to + 73 * length (fitNew tolerance (now kinds) (now nums)) ≤ length (now out)) ⌝ }
+    ensures { λ r. ⌜ PutLap (fitNew tolerance (now (kinds .entry)) (now (nums .entry))) (now (out .entry)) (now (out .exit)) to r ⌝ }
+{
+    let mut out_kinds = [0u8; 800];
+    let mut out_nums = [0.0f64; 7200];
+    let n = fit_course(kinds, nums, tolerance, &mut out_kinds, &mut out_nums);
+    write_commands(&out_kinds, &out_nums, n, out, to);
+    n
+}
+
+// Writes the fit of the n commands from `at` on, from `to` on, and returns how many commands it has.
+fn fit_lap(s: &[u8], at: usize, n: usize, tolerance: f64, out: &mut [u8], to: usize) -> usize
+    requires { ⌜ ((+0 ≺ tolerance) ≡ true) × (at + 73 * n ≤ length (now s)) × (n ≤ 800) × (mostLap tolerance (commandsAt (now s) at n) ≤ 800) × (to + 73 * length (fitLap tolerance (commandsAt (now s) at n)) ≤ length (now out)) ⌝ }
+    ensures { λ r. ⌜ PutLap (fitLap tolerance (commandsAt (now (s .entry)) at n)) (now (out .entry)) (now (out .exit)) to r ⌝ }
+{
+    let mut kinds = [0u8; 800];
+    let mut nums = [0.0f64; 7200];
+    read_commands(s, at, n, &mut kinds, &mut nums);
+    let m = 9 * n;
+    fit_commands(&kinds[..n], &nums[..m], tolerance, out, to)
+}
+
+// Writes the fit of a file, the mark first, and returns how many bytes it has.
+fn fit_laps(s: &[u8], tolerance: f64, out: &mut [u8]) -> usize
+    requires { ⌜ ((+0 ≺ tolerance) ≡ true) × (8 ≤ length (now s)) × (tableOk (now s) ≡ true) × (mostOf tolerance (lapsOf (now s)) ≤ 800) × (sizeOf (lapCount (now s)) (mostOf tolerance (lapsOf (now s))) ≤ length (now out)) ⌝ }
+    ensures { λ r. ⌜ (r ≡ length (encode (map (fitLap tolerance) (lapsOf (now (s .entry)))))) × (now (out .exit) ≡ encode (map (fitLap tolerance) (lapsOf (now (s .entry)))) ++ drop (length (encode (map (fitLap tolerance) (lapsOf (now (s .entry)))))) (now (out .entry))) ⌝ }
+{
+    let l = lap_count(s);
+    put_head(out, l);
+    let mut at = 8 + 8 * l;
+    let mut to = at;
+    let mut j = 0;
+    while j < l {
+        let n = count_at(s, j);
+        let c = fit_lap(s, at, n, tolerance, out, to);
+        put_entry(out, j, to, c);
+        at += 73 * n;
+        to += 73 * c;
+        j += 1;
+    }
+    to
+}
+
+// The number of the first row that the fit of a file falls under, or 0.
+fn check_fit(s: &[u8], tolerance: f64, room: usize) -> u32
+    ensures { λ r. ⌜ r ≡ refusal (fitRows (now (s .entry)) tolerance room) ⌝ }
+{
+    let refused = check_file(s);
+    if refused != 0 {
+        return refused;
+    }
+    if !is_within(0.001, 1000.0, tolerance) {
+        return 6;
+    }
+    let most = most_of(s, tolerance);
+    if 800 < most {
+        return 8;
+    }
+    if room < 8 + 8 * lap_count(s) + 73 * most {
+        return 9;
+    }
+    0
+}
+
+// Fits each lap of a recorded file, and writes the fitted file to the front of out. A refusal changes nothing.
+pub fn fit_file(recorded: &[u8], tolerance: f64, out: &mut [u8]) -> Answer
+    ensures { λ r. ⌜ Wrote (λ (bytes : List ℕ). bytes) (fitFile (now (recorded .entry)) tolerance (length (now (out .entry)))) (now (out .entry)) (now (out .exit)) r ⌝ }
+{
+    let refused = check_fit(recorded, tolerance, out.len());
+    if refused != 0 {
+        return Answer::Refused(refused);
+    }
+    Answer::Written(fit_laps(recorded, tolerance, out))
+}

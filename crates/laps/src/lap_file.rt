@@ -1,0 +1,230 @@
+// The lap file: its head, its table and its rows.
+use file::bytes::put_u32;
+use file::command::is_well_formed;
+use file::command::read_command;
+use records::half_at;
+use types::domain::command_in;
+ghost use mathlib.Core.Path.{_≡_};
+ghost use mathlib.Core.Bool.{true};
+ghost use mathlib.Core.List.{_++_};
+ghost use Prim.Native.Nat.{_+_, _*_, _<_, _≤_};
+ghost use lib.ListN.{length};
+ghost use lib.Seq.{sets};
+ghost use Rattle.types.specs.Outcome.{refusal};
+ghost use Rattle.file.specs.Bytes.{u32Bytes};
+ghost use Rattle.file.specs.Command.{commandsAt};
+ghost use Rattle.laps.specs.File.{lapCount, offsetAt, countAt, lapsOf, mark, short, big, marked, walk, tableOk, placed, formOk, holds, lapOk, lapsOk};
+ghost use Rattle.laps.specs.Calls.{fileRows};
+
+// The lap count.
+pub fn lap_count(s: &[u8]) -> usize
+    requires { ⌜ 8 ≤ length (now s) ⌝ }
+    ensures { λ r. ⌜ (r ≡ lapCount (now (s .entry))) × (r < 4294967296) ⌝ }
+{
+    half_at(s, 4) as usize
+}
+
+// The offset in entry j of the table.
+fn offset_at(s: &[u8], j: usize) -> usize
+    requires { ⌜ 16 + 8 * j ≤ length (now s) ⌝ }
+    ensures { λ r. ⌜ (r ≡ offsetAt (now (s .entry)) j) × (r < 4294967296) ⌝ }
+{
+    half_at(s, 8 + 8 * j) as usize
+}
+
+// The command count in entry j of the table.
+pub fn count_at(s: &[u8], j: usize) -> usize
+    requires { ⌜ 16 + 8 * j ≤ length (now s) ⌝ }
+    ensures { λ r. ⌜ (r ≡ countAt (now (s .entry)) j) × (r < 4294967296) ⌝ }
+{
+    half_at(s, 12 + 8 * j) as usize
+}
+
+// Whether the file is too short for a mark and a lap count.
+pub fn too_short(s: &[u8]) -> bool
+    ensures { λ r. ⌜ r ≡ short (now (s .entry)) ⌝ }
+{
+    s.len() < 8
+}
+
+// Whether the file has too many bytes or laps.
+pub fn too_big(s: &[u8]) -> bool
+    requires { ⌜ 8 ≤ length (now s) ⌝ }
+    ensures { λ r. ⌜ r ≡ big (now (s .entry)) ⌝ }
+{
+    if 65536 < s.len() {
+        return true;
+    }
+    64 < lap_count(s)
+}
+
+// Whether the file starts with "LAPS".
+fn has_mark(s: &[u8]) -> bool
+    requires { ⌜ 8 ≤ length (now s) ⌝ }
+    ensures { λ r. ⌜ r ≡ marked (now (s .entry)) ⌝ }
+{
+    if s[0] != 0x4c {
+        return false;
+    }
+    if s[1] != 0x41 {
+        return false;
+    }
+    if s[2] != 0x50 {
+        return false;
+    }
+    s[3] == 0x53
+}
+
+// Whether the l entries of the table lead from body to body to the file's end.
+fn walks(s: &[u8], l: usize) -> bool
+    requires { ⌜ (8 + 8 * l ≤ length (now s)) × (l ≤ 64) ⌝ }
+    ensures { λ r. ⌜ r ≡ walk (now (s .entry)) 0 (8 + 8 * l) 0 l ⌝ }
+{
+    let mut at = 8 + 8 * l;
+    let mut total = 0;
+    let mut j = 0;
+    while j < l {
+        if offset_at(s, j) != at {
+            return false;
+        }
+        let n = count_at(s, j);
+        if n == 0 {
+            return false;
+        }
+        if 800 < total + n {
+            return false;
+        }
+        at += 73 * n;
+        total += n;
+        j += 1;
+    }
+    at == s.len()
+}
+
+// Whether the mark and the table are right. The mark is compared first.
+pub fn has_table(s: &[u8]) -> bool
+    requires { ⌜ (8 ≤ length (now s)) × (lapCount (now s) ≤ 64) ⌝ }
+    ensures { λ r. ⌜ r ≡ tableOk (now (s .entry)) ⌝ }
+{
+    if !has_mark(s) {
+        return false;
+    }
+    let l = lap_count(s);
+    if s.len() < 8 + 8 * l {
+        return false;
+    }
+    walks(s, l)
+}
+
+// Whether a kind may stand first in a lap, or behind the first.
+pub fn is_placed(first: bool, kind: u8) -> bool
+    ensures { λ r. ⌜ r ≡ placed first kind ⌝ }
+{
+    if first {
+        return kind == 0;
+    }
+    kind != 0
+}
+
+// Row 4 of a command.
+fn has_form(first: bool, c: &[u8]) -> bool
+    requires { ⌜ 73 ≤ length (now c) ⌝ }
+    ensures { λ r. ⌜ r ≡ formOk first (now (c .entry)) ⌝ }
+{
+    if is_placed(first, c[0]) {
+        return is_well_formed(c);
+    }
+    false
+}
+
+// Row 4 or row 5 of a command.
+fn passes(row: u32, first: bool, c: &[u8]) -> bool
+    requires { ⌜ 73 ≤ length (now c) ⌝ }
+    ensures { λ r. ⌜ r ≡ holds row first (now (c .entry)) ⌝ }
+{
+    if row == 4 {
+        return has_form(first, c);
+    }
+    command_in(read_command(c))
+}
+
+// Row 4 or row 5 of the n commands from `at` on.
+fn lap_passes(row: u32, s: &[u8], at: usize, n: usize) -> bool
+    requires { ⌜ at + 73 * n ≤ length (now s) ⌝ }
+    ensures { λ r. ⌜ r ≡ lapOk row true (commandsAt (now (s .entry)) at n) ⌝ }
+{
+    let mut i = 0;
+    let mut b = at;
+    while i < n {
+        let e = b + 73;
+        if !passes(row, i == 0, &s[b..e]) {
+            return false;
+        }
+        b = e;
+        i += 1;
+    }
+    true
+}
+
+// Row 4 or row 5 of all laps.
+pub fn all_pass(row: u32, s: &[u8]) -> bool
+    requires { ⌜ (8 ≤ length (now s)) × (tableOk (now s) ≡ true) ⌝ }
+    ensures { λ r. ⌜ r ≡ lapsOk row (lapsOf (now (s .entry))) ⌝ }
+{
+    let l = lap_count(s);
+    let mut at = 8 + 8 * l;
+    let mut j = 0;
+    while j < l {
+        let n = count_at(s, j);
+        if !lap_passes(row, s, at, n) {
+            return false;
+        }
+        at += 73 * n;
+        j += 1;
+    }
+    true
+}
+
+// The first of the rows 1 to 5 that a file falls under, or 0.
+pub fn check_file(s: &[u8]) -> u32
+    ensures { λ r. ⌜ r ≡ refusal (fileRows (now (s .entry))) ⌝ }
+{
+    if too_short(s) {
+        return 1;
+    }
+    if too_big(s) {
+        return 2;
+    }
+    if !has_table(s) {
+        return 3;
+    }
+    if !all_pass(4, s) {
+        return 4;
+    }
+    if !all_pass(5, s) {
+        return 5;
+    }
+    0
+}
+
+// Writes the mark and the lap count.
+pub fn put_head(out: &mut [u8], l: usize)
+    requires { ⌜ 8 ≤ length (now out) ⌝ }
+    ensures { λ _. ⌜ now (out .exit) ≡ sets (now (out .entry)) 0 (mark ++ u32Bytes l) ⌝ }
+{
+    out[0] = 0x4c;
+    out[1] = 0x41;
+    out[2] = 0x50;
+    out[3] = 0x53;
+    put_u32(out, 4, l as u64);
+}
+
+// Writes entry j of the table.
+pub fn put_entry(out: &mut [u8], j: usize, at: usize, n: usize)
+    requires { ⌜ 16 + 8 * j ≤ length (now out) ⌝ }
+    ensures { λ _. ⌜ now (out .exit) ≡ sets (now (out .entry)) (8 + 8 * j) (u32Bytes at ++ u32Bytes n) ⌝ }
+{
+    let b = 8 + 8 * j;
+    put_u32(out, b, at as u64);
+    put_u32(out, b + 4, n as u64);
+}

@@ -1,0 +1,178 @@
+-- What the rows of a course say of its fit. Assumes nothing.
+use Prim.Native.Nat.{ℕ, zero, suc, _+_, _/_, _≤_}
+use mathlib.Core.Path.{_≡_, refl, sym, ap, _∙_, subst}
+use mathlib.Core.Logic.{⊎-elim}
+use mathlib.Core.Bool.{true}
+use mathlib.Core.List.{List, [], _∷_, _++_, map, map-append}
+use native.Mathlib.Nat.{zero-add}
+use native.Mathlib.Omega.{arith}
+use lib.ListN.{length}
+use lib.Ieee.{Float}
+use Rattle.number.specs.Ops.{_≺_, +0}
+use Rattle.number.proofs.Order.{lt-or-ge}
+use Rattle.types.specs.declared.types.Point3D.{Point3D}
+use Rattle.types.specs.declared.types.Command.{Command}
+use Rattle.types.specs.declared.types.Command.the-variants.{Move, Line, Arc, Bezier}
+use Rattle.types.specs.Lent.{triple, flat, origin, endOf, kindOf}
+use Rattle.simplify.specs.Measure.{lineSq}
+use Rattle.fitting.specs.Pieces.{Shape, line, arc, Piece}
+use Rattle.fitting.specs.Commands.{shaped, pieceCommand, fitIn, chainFit}
+use Rattle.fitting.specs.Laws.{Covers}
+use Rattle.fitting.proofs.Pieces.{pieces-cover}
+use Rattle.fitting.proofs.Chain.{kept-few, kept-some}
+use Rattle.course.specs.Parts.{Part, chain, kept, closed, carried, partsFrom, partFit, fitOf}
+use Rattle.course.specs.Course.{joined, courseParts, courseFit, courseMost}
+use Rattle.course.specs.Demand.{thinnedAt, stepsOf, chainPieces}
+use Rattle.course.proofs.Parts.{parts-step, parts-end}
+use Rattle.listing.specs.Rows.{Row, keptRow, shapeKind, letterOf, pieceRow, chainRows, partRows, rowsOf, courseRows, kindsOf, stepsIn, Lettered, total, chainsSteps}
+use Rattle.listing.proofs.Writing.{kinds-append, steps-append}
+use Rattle.listing.proofs.Chain.{no-rows}
+use Rattle.listing.proofs.Parts.{rows-append, rows-chain, parts-few}
+
+-- ---- kinds
+shape-kind : (a b : Point3D) (s : Shape) → shapeKind s ≡ kindOf (shaped a b s)
+unfolding shapeKind shaped kindOf
+shape-kind a b line = refl
+shape-kind a b (arc m d) = refl
+
+pieces-kinds : (at : ℕ → Point3D) (ps : List Piece) → kindsOf (map pieceRow ps) ≡ map kindOf (map (pieceCommand at) ps)
+unfolding kindsOf pieceRow pieceCommand
+pieces-kinds at [] = refl
+pieces-kinds at (p ∷ ps) =
+    ap (λ (k : ℕ). k ∷ kindsOf (map pieceRow ps)) (shape-kind (at (p .from)) (at (p .to)) (p .shape)) ∙ ap (λ (l : List ℕ). kindOf (pieceCommand at p) ∷ l) (pieces-kinds at ps)
+
+-- The rows of a chain have the kinds of the commands that its fit writes, in order.
+pub chain-kinds : (tol : Float) (s : List Float) → kindsOf (chainRows tol s) ≡ map kindOf (chainFit tol s)
+unfolding chainRows chainFit fitIn
+chain-kinds tol s = pieces-kinds (thinnedAt tol s) (chainPieces tol s)
+
+part-kinds : (tol : Float) (p : Part) → kindsOf (partRows tol p) ≡ map kindOf (partFit (chainFit tol) p)
+unfolding partRows partFit
+part-kinds tol (chain s) = chain-kinds tol s
+part-kinds tol (kept c) = unfold kindsOf in refl
+
+parts-kinds : (tol : Float) (ps : List Part) → kindsOf (rowsOf tol ps) ≡ map kindOf (fitOf (chainFit tol) ps)
+unfolding rowsOf fitOf flat
+parts-kinds tol [] = unfold kindsOf in refl
+parts-kinds tol (p ∷ ps) =
+    kinds-append (partRows tol p) (rowsOf tol ps) ∙ ap (λ (l : List ℕ). l ++ kindsOf (rowsOf tol ps)) (part-kinds tol p)
+    ∙ ap (λ (l : List ℕ). map kindOf (partFit (chainFit tol) p) ++ l) (parts-kinds tol ps) ∙ sym (map-append kindOf (partFit (chainFit tol) p) (fitOf (chainFit tol) ps))
+
+-- A course has one row for each command that its fit writes, in order, with that command's kind.
+pub course-kinds : (tol : Float) (cs : List Command) → kindsOf (courseRows tol cs) ≡ map kindOf (courseFit tol cs)
+unfolding courseRows courseFit
+course-kinds tol cs = parts-kinds tol (courseParts tol cs)
+
+-- ---- letters
+-- the letter of a kind above 1
+pub arc-letter : (k : ℕ) → 2 ≤ k → 65 ≡ letterOf k
+unfolding letterOf
+arc-letter zero h = absurd (omega arith)
+arc-letter (suc zero) h = absurd (omega arith)
+arc-letter (suc (suc k)) h = refl
+
+lettered-append : (xs ys : List ℕ) → Lettered xs → Lettered ys → Lettered (xs ++ ys)
+lettered-append [] ys a b = b
+lettered-append (x ∷ xs) ys a b = (a .0, lettered-append xs ys (a .1) b)
+
+shape-lettered : (s : Shape) → shapeKind s ≤ 2
+unfolding shapeKind
+shape-lettered line = omega arith
+shape-lettered (arc m d) = omega arith
+
+pieces-lettered : (ps : List Piece) → Lettered (kindsOf (map pieceRow ps))
+unfolding kindsOf pieceRow
+pieces-lettered [] = tt
+pieces-lettered (p ∷ ps) = (shape-lettered (p .shape), pieces-lettered ps)
+
+chain-lettered : (tol : Float) (s : List Float) → Lettered (kindsOf (chainRows tol s))
+unfolding chainRows
+chain-lettered tol s = pieces-lettered (chainPieces tol s)
+
+none-lettered : (tol : Float) → Lettered (kindsOf (rowsOf tol []))
+unfolding rowsOf flat kindsOf
+none-lettered tol = tt
+
+-- a chain and a command that is kept behind it
+kept-lettered : (tol : Float) (s : List Float) (c : Command) → kindOf c ≤ 2 → Lettered (kindsOf (rowsOf tol (chain s ∷ kept c ∷ [])))
+unfolding rowsOf flat partRows
+kept-lettered tol s c h =
+    let z : Lettered (kindsOf (keptRow c ∷ [])) = unfold kindsOf in (h, tt) in
+    subst (λ (l : List ℕ). Lettered l) (sym (kinds-append (chainRows tol s) (keptRow c ∷ []))) (lettered-append (kindsOf (chainRows tol s)) (kindsOf (keptRow c ∷ [])) (chain-lettered tol s) z)
+
+closed-lettered : (tol : Float) (last : Point3D) (s : List Float) (c : Command) → Lettered (kindsOf (rowsOf tol (closed s c (joined tol last c))))
+unfolding closed joined
+closed-lettered tol last s (Move p) = kept-lettered tol s (Move p) (unfold kindOf in omega arith)
+closed-lettered tol last s (Line p) = none-lettered tol
+closed-lettered tol last s (Arc p o n) = kept-lettered tol s (Arc p o n) (unfold kindOf in omega arith)
+closed-lettered tol last s (Bezier p q r) = none-lettered tol
+
+parts-lettered : (tol : Float) (last : Point3D) (s : List Float) (cs : List Command) → Lettered (kindsOf (rowsOf tol (partsFrom (joined tol) last s cs)))
+parts-lettered tol last s [] = subst (λ (rs : List Row). Lettered (kindsOf rs)) (sym (ap (rowsOf tol) (parts-end (joined tol) last s) ∙ rows-chain tol s)) (chain-lettered tol s)
+parts-lettered tol last s (c ∷ cs) =
+    let j = joined tol last c in
+    let next = partsFrom (joined tol) (endOf c) (carried s c j) cs in
+    let e = ap (λ (ps : List Part). kindsOf (rowsOf tol ps)) (parts-step (joined tol) last s c cs) ∙ ap kindsOf (rows-append tol (closed s c j) next)
+    ∙ kinds-append (rowsOf tol (closed s c j)) (rowsOf tol next) in
+    subst (λ (l : List ℕ). Lettered l) (sym e) (lettered-append (kindsOf (rowsOf tol (closed s c j))) (kindsOf (rowsOf tol next)) (closed-lettered tol last s c) (parts-lettered tol (endOf c) (carried s c j) cs))
+
+-- Each row is of a Move, a Line or an Arc: the three letters are enough, and an A is an Arc.
+pub course-letters : (tol : Float) (cs : List Command) → Lettered (kindsOf (courseRows tol cs))
+unfolding courseRows courseParts
+course-letters tol cs = parts-lettered tol origin (triple origin) cs
+
+-- ---- steps
+total-append : (xs ys : List ℕ) → total (xs ++ ys) ≡ total xs + total ys
+unfolding total
+total-append [] ys = omega arith
+total-append (x ∷ xs) ys = let e = total-append xs ys in omega arith
+
+-- pieces that follow one another from lo to hi have hi - lo steps together
+covered : (lo hi : ℕ) (ps : List Piece) → Covers lo ps hi → lo + total (stepsIn (map pieceRow ps)) ≡ hi
+unfolding total stepsIn pieceRow
+covered lo hi [] v = let e = v in omega arith
+covered lo hi (p ∷ ps) v =
+    let a = v .0 in
+    let b = v .1 in
+    let r = covered (p .to) hi ps (v .2) in omega arith
+
+-- The steps that a chain's rows give are, together, the steps of its thinned chain: each is counted once.
+pub chain-steps : (tol : Float) → (+0 ≺ tol) ≡ true → (s : List Float) → 2 ≤ length s / 3 → total (stepsIn (chainRows tol s)) ≡ stepsOf tol s
+unfolding chainRows
+chain-steps tol pos s h =
+    let k = kept-some tol s h in
+    let e = covered 0 (stepsOf tol s) (chainPieces tol s) (pieces-cover lineSq tol pos (thinnedAt tol s) 0 (stepsOf tol s) (omega arith)) in omega arith
+
+any-steps : (tol : Float) → (+0 ≺ tol) ≡ true → (s : List Float) → total (stepsIn (chainRows tol s)) ≡ stepsOf tol s
+any-steps tol pos s =
+    ⊎-elim
+    (λ h.
+    let f = kept-few tol s in
+    let z : total (stepsIn []) ≡ 0 = unfold total stepsIn in refl in
+    let e = ap (λ (l : List _). total (stepsIn l)) (no-rows tol s h) in omega arith)
+    (λ h. chain-steps tol pos s h) (lt-or-ge (length s / 3) 2)
+
+-- a kept command adds no step
+no-step : (c : Command) (rs : List Row) → total (stepsIn (keptRow c ∷ rs)) ≡ total (stepsIn rs)
+unfolding total stepsIn
+no-step c rs = zero-add (total (stepsIn rs))
+
+parts-steps : (tol : Float) → (+0 ≺ tol) ≡ true → (ps : List Part) → total (stepsIn (rowsOf tol ps)) ≡ chainsSteps tol ps
+unfolding rowsOf flat partRows chainsSteps
+parts-steps tol pos [] = unfold total stepsIn in refl
+parts-steps tol pos (chain s ∷ ps) =
+    let e = ap total (steps-append (chainRows tol s) (rowsOf tol ps)) in
+    let t = total-append (stepsIn (chainRows tol s)) (stepsIn (rowsOf tol ps)) in
+    let a = any-steps tol pos s in
+    let r = parts-steps tol pos ps in omega arith
+parts-steps tol pos (kept c ∷ ps) = no-step c (rowsOf tol ps) ∙ parts-steps tol pos ps
+
+-- So the steps that a course's rows give are, together, the steps of its thinned chains; a kept command adds none.
+pub course-steps : (tol : Float) → (+0 ≺ tol) ≡ true → (cs : List Command) → total (stepsIn (courseRows tol cs)) ≡ chainsSteps tol (courseParts tol cs)
+unfolding courseRows
+course-steps tol pos cs = parts-steps tol pos (courseParts tol cs)
+
+-- There are at most as many rows as the most of the course.
+pub course-rows-few : (tol : Float) → (+0 ≺ tol) ≡ true → (cs : List Command) → length (courseRows tol cs) ≤ courseMost tol cs
+unfolding courseRows courseMost
+course-rows-few tol pos cs = parts-few tol pos (courseParts tol cs)

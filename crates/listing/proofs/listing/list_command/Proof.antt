@@ -1,0 +1,124 @@
+-- `listing::listing::list_command` meets its contract: by the kind of the command. Assumes nothing.
+use native.Mathlib.Omega.{arith}
+use mathlib.Core.Path.{refl, subst}
+use lib.ListN.{length}
+use Rattle.number.specs.Ops.{_⊗_}
+use Rattle.types.specs.Lent.{triple, flat}
+use Rattle.bezier.specs.Linearize.{stepEnd, paramSteps}
+use Rattle.course.specs.Parts.{Join}
+use Rattle.course.specs.Course.{quarter, joined}
+use Rattle.course.proofs.Steps.{ends-length}
+use Rattle.course.proofs.Stepping.{line-end, bezier-end}
+use Rattle.listing.specs.Walks.{RowRoom}
+use Rattle.listing.proofs.Stepping.{adds-room, line-joins, bezier-joins, move-ends, arc-ends, listed-as}
+use Rattle.listing.proofs.Walking.{listed-adds}
+use borrow.Author.Needs.{needs}
+use Rattle.listing.proofs.listing.list_command.Statement.{statement}
+use Rattle.listing.proofs.listing.list_command.Tie as tie
+
+enum-known-c : tie.Need-enum-known-c
+enum-known-c c = search needs
+
+add-line-requires : tie.Need-add-line-requires
+add-line-requires c κs = let a = c .before .before .before .before .before .before .before .args in
+    let r = adds-room (a .c) (a .w) (a .chain .now) _ _ (triple (c .before .before .c .given .0 .0)) 1 (joined (a .tolerance) (a .w .last) (a .c)) (line-joins _ _ _ _ (c .before .before .c .given .1)) refl (c .before .before .before .before .before .before .before .pre .1) in
+    let b = c .before .before .before .before .before .before .before .pre .1 .buffer in (omega (arith, r), omega (arith, r, b))
+
+enum-known-c-2 : tie.Need-enum-known-c-2
+enum-known-c-2 c = search needs
+
+add-bezier-requires : tie.Need-add-bezier-requires
+add-bezier-requires c κs = let a = c .before .before .before .before .before .before .before .args in
+    let g = c .before .before .c2 .given .0 in
+    let xs = paramSteps (g .0) (g .1 .0) (g .1 .1 .0) (a .w .last) (a .tolerance ⊗ quarter) in
+    let r = adds-room (a .c) (a .w) (a .chain .now) _ _ (flat stepEnd xs) (length xs) (joined (a .tolerance) (a .w .last) (a .c)) (bezier-joins _ _ _ _ _ _ (c .before .before .c2 .given .1)) (ends-length xs) (c .before .before .before .before .before .before .before .pre .1) in (r .1, r .0, c .before .before .before .before .before .before .before .pre .1 .buffer)
+
+enum-told : tie.Need-enum-told
+enum-told c = search needs
+
+end-listed-requires : tie.Need-end-listed-requires
+end-listed-requires c κs = let a = c .before .before .before .before .before .before .before .before .args in
+    (c .before .before .before .before .before .before .before .before .pre .0, subst (λ (j : Join). RowRoom j (a .c) (a .w) (a .chain .now) (length (a .kinds .now)) (length (a .steps .now))) (move-ends _ _ _ _ (c .before .before .before .enum-told .given .1)) (c .before .before .before .before .before .before .before .before .pre .1))
+
+enum-told-2 : tie.Need-enum-told-2
+enum-told-2 c = search needs
+
+end-listed-requires-2 : tie.Need-end-listed-requires-2
+end-listed-requires-2 c κs = let a = c .before .before .before .before .before .before .before .before .args in
+    (c .before .before .before .before .before .before .before .before .pre .0, subst (λ (j : Join). RowRoom j (a .c) (a .w) (a .chain .now) (length (a .kinds .now)) (length (a .steps .now))) (arc-ends _ _ _ _ _ _ (c .before .before .before .enum-told2 .given .1)) (c .before .before .before .before .before .before .before .before .pre .1))
+
+same-length : tie.Need-same-length
+same-length c = search needs
+
+returns : tie.Need-returns
+returns c = let a = c .before .before .before .before .before .before .before .before .before .before .args in
+    let j = joined (a .tolerance) (a .w .last) (a .c) in
+    let e = line-joins _ _ _ _ (c .before .before .before .before .before .c .given .1) in
+    let p = c .before .before .before .before .before .c .given .0 .0 in
+    let r = adds-room (a .c) (a .w) (a .chain .now) _ _ (triple p) 1 j e refl (c .before .before .before .before .before .before .before .before .before .before .pre .1) in
+    let b = c .before .before .before .before .before .before .before .before .before .before .pre .1 .buffer in
+    listed-adds (a .tolerance) (a .c) (a .w) (a .chain .now) (a .kinds .now) (a .steps .now) 1 (triple p) j e refl (omega (arith, r, b)) (r .0) _ _ p (line-end (a .c) _ (c .before .before .before .before .before .c .given .1)) (c .before .before .add-line .ensures .0) (c .before .before .add-line .ensures .1)
+
+same-length-2 : tie.Need-same-length-2
+same-length-2 c = search needs
+
+returns-2 : tie.Need-returns-2
+returns-2 c = let a = c .before .before .before .before .before .before .before .before .before .before .args in
+    let g = c .before .before .before .before .before .c2 .given .0 in
+    let xs = paramSteps (g .0) (g .1 .0) (g .1 .1 .0) (a .w .last) (a .tolerance ⊗ quarter) in
+    let j = joined (a .tolerance) (a .w .last) (a .c) in
+    let e = bezier-joins _ _ _ _ _ _ (c .before .before .before .before .before .c2 .given .1) in
+    let r = adds-room (a .c) (a .w) (a .chain .now) _ _ (flat stepEnd xs) (length xs) j e (ends-length xs) (c .before .before .before .before .before .before .before .before .before .before .pre .1) in
+    let b = c .before .before .before .before .before .before .before .before .before .before .pre .1 .buffer in
+    listed-adds (a .tolerance) (a .c) (a .w) (a .chain .now) (a .kinds .now) (a .steps .now) (length xs) (flat stepEnd xs) j e (ends-length xs) (omega (arith, r, b)) (r .0) _ _ (g .0) (bezier-end (a .c) _ _ _ (c .before .before .before .before .before .c2 .given .1)) (c .before .before .add-bezier .ensures .0) (c .before .before .add-bezier .ensures .1)
+
+same-length-3 : tie.Need-same-length-3
+same-length-3 c = search needs
+
+same-length-4 : tie.Need-same-length-4
+same-length-4 c = search needs
+
+same-length-5 : tie.Need-same-length-5
+same-length-5 c = search needs
+
+returns-3 : tie.Need-returns-3
+returns-3 c = let a = c .before .before .before .before .before .before .before .before .before .before .before .before .before .before .before .args in
+    listed-as (a .tolerance) _ _ (a .c) (a .w) _ (a .chain .now) _ (a .kinds .now) _ (a .steps .now) _ (move-ends _ _ _ _ (c .before .before .before .before .before .before .before .before .before .before .enum-told .given .1)) (c .before .before .before .before .before .before .end-listed .ensures)
+
+same-length-6 : tie.Need-same-length-6
+same-length-6 c = search needs
+
+same-length-7 : tie.Need-same-length-7
+same-length-7 c = search needs
+
+same-length-8 : tie.Need-same-length-8
+same-length-8 c = search needs
+
+returns-4 : tie.Need-returns-4
+returns-4 c = let a = c .before .before .before .before .before .before .before .before .before .before .before .before .before .before .before .args in
+    listed-as (a .tolerance) _ _ (a .c) (a .w) _ (a .chain .now) _ (a .kinds .now) _ (a .steps .now) _ (arc-ends _ _ _ _ _ _ (c .before .before .before .before .before .before .before .before .before .before .enum-told2 .given .1)) (c .before .before .before .before .before .before .end-listed2 .ensures)
+
+pub list-command-spec : {M : Type 1} → statement M
+list-command-spec =
+    tie.close
+    (tie.spec
+    enum-known-c
+    add-line-requires
+    enum-known-c-2
+    add-bezier-requires
+    enum-told
+    end-listed-requires
+    enum-told-2
+    end-listed-requires-2
+    same-length
+    returns
+    same-length-2
+    returns-2
+    same-length-3
+    same-length-4
+    same-length-5
+    returns-3
+    same-length-6
+    same-length-7
+    same-length-8
+    returns-4)

@@ -1,0 +1,89 @@
+-- The rows of a course's listing. Definitions only.
+-- "It lists lap, kind letter (M, L, A) and steps of the thinned chain covered (0 for M and a kept Arc)" (document 01, "Worked laps").
+use Prim.Native.Nat.{ℕ, zero, suc, _+_, _-_, _≤_}
+use mathlib.Core.Path.{_≡_}
+use mathlib.Core.List.{List, [], _∷_, map}
+use lib.ListN.{length}
+use lib.Seq.{sets}
+use lib.Ieee.{Float}
+use Rattle.types.specs.declared.types.Point3D.{Point3D}
+use Rattle.types.specs.declared.types.Command.{Command}
+use Rattle.types.specs.Lent.{flat, kindOf}
+use Rattle.simplify.specs.Measure.{lineSq}
+use Rattle.fitting.specs.Pieces.{Shape, line, arc, Piece, piecesIn}
+use Rattle.course.specs.Parts.{Part, chain, kept}
+use Rattle.course.specs.Course.{courseParts}
+use Rattle.course.specs.Demand.{stepsOf, chainPieces}
+
+-- the kind of a command that is written, and how many steps of a thinned chain it covers
+pub record Row : Type 0 where
+  pub kind : ℕ
+  pub steps : ℕ
+
+-- a Line's kind is 1, an Arc's is 2
+unfoldable pub shapeKind : Shape → ℕ
+shapeKind line = 1
+shapeKind (arc m clockwise) = 2
+
+-- the letter of a kind, as its byte: M, L, A; no row has a kind above 2 (proofs/Laws.antt, `course-letters`)
+unfoldable pub letterOf : ℕ → ℕ
+letterOf zero = 77
+letterOf (suc zero) = 76
+letterOf (suc (suc k)) = 65
+
+-- a piece covers the steps between its first point and its last
+unfoldable pub pieceRow : Piece → Row
+pieceRow p = record { kind = shapeKind (p .shape); steps = p .to - p .from }
+
+-- one row for each piece, in order: of the points from lo to hi,
+unfoldable pub rowsIn : Float → (ℕ → Point3D) → ℕ → ℕ → List Row
+rowsIn tol at lo hi = map pieceRow (piecesIn lineSq tol at lo hi)
+
+-- and of a chain; none where it has fewer than two points
+unfoldable pub chainRows : Float → List Float → List Row
+chainRows tol s = map pieceRow (chainPieces tol s)
+
+-- a command that is kept covers no step
+abbrev pub keptRow : Command → Row
+keptRow c = record { kind = kindOf c; steps = 0 }
+
+unfoldable pub partRows : Float → Part → List Row
+partRows tol (chain s) = chainRows tol s
+partRows tol (kept c) = keptRow c ∷ []
+
+-- of several parts
+unfoldable pub rowsOf : Float → List Part → List Row
+rowsOf tol ps = flat (partRows tol) ps
+
+-- the rows of a course
+unfoldable pub courseRows : Float → List Command → List Row
+courseRows tol cs = rowsOf tol (courseParts tol cs)
+
+-- ---- their two columns
+unfoldable pub kindsOf : List Row → List ℕ
+kindsOf rs = map (λ (r : Row). r .kind) rs
+
+unfoldable pub stepsIn : List Row → List ℕ
+stepsIn rs = map (λ (r : Row). r .steps) rs
+
+-- each kind is that of a Move, a Line or an Arc
+abbrev pub Lettered : List ℕ → Type 0
+Lettered [] = Unit
+Lettered (k ∷ ks) = (k ≤ 2) × Lettered ks
+
+-- the sum of a column
+unfoldable pub total : List ℕ → ℕ
+total [] = 0
+total (n ∷ ns) = n + total ns
+
+-- the steps of the thinned chains among several parts
+unfoldable pub chainsSteps : Float → List Part → ℕ
+chainsSteps tol [] = 0
+chainsSteps tol (chain s ∷ ps) = stepsOf tol s + chainsSteps tol ps
+chainsSteps tol (kept c ∷ ps) = chainsSteps tol ps
+
+-- the rows rs, n in number, written from place `at` on
+pub record RowsPlaced (rs : List Row) (at n : ℕ) (ks ks′ ss ss′ : List ℕ) : Type 0 where
+  pub count : n ≡ length rs
+  pub kinds : ks′ ≡ sets ks at (kindsOf rs)
+  pub steps : ss′ ≡ sets ss at (stepsIn rs)
