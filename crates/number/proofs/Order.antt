@@ -180,3 +180,14 @@ le-right (inf s) (fin t n d) e = refl
 le-right (fin s m e′) nan e = clash e
 le-right (fin s m e′) (inf t) e = refl
 le-right (fin s m e′) (fin t n d) e = refl
+
+-- z is not below y, and x is at most y: so z is not below x
+pub le-under : (x y z : Float) → le x y ≡ true → lt z y ≡ false → lt z x ≡ false
+le-under x y z a b =
+    ⊎-elim
+    (λ h. ⊎-elim (λ g. clash (sym b ∙ g)) (λ g. clash (sym (le-below x y a) ∙ g)) (lt-gap z y x (le-right x y a) h))
+    (λ h. h) (either (lt z x))
+
+-- z is below x, and x is at most y: so z is below y
+pub lt-under : (z x y : Float) → lt z x ≡ true → le x y ≡ true → lt z y ≡ true
+lt-under z x y a b = ⊎-elim (λ h. h) (λ h. clash (sym (le-under x y z b h) ∙ a)) (either (lt z y))

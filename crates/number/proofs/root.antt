@@ -7,3 +7,4 @@ pub mod Total
 pub mod Bounded
 pub mod Nearest
 pub mod Monotone
+pub mod Compared

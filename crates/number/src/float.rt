@@ -1,6 +1,6 @@
 // Absolute value, ceiling, and the Rust's `max` and `clamp`.
 ghost use mathlib.Core.Path.{_≡_};
-ghost use mathlib.Core.Bool.{true, false};
+ghost use mathlib.Core.Bool.{false};
 ghost use lib.Dec.{T};
 ghost use lib.IntN.{pos};
 ghost use lib.Ieee.{fin, lt, neg};

@@ -1,10 +1,10 @@
 -- Runs of stores: one behind the other is one run. Assumes nothing.
 use Prim.Native.Nat.{ℕ, suc, _+_, _≤_}
-use mathlib.Core.Path.{_≡_, sym, _∙_}
+use mathlib.Core.Path.{_≡_, refl, sym, ap, _∙_}
 use mathlib.Core.List.{List, [], _∷_, _++_}
 use native.Mathlib.Nat.{add-zero, zero-add}
 use native.Mathlib.Omega.{arith}
-use lib.ListN.{length, set, drop, length-append}
+use lib.ListN.{length, set, take, drop, length-append}
 use lib.Seq.{sets, sets-eq}
 
 module _ {A : Type 0} where
@@ -33,3 +33,8 @@ module _ {A : Type 0} where
   -- from the front on: the run, and then what stood there
   pub sets-front : (vs l : List A) → length vs ≤ length l → sets l 0 vs ≡ vs ++ drop (length vs) l
   sets-front vs l h = sets-eq vs l 0 (rw zero-add h) ∙ rw (zero-add (length vs))
+
+  -- of a list in two parts, the first is its front
+  pub take-front : (vs ws : List A) → take (length vs) (vs ++ ws) ≡ vs
+  take-front [] ws = refl
+  take-front (v ∷ vs) ws = ap (λ (l : List A). v ∷ l) (take-front vs ws)

@@ -14,7 +14,7 @@ ghost use Rattle.types.specs.Domain.{coordinate, isFinite, centre, withi
 pub fn is_coordinate(x: f64) -> bool
     ensures { λ r. ⌜ r ≡ coordinate x ⌝ }
 {
-    abs(x) <= 1000000.0
+    is_within(-1000000.0, 1000000.0, x)
 }
 
 // Whether x is a number, and no infinity.
@@ -93,16 +93,18 @@ fn is_finite3(p: Point3D) -> bool
     false
 }
 
-// Whether each lent number may be a coordinate.
+// Whether each lent number may be a coordinate. It goes to the end whatever it meets, so that the machine can test
+// several numbers at a time.
 pub fn all_coordinates(nums: &[f64]) -> bool
     ensures { λ r. ⌜ r ≡ numbersIn coordinate (now (nums .entry)) ⌝ }
 {
+    let mut all = true;
     for i in 0..nums.len() {
         if !is_coordinate(nums[i]) {
-            return false;
+            all = false;
         }
     }
-    true
+    all
 }
 
 // Whether the kind is known, and the numbers that it does not use are +0.
@@ -167,8 +169,8 @@ pub fn command_in(c: Command) -> bool
     }
 }
 
-// Row 5 of lent commands.
-pub fn commands_in(kinds: &[u8], nums: &[f64]) -> bool
+// Row 5 of each lent command.
+fn each_in(kinds: &[u8], nums: &[f64]) -> bool
     requires { ⌜ 9 * length (now kinds) ≤ length (now nums) ⌝ }
     ensures { λ r. ⌜ r ≡ commandsIn (now (kinds .entry)) (now (nums .entry)) ⌝ }
 {
@@ -178,4 +180,15 @@ pub fn commands_in(kinds: &[u8], nums: &[f64]) -> bool
         }
     }
     true
+}
+
+// Row 5 of lent commands. Where each number may be a coordinate, so are those that count, and no kind needs to be looked at.
+pub fn commands_in(kinds: &[u8], nums: &[f64]) -> bool
+    requires { ⌜ 9 * length (now kinds) ≤ length (now nums) ⌝ }
+    ensures { λ r. ⌜ r ≡ commandsIn (now (kinds .entry)) (now (nums .entry)) ⌝ }
+{
+    if all_coordinates(nums) {
+        return true;
+    }
+    each_in(kinds, nums)
 }

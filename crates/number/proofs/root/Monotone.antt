@@ -147,7 +147,7 @@ unfolding le
 plus-zero-le d = zeros-level (0 * up (pos 0) * down d) (0 * up d * down (pos 0)) (none (up (pos 0)) (down d)) (none (up d) (down (pos 0)))
 
 -- ---- all floats
-root-plain : (m : ℕ) (e : ℤ) → T (fits binary64 (fin false m e)) → T (plain (rootOf (fin false m e)))
+pub root-plain : (m : ℕ) (e : ℤ) → T (fits binary64 (fin false m e)) → T (plain (rootOf (fin false m e)))
 root-plain m e f = root-is-rounded (fin false m e) f (unfold plain in tt) .finite
 
 pub root-monotone : (x y : Float) → T (fits binary64 x) → T (fits binary64 y) → isNan (rootOf x) ≡ false → le x y ≡ true → le (rootOf x) (rootOf y) ≡ true

@@ -160,13 +160,13 @@ module _ (N q d : ℕ) where
   taken-even e = ap (λ (z : ℕ). z % 2) (taken-at-tie (e ∙ sym middle-is)) ∙ omega arith
 
 -- ---- a binary64 is t * 2 ^ j units, with t of at most 53 digits: so none lies strictly between q * 2 ^ k and (q + 1) * 2 ^ k where q has as many
-record Digits (y : Float) : Type 0 where
-  t : ℕ
-  j : ℕ
-  few : t < 2 ^ 53
-  value : HasValue y false (t * 2 ^ j) (2 ^ 1074)
+pub record Digits (y : Float) : Type 0 where
+  pub t : ℕ
+  pub j : ℕ
+  pub few : t < 2 ^ 53
+  pub value : HasValue y false (t * 2 ^ j) (2 ^ 1074)
 
-digits : (y : Float) → T (fits binary64 y) → T (plain y) → Digits y
+pub digits : (y : Float) → T (fits binary64 y) → T (plain y) → Digits y
 digits y f p = subst Digits (ofBits-toBits binary64 y f) (either (decLe (b / 0x10_0000_0000_0000) 0))
   where
     b : ℕ

@@ -1,15 +1,15 @@
--- `types::domain::is_coordinate` meets its contract: its test is the definition, of the absolute value that `abs` promises. Assumes nothing.
-use Rattle.types.specs.Domain.{coordinate}
+-- `types::domain::is_coordinate` meets its contract: at most a million from zero is from minus a million to a million. Assumes nothing.
+use mathlib.Core.Path.{_∙_}
+use Rattle.types.proofs.Sides.{coordinate-between}
 use borrow.Author.Needs.{needs}
 use Rattle.types.proofs.domain.is_coordinate.Statement.{statement}
 use Rattle.types.proofs.domain.is_coordinate.Tie as tie
 
-abs-requires : tie.Need-abs-requires
-abs-requires c κs = search needs
+is-within-requires : tie.Need-is-within-requires
+is-within-requires c κs = search needs
 
 returns : tie.Need-returns
-unfolding coordinate
-returns c = rw (c .abs .ensures)
+returns c = c .is-within .ensures ∙ coordinate-between _
 
 pub is-coordinate-spec : {M : Type 1} → statement M
-is-coordinate-spec = tie.close (tie.spec abs-requires returns)
+is-coordinate-spec = tie.close (tie.spec is-within-requires returns)
