@@ -31,9 +31,9 @@ ghost use Rattle.types.specs.Lent.{pairAt, pair, triple, flat};
 ghost use Rattle.types.specs.Outcome.{refusal, Wrote, Placed};
 ghost use Rattle.bezier.specs.Curve.{weightsAt, mixed, pointOn, pointOn3, leftPart, rightPart};
 ghost use Rattle.bezier.specs.Flatten.{chordOf, offChord, isFlat, subdivided, minus, normSq, perpendicularSq, flatnessSq, flattened};
-ghost use Rattle.bezier.specs.Linearize.{share, six, stepEnd, steps, firstThird, lastThird, stepsNeeded, paramSteps};
+ghost use Rattle.bezier.specs.Linearize.{share, six, stepEnd, steps, firstThird, lastThird, stepsNeeded};
 ghost use Rattle.bezier.specs.FitCubic.{Chords, noSums, addPoint, sums, solved, fitted};
-ghost use Rattle.bezier.specs.Calls.{curveIn, curve3In, pointCall, pointAnswer, splitCall, splitAnswer, mostSteps, flatCall, flatAnswer, linearizeRows, linearizeCall, paramFirstRows, paramRows, paramCall, adaptiveRows, adaptiveCall, toleranceOf, segmentRows, segmentCall, fitRows, fitCall, fitAnswer};
+ghost use Rattle.bezier.specs.Calls.{curveIn, curve3In, pointCall, pointAnswer, splitCall, splitAnswer, mostSteps, flatCall, flatAnswer, linearizeRows, linearizeCall, paramFirstRows, paramCall, adaptiveRows, adaptiveCall, toleranceOf, segmentRows, segmentCall, fitCall, fitAnswer};
 
 pub enum BezierPoint {
     At(Point),
@@ -216,7 +216,7 @@ fn share_of(n: usize, i: usize) -> f64
 }
 
 // Writes n steps. Each starts where the last one ended.
-pub fn put_steps(p0: Point3D, c1: Point3D, c2: Point3D, p1: Point3D, n: usize, out: &mut [f64])
+fn put_steps(p0: Point3D, c1: Point3D, c2: Point3D, p1: Point3D, n: usize, out: &mut [f64])
     requires { ⌜ (n ≤ 2048) × (6 * n ≤ length (now out)) ⌝ }
     ensures { λ _. ⌜ now (out .exit) ≡ sets (now (out .entry)) 0 (flat six (steps p0 c1 c2 p1 n)) ⌝ }
 {

@@ -5,6 +5,7 @@ use Rattle.number.specs.Ops.{_⊕_, _⊖_, _⊗_, _⊘_, _≺_, if_then_else_, 
 use Rattle.types.specs.Vector.{dot, perpDot, lengthOf}
 use Rattle.types.specs.declared.types.Point3D.{Point3D}
 use Rattle.types.specs.declared.types.Point.{Point}
+use Rattle.circle.specs.declared.circle.CenterThrough as center
 use Rattle.circle.specs.declared.circle.CircleThrough.{CircleThrough}
 use Rattle.circle.specs.declared.circle.CircleThrough.the-variants.{Around, None}
 use Rattle.circle.specs.Collinear.{nano}
@@ -33,9 +34,18 @@ unfoldable pub radiusFrom : Point → Point3D → Float
 radiusFrom m p = lengthOf (p .x ⊖ m .x) (p .y ⊖ m .y)
 
 -- by the area and the turn
-unfoldable pub throughBy : Float → Float → Point3D → Point3D → Point3D → CircleThrough
-throughBy area d a b c =
-    if absOf area ≺ nano then None else if absOf d ≺ nano then None else Around (center3 a b c d) (radiusFrom (center3 a b c d) a)
+unfoldable pub centerBy : Float → Float → Point3D → Point3D → Point3D → center.CenterThrough
+centerBy area d a b c =
+    if absOf area ≺ nano then center.the-variants.None else if absOf d ≺ nano then center.the-variants.None else center.the-variants.At (center3 a b c d)
+
+-- the centre of the circle, where there is one
+unfoldable pub centerThree : Point3D → Point3D → Point3D → center.CenterThrough
+centerThree a b c = centerBy (areaOf a b c) (turnOf a b c) a b c
+
+-- its radius is measured to the point p
+unfoldable pub circleRound : Point3D → center.CenterThrough → CircleThrough
+circleRound p (center.the-variants.At m) = Around m (radiusFrom m p)
+circleRound p center.the-variants.None = None
 
 unfoldable pub throughThree : Point3D → Point3D → Point3D → CircleThrough
-throughThree a b c = throughBy (areaOf a b c) (turnOf a b c) a b c
+throughThree a b c = circleRound a (centerThree a b c)

@@ -17,7 +17,7 @@ ghost use Rattle.types.specs.Lent.{pointAt};
 ghost use Rattle.types.specs.Outcome.{refusal};
 ghost use Rattle.circle.specs.Worst.{worse};
 ghost use Rattle.circle.specs.Collinear.{chordOf, nearTo, besideOf, allNear, allBeside, collinear};
-ghost use Rattle.circle.specs.Three.{areaOf, turnOf, center3, radiusFrom, throughThree};
+ghost use Rattle.circle.specs.Three.{areaOf, turnOf, center3, radiusFrom, centerThree, throughThree};
 ghost use Rattle.circle.specs.Kasa.{noSums, plus, sumsOf, axesOf, cross3, dot3, scaled, detOf, solved, kasaCenter, errorOf, worstError, kasaCircle};
 ghost use Rattle.circle.specs.Bisector.{projected};
 ghost use Rattle.circle.specs.Calls.{pointsRows, collinearCall, collinearAnswer, throughCall, throughAnswer, fittedCall, fittedAnswer, projectedCall, projectedAnswer};
@@ -111,7 +111,7 @@ fn all_beside(points: &[f64], start: usize, end: usize, c: Chord, tolerance: f64
 }
 
 // Whether the points from start to end lie on a straight line within the tolerance.
-pub fn is_collinear(points: &[f64], start: usize, end: usize, tolerance: f64) -> bool
+fn is_collinear(points: &[f64], start: usize, end: usize, tolerance: f64) -> bool
     requires { ⌜ (start ≤ end) × (3 * end + 2 < length (now points)) ⌝ }
     ensures { λ r. ⌜ r ≡ collinear tolerance (pointAt (now (points .entry))) start end ⌝ }
 {
@@ -133,9 +133,6 @@ pub enum CircleThrough {
 }
 
 impl CircleThrough {
-    // Three points whose area or whose turn is below this have no circle.
-    pub const FLAT: f64 = 1e-9;
-
     // The circle round a centre through p.
     pub fn around(center: Point, p: Point3D) -> Self
         ensures { λ r. ⌜ r ≡ CircleThrough.Around center (radiusFrom center p) ⌝ }
@@ -181,18 +178,40 @@ fn center_of(a: Point3D, b: Point3D, c: Point3D, d: f64) -> Point
     }
 }
 
-// The circle through three points, by the perpendicular bisector method.
+// The centre of the circle through three points, or none.
+pub enum CenterThrough {
+    At(Point),
+    None,
+}
+
+impl CenterThrough {
+    // Three points whose area or whose turn is below this have no circle.
+    pub const FLAT: f64 = 1e-9;
+}
+
+// The centre of the circle through three points, by the perpendicular bisector method.
+pub fn center_through(a: Point3D, b: Point3D, c: Point3D) -> CenterThrough
+    ensures { λ r. ⌜ r ≡ centerThree a b c ⌝ }
+{
+    if abs(area(a, b, c)) < CenterThrough::FLAT {
+        return CenterThrough::None;
+    }
+    let d = turn(a, b, c);
+    if abs(d) < CenterThrough::FLAT {
+        return CenterThrough::None;
+    }
+    CenterThrough::At(center_of(a, b, c, d))
+}
+
+// The circle through three points.
 pub fn circle_through(a: Point3D, b: Point3D, c: Point3D) -> CircleThrough
     ensures { λ r. ⌜ r ≡ throughThree a b c ⌝ }
 {
-    if abs(area(a, b, c)) < CircleThrough::FLAT {
-        return CircleThrough::None;
+    let t = center_through(a, b, c);
+    match t {
+        CenterThrough::At(center) => CircleThrough::around(center, a),
+        CenterThrough::None => CircleThrough::None,
     }
-    let d = turn(a, b, c);
-    if abs(d) < CircleThrough::FLAT {
-        return CircleThrough::None;
-    }
-    CircleThrough::around(center_of(a, b, c, d), a)
 }
 
 // The sums of Kasa's normal equations.

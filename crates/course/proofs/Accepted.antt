@@ -2,24 +2,27 @@
 use Prim.Native.Nat.{ℕ, _+_, _*_, _/_, _≤_, _<_}
 use mathlib.Core.Path.{_≡_, sym, _∙_, subst}
 use mathlib.Core.Bool.{true}
-use mathlib.Core.List.{List, _++_}
+use mathlib.Core.List.{List, _∷_, _++_}
 use native.Mathlib.Omega.{arith}
 use borrow.Author.Tests.{ltb-false, eqb-true, not-false, lt-ltb, le-ltb}
-use lib.ListN.{length}
+use lib.ListN.{length, length-append}
 use lib.Ieee.{Float}
 use Rattle.number.specs.Ops.{_≺_, +0}
+use Rattle.types.specs.declared.types.Point3D.{Point3D}
 use Rattle.types.specs.declared.types.Command.{Command}
+use Rattle.types.specs.declared.types.Command.the-variants.{Move}
 use Rattle.types.specs.declared.types.Answer.the-variants.{Written}
 use Rattle.types.specs.Outcome.{Row, refusal}
 use Rattle.types.specs.Commands.{WroteCommands}
-use Rattle.types.specs.Lent.{numbersOf}
+use Rattle.types.specs.Lent.{flat, numbersOf}
 use Rattle.types.proofs.Rows.{row-passes, row-passed, refusal-front}
 use Rattle.types.proofs.Tolerance.{tolerance-positive}
 use Rattle.types.proofs.Outcomes.{commands-given, nine}
 use Rattle.types.proofs.Flat.{flat-length}
 use Rattle.fitting.specs.Commands.{chainFit}
 use Rattle.fitting.specs.Written.{FitPlaced}
-use Rattle.course.specs.Course.{courseParts, courseFit, courseMost, cap, lentCourse, inputRows, roomRows, arcsRows, arcsCall}
+use Rattle.course.specs.Parts.{closed, partsFrom, partFit, fitOf}
+use Rattle.course.specs.Course.{joined, courseParts, courseFit, courseMost, cap, lentCourse, inputRows, roomRows, arcsRows, arcsCall}
 use Rattle.course.proofs.Count.{cap-passed, cap-over}
 use Rattle.course.proofs.Parts.{fit-few}
 use Rattle.course.proofs.Stepping.{chain-few}
@@ -28,6 +31,14 @@ use Rattle.course.proofs.Stepping.{chain-few}
 pub course-few : (tol : Float) → (+0 ≺ tol) ≡ true → (cs : List Command) → length (courseFit tol cs) ≤ courseMost tol cs
 unfolding courseFit courseMost
 course-few tol pos cs = fit-few (chainFit tol) (chain-few tol pos) (courseParts tol cs)
+
+-- of a course that starts with a Move something is written
+pub course-some : (tol : Float) (p : Point3D) (cs : List Command) → 1 ≤ length (courseFit tol (Move p ∷ cs))
+unfolding courseFit fitOf courseParts partsFrom joined closed flat partFit
+course-some tol p cs = some (chainFit tol _) _
+  where
+    some : (xs ys : List Command) → 1 ≤ length (xs ++ (Move p ∷ ys))
+    some xs ys = let c = length-append xs (Move p ∷ ys) in omega arith
 
 -- ---- r is what the check of rows 1 to 6 found
 module _ (ks : List ℕ) (ns : List Float) (tol : Float) (numbers r : ℕ) (e : r ≡ refusal (inputRows ks ns tol numbers)) where

@@ -26,7 +26,7 @@ use Rattle.circle.specs.declared.circle.Solution as solution
 use Rattle.circle.specs.declared.circle.Sums.{Sums}
 use Rattle.circle.specs.declared.circle.Axes.{Axes}
 use Rattle.circle.specs.Collinear.{nano, collinear}
-use Rattle.circle.specs.Three.{areaOf, squareOf, turnOf, center3, throughBy, throughThree}
+use Rattle.circle.specs.Three.{areaOf, squareOf, turnOf, center3, centerBy, centerThree, circleRound, throughThree}
 use Rattle.circle.specs.Kasa.{noSums, plus, sumsOf, axesOf, cross3, dot3, scaled, detOf, inverseTimes, solved, matrixOf, sidesOf, squaredRadius, centered, kasaCenter}
 use Rattle.circle.specs.Bisector.{movedBy, projected}
 
@@ -121,7 +121,7 @@ module _ {a b c : Point3D} (A : Placed 27 a) (B : Placed 27 b) (C : Placed 27 c)
 
   -- The centre of the circle through three points is at most 2 ^ 115 from zero.
   pub three-flat : Through (throughThree a b c)
-  unfolding throughThree throughBy
+  unfolding throughThree circleRound centerThree centerBy
   three-flat =
       ⊎-elim (λ h. rw h tt)
       (λ h. rw h

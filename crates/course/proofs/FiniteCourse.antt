@@ -1,22 +1,20 @@
 -- Every number that a course, a path or a fit of lent points writes is finite, for input of the domain. Assumes nothing.
 use Prim.Native.Nat.{ℕ, zero, suc, _+_, _-_, _*_, _/_, _≤_, _<_}
 use mathlib.Core.Path.{_≡_, refl, sym, ap, _∙_, subst}
-use mathlib.Core.Logic.{⊎-elim}
 use mathlib.Core.Bool.{Bool, true, false}
 use mathlib.Core.List.{List, [], _∷_, _++_, map}
 use native.Mathlib.Omega.{arith}
-use native.Mathlib.Nat.{eq-or-lt-of-le}
 use borrow.Author.Tests.{ltb-false, not-false}
 use lib.ListN.{length, drop, getD, length-append}
 use lib.Ieee.{Float, nan, toUnsigned}
 use Rattle.number.specs.Ops.{_⊗_, +0}
-use Rattle.number.proofs.Order.{either, clash}
 use Rattle.number.proofs.Bounds.{below-more}
 use Rattle.types.specs.declared.types.Point3D.{Point3D}
 use Rattle.types.specs.declared.types.Command.{Command}
 use Rattle.types.specs.declared.types.Command.the-variants.{Move, Line, Arc, Bezier}
 use Rattle.types.specs.Lent.{pointAt, triple, flat, origin, endOf, numbersOf, commandAt, commandsFrom}
-use Rattle.types.specs.Domain.{coordinate, isFinite, everyFrom, numbersIn, point3In, finite3, commandIn, commandsIn}
+use Rattle.types.proofs.Every.{every-at}
+use Rattle.types.specs.Domain.{coordinate, isFinite, numbersIn, point3In, finite3, commandIn, commandsIn}
 use Rattle.types.specs.Walk.{listFrom}
 use Rattle.types.specs.Outcome.{refusal, gives, unless}
 use Rattle.types.proofs.Rows.{row-passed}
@@ -127,14 +125,6 @@ course-finite tol cs h m =
     (origin-placed 20) (triple-each (origin-placed 27)) h m
 
 -- ---- what the checks of a public call leave
-every-at : (ok : ℕ → Bool) (n i : ℕ) → everyFrom ok n i ≡ true → (j : ℕ) → i ≤ j → j < i + n → ok j ≡ true
-unfolding everyFrom
-every-at ok zero i h j a b = absurd (omega arith)
-every-at ok (suc n) i h j a b =
-    ⊎-elim
-    (λ e. ⊎-elim (λ q. subst (λ (k : ℕ). ok k ≡ true) q e) (λ l. every-at ok n (i + 1) (sym (rw e) ∙ h) j (omega arith) (omega arith)) (eq-or-lt-of-le a))
-    (λ e. clash (sym (rw e) ∙ h)) (either (ok i))
-
 each-from : (s : List Float) → ((j : ℕ) → j < length s → coordinate (getD s j nan) ≡ true) → EachBelow 27 s
 each-from [] h = tt
 each-from (x ∷ xs) h = (below-more 27 (omega arith) (coordinate-below (h 0 (omega arith))), each-from xs (λ j l. h (suc j) (omega arith)))

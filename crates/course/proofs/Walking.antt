@@ -4,14 +4,14 @@ use mathlib.Core.Path.{_≡_, refl, sym, ap, _∙_, subst}
 use mathlib.Core.List.{List, [], _∷_, _++_, map, map-append}
 use native.Mathlib.Nat.{mul-add, min-eq-left}
 use native.Mathlib.Omega.{arith}
-use lib.ListN.{length, take, drop, set, length-append, length-map, length-take}
+use lib.ListN.{length, take, drop, set, length-append, length-map, length-take, length-drop}
 use lib.Seq.{sets, sets-eq, length-sets}
 use lib.Ieee.{Float}
 use Rattle.types.specs.declared.types.Point3D.{Point3D}
 use Rattle.types.specs.declared.types.Command.{Command}
 use Rattle.types.specs.Lent.{triple, flat, endOf, kindOf, numbersOf, commandAt, commandsFrom}
 use Rattle.types.proofs.Flat.{sets-flat}
-use Rattle.types.proofs.Stores.{sets-append}
+use Rattle.types.proofs.Stores.{sets-append, take-front}
 use Rattle.types.proofs.Outcomes.{nine}
 use Rattle.fitting.specs.Written.{FitPlaced}
 use Rattle.fitting.proofs.Writing.{one-placed, both-placed}
@@ -21,12 +21,12 @@ use Rattle.course.specs.Walks.{underWay, Room, Stepped}
 use Rattle.course.proofs.Parts.{most-append, fit-append, fit-few, fit-chain, parts-step, parts-end, chain-counts}
 
 -- ---- a buffer's front
-take-front : {A : Type 0} (vs ws : List A) → take (length vs) (vs ++ ws) ≡ vs
-take-front [] ws = refl
-take-front (v ∷ vs) ws = ap (λ (l : List _). v ∷ l) (take-front vs ws)
-
 pub length-front : {A : Type 0} (k : ℕ) (s : List A) → k ≤ length s → length (take k s) ≡ k
 length-front k s h = length-take k s ∙ min-eq-left h
+
+-- where another front as long takes its place, the buffer is as long as before
+pub length-refront : {A : Type 0} (k : ℕ) (s t : List A) → k ≤ length s → length t ≡ length (take k s) → length (t ++ drop k s) ≡ length s
+length-refront k s t h e = length-append t (drop k s) ∙ omega (arith, length-front k s h, length-drop k s)
 
 -- what is written right behind the front joins it
 pub take-sets : {A : Type 0} (s : List A) (k n : ℕ) (vs : List A) → n ≡ k + length vs → n ≤ length s → take n (sets s k vs) ≡ take k s ++ vs
@@ -54,20 +54,20 @@ module _ (fit : List Float → List Command) (c : Command) (w : Walk) (s : List 
         numbers = refl;
       })
 
-  -- it ends the chain and is kept
-  pub stepped-ends : (n : ℕ) (ks₁ ks₂ : List ℕ) (ns₁ ns₂ : List Float) → 3 ≤ length s
+  -- it ends the chain, whose fit leaves the buffer s₁, and is kept
+  pub stepped-ends : (n : ℕ) (ks₁ ks₂ : List ℕ) (ns₁ ns₂ s₁ : List Float) → length s₁ ≡ length s → 3 ≤ length s
       → FitPlaced (fit (underWay w s)) (w .written) n ks ks₁ ns ns₁ → ks₂ ≡ set ks₁ (w .written + n) (kindOf c) → ns₂ ≡ sets ns₁ (9 * (w .written + n)) (numbersOf c)
-      → (r : Walk) (s′ : List Float) (end : Point3D) → end ≡ endOf c → r ≡ record { points = 1; last = end; written = w .written + n + 1 } → s′ ≡ sets s 0 (triple end)
+      → (r : Walk) (s′ : List Float) (end : Point3D) → end ≡ endOf c → r ≡ record { points = 1; last = end; written = w .written + n + 1 } → s′ ≡ sets s₁ 0 (triple end)
       → Stepped fit ends c w r s s′ ks ks₂ ns ns₂
   unfolding closed carried fitOf flat partFit
-  stepped-ends n ks₁ ks₂ ns₁ ns₂ h p ek en r s′ end q e d =
+  stepped-ends n ks₁ ks₂ ns₁ ns₂ s₁ ls h p ek en r s′ end q e d =
       let b = both-placed (fit (underWay w s)) (c ∷ []) (fit (underWay w s) ++ c ∷ []) (w .written) n 1 ks ks₁ ks₂ ns ns₁ ns₂ refl p (one-placed c (c ∷ []) (w .written + n) ks₁ ks₂ ns₁ ns₂ refl ek en) in
       rw (e, d) (record {
         last = q;
         some = omega arith;
-        inside = rw (length-sets s 0 (triple end)) h;
-        long = length-sets s 0 (triple end);
-        carries = take-sets s 0 3 (triple end) refl h ∙ ap triple q;
+        inside = rw (length-sets s₁ 0 (triple end)) (rw ls h);
+        long = length-sets s₁ 0 (triple end) ∙ ls;
+        carries = take-sets s₁ 0 3 (triple end) refl (rw ls h) ∙ ap triple q;
         written = let t = b .count in omega arith;
         kinds = b .kinds;
         numbers = b .numbers;

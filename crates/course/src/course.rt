@@ -5,7 +5,7 @@ use bezier::bezier::whole_steps;
 use fitting::fitting::fit_range;
 use fitting::fitting::flush_chain;
 use simplify::simplify::refuse_commands;
-use simplify::simplify::thin_points;
+use simplify::simplify::thin_in_place;
 use types::domain::commands_formed;
 use types::domain::commands_in;
 use types::domain::is_within;
@@ -98,7 +98,7 @@ fn bezier_steps(
 }
 
 // What a command adds to the most of its course.
-fn weight(c: Command, last: Point3D, tolerance: f64) -> usize
+pub fn weight(c: Command, last: Point3D, tolerance: f64) -> usize
     ensures { λ r. ⌜ r ≡ cap (weightOf (joined tolerance last c)) ⌝ }
 {
     match c {
@@ -118,7 +118,7 @@ fn weight(c: Command, last: Point3D, tolerance: f64) -> usize
 }
 
 // The sum of two counts, 801 for all above 800.
-fn add_capped(a: usize, b: usize) -> usize
+pub fn add_capped(a: usize, b: usize) -> usize
     requires { ⌜ (a ≤ 801) × (b ≤ 801) ⌝ }
     ensures { λ r. ⌜ (r ≡ cap (a + b)) × (r ≤ 801) ⌝ }
 {
@@ -193,15 +193,21 @@ fn put_lines(points: &[f64], kinds: &mut [u8], nums: &mut [f64], at: usize) -> u
     written
 }
 
-// Thins a chain to Lines.
-fn thin_chain(chain: &[f64], tolerance: f64, kinds: &mut [u8], nums: &mut [f64], at: usize) -> usize
+// Thins a chain, in place, to Lines.
+fn thin_chain(
+    chain: &mut [f64],
+    tolerance: f64,
+    kinds: &mut [u8],
+    nums: &mut [f64],
+    at: usize,
+) -> usize
     requires { ⌜ (length (now chain) / 3 ≤ 801) × (at + (length (now chain) / 3 - 1) ≤ length (now kinds)) × (9 * (at + (length (now chain) / 3 - 1)) ≤ length (now nums)) ⌝ }
-    ensures { λ r. ⌜ FitPlaced (optimizedChain false tolerance (now (chain .entry))) at r (now (kinds .entry)) (now (kinds .exit)) (now (nums .entry)) (now (nums .exit)) ⌝ }
+    ensures fit { λ r. ⌜ FitPlaced (optimizedChain false tolerance (now (chain .entry))) at r (now (kinds .entry)) (now (kinds .exit)) (now (nums .entry)) (now (nums .exit)) ⌝ }
+    ensures long { λ _. ⌜ length (now (chain .exit)) ≡ length (now (chain .entry)) ⌝ }
 {
     let n = chain.len() / 3;
-    let mut kept = [0.0; 2403];
-    let k = thin_points(chain, n, tolerance * tolerance, &mut kept);
-    put_lines(&kept[..3 * k], kinds, nums, at)
+    let k = thin_in_place(chain, n, tolerance * tolerance);
+    put_lines(&chain[..3 * k], kinds, nums, at)
 }
 
 // Fits a chain as it stands.
@@ -216,17 +222,18 @@ fn fit_chain(chain: &[f64], tolerance: f64, kinds: &mut [u8], nums: &mut [f64], 
     fit_range(chain, tolerance, 0, n - 1, kinds, nums, at)
 }
 
-// Writes a chain's commands, and answers how many they are.
+// Writes a chain's commands, and answers how many they are. The chain may be thinned in place.
 fn flush_by(
     how: Flush,
-    chain: &[f64],
+    chain: &mut [f64],
     tolerance: f64,
     kinds: &mut [u8],
     nums: &mut [f64],
     at: usize,
 ) -> usize
     requires { ⌜ ((+0 ≺ tolerance) ≡ true) × ((length (now chain) / 3 ≤ 801) × (at + (length (now chain) / 3 - 1) ≤ length (now kinds)) × (9 * (at + (length (now chain) / 3 - 1)) ≤ length (now nums))) ⌝ }
-    ensures { λ r. ⌜ FitPlaced (flushedBy how tolerance (now (chain .entry))) at r (now (kinds .entry)) (now (kinds .exit)) (now (nums .entry)) (now (nums .exit)) ⌝ }
+    ensures fit { λ r. ⌜ FitPlaced (flushedBy how tolerance (now (chain .entry))) at r (now (kinds .entry)) (now (kinds .exit)) (now (nums .entry)) (now (nums .exit)) ⌝ }
+    ensures long { λ _. ⌜ length (now (chain .exit)) ≡ length (now (chain .entry)) ⌝ }
 {
     match how {
         Flush::Fitted => flush_chain(chain, tolerance, kinds, nums, at),
@@ -250,7 +257,7 @@ fn end_chain(
 {
     let n = flush_by(
         how,
-        &chain[..3 * w.points],
+        &mut chain[..3 * w.points],
         tolerance,
         kinds,
         nums,
@@ -300,27 +307,30 @@ fn take_command(
     }
 }
 
-// Walks along a course, and answers how many commands it gives.
+// Walks along a course, and answers how many commands it gives. The caller lends the chain's buffer, so that many courses share one.
 fn walk_course(
     kinds: &[u8],
     nums: &[f64],
     how: Flush,
     tolerance: f64,
+    chain: &mut [f64],
     out_kinds: &mut [u8],
     out_nums: &mut [f64],
 ) -> usize
-    requires { ⌜ ((+0 ≺ tolerance) ≡ true) × ((9 * length (now kinds) ≤ length (now nums)) × (mostOf (partsBy how tolerance (lentCourse (now kinds) (now nums))) ≤ 800) × (mostOf (partsBy how tolerance (lentCourse (now kinds) (now nums))) ≤ length (now «out_kinds»)) × (9 * mostOf (partsBy how tolerance (lentCourse (now kinds) (now nums))) ≤ length (now «out_nums»))) ⌝ }
-    ensures { λ r. ⌜ FitPlaced (fitBy how tolerance (lentCourse (now (kinds .entry)) (now (nums .entry)))) 0 r (now («out_kinds» .entry)) (now («out_kinds» .exit)) (now («out_nums» .entry)) (now («out_nums» .exit)) ⌝ }
+    requires { ⌜ ((+0 ≺ tolerance) ≡ true) × ((9 * length (now kinds) ≤ length (now nums)) × (mostOf (partsBy how tolerance (lentCourse (now kinds) (now nums))) ≤ 800) × (mostOf (partsBy how tolerance (lentCourse (now kinds) (now nums))) ≤ length (now «out_kinds»)) × (9 * mostOf (partsBy how tolerance (lentCourse (now kinds) (now nums))) ≤ length (now «out_nums»)) × (length (now chain) ≡ 2403)) ⌝ }
+    ensures fit { λ r. ⌜ FitPlaced (fitBy how tolerance (lentCourse (now (kinds .entry)) (now (nums .entry)))) 0 r (now («out_kinds» .entry)) (now («out_kinds» .exit)) (now («out_nums» .entry)) (now («out_nums» .exit)) ⌝ }
+    ensures long { λ _. ⌜ length (now (chain .exit)) ≡ 2403 ⌝ }
 {
-    let mut chain = [0.0; 2403];
     let mut w = Walk::new();
+    // The buffer may still hold the chain of another course.
+    put_point(chain, 0, Point3D::ZERO);
     for i in 0..kinds.len() {
         let c = command_at(kinds, nums, i);
-        w = take_command(c, how, tolerance, w, &mut chain, out_kinds, out_nums);
+        w = take_command(c, how, tolerance, w, chain, out_kinds, out_nums);
     }
     let n = flush_by(
         how,
-        &chain[..3 * w.points],
+        &mut chain[..3 * w.points],
         tolerance,
         out_kinds,
         out_nums,
@@ -334,13 +344,23 @@ pub fn fit_course(
     kinds: &[u8],
     nums: &[f64],
     tolerance: f64,
+    chain: &mut [f64],
     out_kinds: &mut [u8],
     out_nums: &mut [f64],
 ) -> usize
-    requires { ⌜ ((+0 ≺ tolerance) ≡ true) × ((9 * length (now kinds) ≤ length (now nums)) × (courseMost tolerance (lentCourse (now kinds) (now nums)) ≤ 800) × (courseMost tolerance (lentCourse (now kinds) (now nums)) ≤ length (now «out_kinds»)) × (9 * courseMost tolerance (lentCourse (now kinds) (now nums)) ≤ length (now «out_nums»))) ⌝ }
-    ensures { λ r. ⌜ FitPlaced (courseFit tolerance (lentCourse (now (kinds .entry)) (now (nums .entry)))) 0 r (now («out_kinds» .entry)) (now («out_kinds» .exit)) (now («out_nums» .entry)) (now («out_nums» .exit)) ⌝ }
+    requires { ⌜ ((+0 ≺ tolerance) ≡ true) × ((9 * length (now kinds) ≤ length (now nums)) × (courseMost tolerance (lentCourse (now kinds) (now nums)) ≤ 800) × (courseMost tolerance (lentCourse (now kinds) (now nums)) ≤ length (now «out_kinds»)) × (9 * courseMost tolerance (lentCourse (now kinds) (now nums)) ≤ length (now «out_nums»)) × (length (now chain) ≡ 2403)) ⌝ }
+    ensures fit { λ r. ⌜ FitPlaced (courseFit tolerance (lentCourse (now (kinds .entry)) (now (nums .entry)))) 0 r (now («out_kinds» .entry)) (now («out_kinds» .exit)) (now («out_nums» .entry)) (now («out_nums» .exit)) ⌝ }
+    ensures long { λ _. ⌜ length (now (chain .exit)) ≡ 2403 ⌝ }
 {
-    walk_course(kinds, nums, Flush::Fitted, tolerance, out_kinds, out_nums)
+    walk_course(
+        kinds,
+        nums,
+        Flush::Fitted,
+        tolerance,
+        chain,
+        out_kinds,
+        out_nums,
+    )
 }
 
 // Why the commands of a course are refused, or 0: rows 1 to 6.
@@ -414,7 +434,8 @@ pub fn fit_arcs(
     if refused != 0 {
         return Answer::Refused(refused);
     }
-    Answer::Written(fit_course(kinds, nums, tolerance, out_kinds, out_nums))
+    let mut chain = [0.0; 2403];
+    Answer::Written(fit_course(kinds, nums, tolerance, &mut chain, out_kinds, out_nums))
 }
 
 // How a path's chains are written.
@@ -443,5 +464,6 @@ pub fn optimize_path_from_array(
         return Answer::Refused(refused);
     }
     let how = path_flush(use_fit_arcs);
-    Answer::Written(walk_course(kinds, nums, how, tolerance, out_kinds, out_nums))
+    let mut chain = [0.0; 2403];
+    Answer::Written(walk_course(kinds, nums, how, tolerance, &mut chain, out_kinds, out_nums))
 }

@@ -1,6 +1,6 @@
 -- What an outcome was, from the case of the answer that it gave. Assumes nothing.
 use Prim.Native.Nat.{ℕ, zero, suc, _-_, _/_}
-use mathlib.Core.Path.{_≡_, refl, sym, _∙_}
+use mathlib.Core.Path.{_≡_, sym, _∙_}
 use mathlib.Core.Bool.{Bool, true, false, cond, not, _&&_}
 use mathlib.Core.List.{List, [], _∷_}
 use native.Mathlib.Omega.{arith}
@@ -16,7 +16,6 @@ use Rattle.types.specs.Outcome.{row, refusal, Outcome, refused, gives, unless}
 use Rattle.types.specs.Midpoint.{midpointAnswer}
 use Rattle.types.specs.Domain.{point3In}
 use Rattle.types.specs.Lent.{pairAt, pointAt}
-use Rattle.number.specs.Float.{absOf}
 use Rattle.bezier.specs.declared.bezier.BezierPoint.{BezierPoint}
 use Rattle.bezier.specs.declared.bezier.BezierPoint.the-variants as Point·
 use Rattle.bezier.specs.declared.bezier.BezierSplit.{BezierSplit}
@@ -33,6 +32,8 @@ use Rattle.arc.specs.declared.arc.Direction.the-variants as Direction·
 use Rattle.arc.specs.Direction.{directionAnswer}
 use Rattle.circle.specs.declared.circle.Collinear.{Collinear}
 use Rattle.circle.specs.declared.circle.Collinear.the-variants as Collinear·
+use Rattle.circle.specs.declared.circle.CenterThrough.{CenterThrough}
+use Rattle.circle.specs.declared.circle.CenterThrough.the-variants as Middle·
 use Rattle.circle.specs.declared.circle.CircleThrough.{CircleThrough}
 use Rattle.circle.specs.declared.circle.CircleThrough.the-variants as Through·
 use Rattle.circle.specs.declared.circle.FittedCircle.{FittedCircle}
@@ -42,9 +43,8 @@ use Rattle.circle.specs.declared.circle.Center.the-variants as Center·
 use Rattle.circle.specs.declared.circle.Projected.{Projected}
 use Rattle.circle.specs.declared.circle.Projected.the-variants as Projected·
 use Rattle.circle.specs.declared.circle.Deviation.{Deviation}
-use Rattle.circle.specs.Three.{areaOf, turnOf, center3, radiusFrom, throughBy, throughThree}
+use Rattle.circle.specs.Three.{centerThree, circleRound, throughThree}
 use Rattle.circle.specs.Kasa.{kasaCenter, fittedTo, kasaCircle}
-use Rattle.circle.specs.Collinear.{nano}
 use Rattle.circle.specs.Calls.{pointsRows, collinearAnswer, throughCall, throughAnswer, fittedCall, fittedAnswer, projectedAnswer}
 use Rattle.fitting.specs.declared.fitting.LineDeviation.{LineDeviation}
 use Rattle.fitting.specs.declared.fitting.LineDeviation.the-variants as Line·
@@ -194,13 +194,12 @@ through-none (refused n) r e h = absurd (let z : _≡_ {A = ℕ} 0 1 = cc in ome
 through-none (gives c) r e h = cc
 
 never-through : (a b c : Point3D) (k : ℕ) → throughThree a b c ≡ Through·.Refused k → ⊥
-unfolding throughThree throughBy
-never-through a b c k h = go (lt (absOf (areaOf a b c)) nano) (lt (absOf (turnOf a b c)) nano) (center3 a b c (turnOf a b c)) (radiusFrom (center3 a b c (turnOf a b c)) a) h
+unfolding throughThree circleRound
+never-through a b c k h = go (centerThree a b c) h
   where
-    go : (p q : Bool) (m : Point) (r : Float) → cond p Through·.None (cond q Through·.None (Through·.Around m r)) ≡ Through·.Refused k → ⊥
-    go true q m r h = let w : _≡_ {A = ℕ} 0 1 = cc in omega arith
-    go false true m r h = let w : _≡_ {A = ℕ} 0 1 = cc in omega arith
-    go false false m r h = let w : _≡_ {A = ℕ} 0 1 = cc in omega arith
+    go : (t : CenterThrough) → circleRound a t ≡ Through·.Refused k → ⊥
+    go (Middle·.At m) h = let w : _≡_ {A = ℕ} 0 1 = cc in omega arith
+    go Middle·.None h = let w : _≡_ {A = ℕ} 0 1 = cc in omega arith
 
 pub through-refused : (a b c : Point3D) (r : CircleThrough) (n : ℕ) → r ≡ throughAnswer (throughCall a b c) → r ≡ Through·.Refused n → throughCall a b c ≡ refused n
 unfolding throughCall throughAnswer unless

@@ -1,6 +1,6 @@
 -- The promises of an export, from what its outcome was. Assumes nothing.
 use Prim.Native.Nat.{ℕ}
-use mathlib.Core.Path.{_≡_, refl, ap, _∙_}
+use mathlib.Core.Path.{_≡_, ap, _∙_}
 use mathlib.Core.List.{List}
 use lib.Seq.{sets}
 use lib.Ieee.{Float}

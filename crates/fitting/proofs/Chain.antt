@@ -1,7 +1,7 @@
 -- A chain thinned into a buffer: how many points are kept, that they stand at its front, and what its fit leaves. Assumes nothing.
-use Prim.Native.Nat.{ℕ, _+_, _-_, _*_, _/_, _≤_, _<_}
+use Prim.Native.Nat.{ℕ, _-_, _*_, _/_, _≤_, _<_}
 use mathlib.Core.Path.{_≡_, refl, ap, _∙_, subst}
-use mathlib.Core.List.{List, [], _∷_, _++_}
+use mathlib.Core.List.{List, [], _∷_}
 use native.Mathlib.Omega.{arith}
 use lib.ListN.{length, take, drop, length-append, length-map}
 use lib.Seq.{length-sets}
@@ -9,7 +9,7 @@ use lib.Ieee.{Float}
 use Rattle.number.specs.Ops.{_⊗_}
 use Rattle.number.proofs.Unsigned.{square-not-negative}
 use Rattle.types.specs.Lent.{pointAt, triple, flat}
-use Rattle.types.proofs.Stores.{sets-front}
+use Rattle.types.proofs.Stores.{sets-front, take-front}
 use Rattle.types.proofs.Flat.{flat-length}
 use Rattle.simplify.specs.Measure.{lineSq}
 use Rattle.simplify.specs.Thin.{keptIn, thinned, thinnedPoints}
@@ -18,10 +18,6 @@ use Rattle.simplify.proofs.Thinning.{ends-kept, kept-at-most}
 use Rattle.fitting.specs.Pieces.{piecesBy}
 use Rattle.fitting.specs.Commands.{fitIn, keptOf, chainFit}
 use Rattle.fitting.specs.Written.{FitPlaced}
-
-take-front : {A : Type 0} (vs ws : List A) → take (length vs) (vs ++ ws) ≡ vs
-take-front [] ws = refl
-take-front (v ∷ vs) ws = ap (λ (l : List _). v ∷ l) (take-front vs ws)
 
 module _ (tol : Float) (s : List Float) where
   kept-length : length (keptOf tol s) ≡ length (thinned lineSq (tol ⊗ tol) (pointAt s) (length s / 3))

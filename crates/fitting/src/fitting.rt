@@ -3,7 +3,7 @@ use circle::circle::Deviation;
 use circle::circle::check_points;
 use number::root::sqrt;
 use simplify::simplify::farthest_between;
-use simplify::simplify::thin_points;
+use simplify::simplify::thin_in_place;
 use trial::trial::Trial;
 use trial::trial::arc_deviation;
 use trial::trial::try_arcs;
@@ -123,24 +123,24 @@ pub fn fit_range(
     }
 }
 
-// Fits a chain: it is thinned, and what is kept is fitted. A course of at most 800 commands has no longer chain than 801 points.
+// Fits a chain: it is thinned in place, and what is kept is fitted. A course of at most 800 commands has no longer chain than 801 points.
 pub fn flush_chain(
-    chain: &[f64],
+    chain: &mut [f64],
     tolerance: f64,
     kinds: &mut [u8],
     nums: &mut [f64],
     at: usize,
 ) -> usize
     requires { ⌜ ((+0 ≺ tolerance) ≡ true) × ((length (now chain) / 3 ≤ 801) × (at + (length (now chain) / 3 - 1) ≤ length (now kinds)) × (9 * (at + (length (now chain) / 3 - 1)) ≤ length (now nums))) ⌝ }
-    ensures { λ r. ⌜ FitPlaced (chainFit tolerance (now (chain .entry))) at r (now (kinds .entry)) (now (kinds .exit)) (now (nums .entry)) (now (nums .exit)) ⌝ }
+    ensures fit { λ r. ⌜ FitPlaced (chainFit tolerance (now (chain .entry))) at r (now (kinds .entry)) (now (kinds .exit)) (now (nums .entry)) (now (nums .exit)) ⌝ }
+    ensures long { λ _. ⌜ length (now (chain .exit)) ≡ length (now (chain .entry)) ⌝ }
 {
     let n = chain.len() / 3;
     if n < 2 {
         return 0;
     }
-    let mut kept = [0.0; 2403];
-    let k = thin_points(chain, n, tolerance * tolerance, &mut kept);
-    fit_range(&kept[..3 * k], tolerance, 0, k - 1, kinds, nums, at)
+    let k = thin_in_place(chain, n, tolerance * tolerance);
+    fit_range(&chain[..3 * k], tolerance, 0, k - 1, kinds, nums, at)
 }
 
 // The number of the first row that a line's deviation falls under, or 0.

@@ -1,48 +1,117 @@
--- What the listing of a lap says of its fit: the theorems of `specs/Demand.antt`. Assumes nothing.
-use Prim.Native.Nat.{ℕ, zero, suc}
+-- What the listing of a file says of its fit: the theorems of `specs/Demand.antt`. Assumes nothing.
+use Prim.Native.Nat.{ℕ, zero, suc, _+_, _-_, _*_, _/_, _%_, _≤_, _<_}
 use mathlib.Core.Path.{_≡_, refl, sym, ap, _∙_}
-use mathlib.Core.List.{List, [], _∷_, map}
+use mathlib.Core.Logic.{⊎-elim}
+use mathlib.Core.Bool.{Bool, true, false, not}
+use mathlib.Core.List.{List, [], _∷_, _++_, map}
 use native.Mathlib.Omega.{arith}
+use lib.ListN.{length, getD}
 use lib.Ieee.{Float}
+use Rattle.number.proofs.Order.{lt-or-ge}
 use Rattle.types.specs.declared.types.Command.{Command}
-use Rattle.types.specs.Outcome.{gives, refusal, unless}
+use Rattle.types.specs.Domain.{tolerance}
+use Rattle.types.specs.Outcome.{refusal}
 use Rattle.types.specs.Lent.{kindOf}
-use Rattle.types.proofs.Rows.{unless-gives}
+use Rattle.types.proofs.Rows.{refusal-front, unless-gives}
 use Rattle.types.proofs.Tolerance.{tolerance-positive}
 use Rattle.file.specs.Command.{decoded, enc}
 use Rattle.course.specs.Course.{courseFit}
-use Rattle.listing.specs.Rows.{Row, chainRows, partRows, rowsOf, courseRows, kindsOf, stepsIn, total}
+use Rattle.listing.specs.Rows.{chainRows, partRows, rowsOf, courseRows}
 use Rattle.listing.proofs.Laws.{course-kinds, course-steps}
+use Rattle.laps.specs.File.{lapCount, lapsOf}
+use Rattle.laps.specs.Fit.{mostOf, sizeOf}
+use Rattle.laps.specs.Calls.{fileRows, fitRows}
 use Rattle.laps.specs.Demand.{lapAt}
+use Rattle.laps.proofs.Walks.{not-big}
+use Rattle.laps.proofs.Rows.{FilePassed, file-passed, fit-6, fit-sizes, size-8, size-0}
 use Rattle.laps.proofs.Accepted.{accepted}
 use Rattle.laps.proofs.Demand.{laps-are-fitted}
-use Rattle.lap_rows.specs.Listing.{listRows, listCall}
-use Rattle.lap_rows.specs.Demand.{kindByte, Lists, EachIsListed, KindsOfTheFit, RowsOfTheParts, RowsOfAChain, StepsOfTheChains}
-use Rattle.lap_rows.proofs.Rows.{LapPassed, list-passed, list-0}
-use Rattle.lap_rows.proofs.Found.{most-few}
+use Rattle.lap_rows.specs.Listing.{digitsBy, decimal, lapRows, mostText, textRows, listFile}
+use Rattle.lap_rows.specs.Demand.{spelled, DigitsSpell, NoZeroInFront, RefusedAlike, EachIsListed, kindByte, KindsOfTheFit, RowsOfTheParts, RowsOfAChain, StepsOfTheChains}
+use Rattle.lap_rows.proofs.Decimal.{last-digit, next-digit}
+use Rattle.lap_rows.proofs.Rows.{text-6, text-8, text-0}
 
--- Each lap of a file that the fit accepts is listed, to outputs with room for 800 rows.
+-- ---- the text
+spelled-append : (xs : List ℕ) (before d : ℕ) → spelled before (xs ++ (d ∷ [])) ≡ 10 * spelled before xs + (d - 48)
+unfolding spelled
+spelled-append [] before d = refl
+spelled-append (x ∷ xs) before d = spelled-append xs (10 * before + (x - 48)) d
+
+digits-spell-by : (more n : ℕ) → n < more → spelled 0 (digitsBy more n) ≡ n
+unfolding spelled
+digits-spell-by zero n h = absurd (omega arith)
+digits-spell-by (suc more) n h =
+    ⊎-elim (λ k. ap (spelled 0) (last-digit more n k) ∙ omega arith)
+    (λ k.
+    let e = ap (spelled 0) (next-digit more n k) ∙ spelled-append (digitsBy more (n / 10)) 0 (48 + n % 10) in
+    let r = digits-spell-by more (n / 10) (omega arith) in e ∙ omega (arith, r)) (lt-or-ge n 10)
+
+-- The digits of a number spell it.
+pub digits-spell : DigitsSpell
+unfolding decimal
+digits-spell n = digits-spell-by (suc n) n (omega arith)
+
+first-append : (xs : List ℕ) (d : ℕ) → 1 ≤ length xs → getD (xs ++ (d ∷ [])) 0 0 ≡ getD xs 0 0
+first-append [] d h = absurd (omega arith)
+first-append (x ∷ xs) d h = refl
+
+-- the first of one or more digits is 1 or more
+record First (ds : List ℕ) : Type 0 where
+  some : 1 ≤ length ds
+  above : 49 ≤ getD ds 0 0
+
+first-digit : (more n : ℕ) → n < more → 1 ≤ n → First (digitsBy more n)
+first-digit zero n h k = absurd (omega arith)
+first-digit (suc more) n h k =
+    ⊎-elim (λ b. rw (last-digit more n b) (record { some = omega arith; above = omega arith }))
+    (λ b.
+    let w = first-digit more (n / 10) (omega arith) (omega arith) in
+    let f = first-append (digitsBy more (n / 10)) (48 + n % 10) (w .some) in
+    let a = w .above in
+    rw (next-digit more n b) (record { some = length-some (digitsBy more (n / 10)) _; above = omega arith })) (lt-or-ge n 10)
+  where
+    length-some : (xs : List ℕ) (d : ℕ) → 1 ≤ length (xs ++ (d ∷ []))
+    length-some [] d = omega arith
+    length-some (x ∷ xs) d = omega arith
+
+-- No digit 0 stands in front.
+pub no-zero-in-front : NoZeroInFront
+unfolding decimal
+no-zero-in-front n h e = let w = first-digit (suc n) n (omega arith) h .above in omega arith
+
+-- ---- refusals
+module _ (s : List ℕ) (tol : Float) (room room′ : ℕ) (h : mostText 800 ≤ room) (k : sizeOf 64 800 ≤ room′) where
+  alike-passed : FilePassed s → refusal (textRows s tol room) ≡ refusal (fitRows s tol room′)
+  alike-passed p = either (tolerance tol) refl
+    where
+      sized : not (tolerance tol) ≡ false → refusal (textRows s tol room) ≡ refusal (fitRows s tol room′)
+      sized t =
+          let l = not-big s (p .small) .1 in
+          ⊎-elim
+          (λ few. text-0 s tol room p t (omega arith) (omega arith) ∙ sym (fit-sizes s tol room′ p t ∙ size-0 (lapCount s) (mostOf tol (lapsOf s)) room′ (omega arith) (omega arith)))
+          (λ many. text-8 s tol room p t (omega arith) ∙ sym (fit-sizes s tol room′ p t ∙ size-8 (lapCount s) (mostOf tol (lapsOf s)) room′ (omega arith)))
+          (lt-or-ge (mostOf tol (lapsOf s)) 801)
+
+      either : (t : Bool) → tolerance tol ≡ t → refusal (textRows s tol room) ≡ refusal (fitRows s tol room′)
+      either true e = sized (ap not e)
+      either false e = text-6 s tol room p (ap not e) ∙ sym (fit-6 s tol room′ p (ap not e))
+
+  alike : (n : ℕ) → refusal (fileRows s) ≡ n → refusal (textRows s tol room) ≡ refusal (fitRows s tol room′)
+  unfolding textRows fitRows
+  alike zero e = alike-passed (file-passed s 0 (sym e) refl)
+  alike (suc n) e = sym (refusal-front (fileRows s) _ (omega arith)) ∙ refusal-front (fileRows s) _ (omega arith)
+
+-- With room for 800 rows and 64 laps, the listing is refused exactly where the fit is, by the same row.
+pub refused-alike : RefusedAlike
+refused-alike s tol room room′ h k = alike s tol room room′ h k (refusal (fileRows s)) refl
+
+-- Each file that the fit accepts is listed.
 pub each-is-listed : EachIsListed
-unfolding listCall
-each-is-listed s f tol room e k a b kinds steps u v =
-    let q = accepted s tol room f e .passed in
-    let p : LapPassed s k tol = record { file = q .file; within = q .within; first = a; last = b; few = q .few } in
-    let m = most-few s k tol p in
-    unless-gives (refusal (listRows s k tol kinds steps)) _ (list-0 s k tol kinds steps p (omega arith) (omega arith))
-
--- ---- what a listing has that is not refused
-unless-given : (n : ℕ) (xs ys : List Row) → unless n xs ≡ gives ys → (0 ≡ n) × (ys ≡ xs)
-unfolding unless
-unless-given zero xs ys e = (refl, cc)
-unless-given (suc n) xs ys e = let z : _≡_ {A = ℕ} 0 1 = cc in absurd (omega arith)
-
-module _ (s f : List ℕ) (tol : Float) (k : ℕ) (rs : List Row) (w : Lists s f tol k rs) where
-  given : (0 ≡ refusal (listRows s k tol (w .kinds) (w .steps))) × (rs ≡ courseRows tol (map decoded (lapAt s k)))
-  unfolding listCall
-  given = unless-given (refusal (listRows s k tol (w .kinds) (w .steps))) _ rs (w .listed)
-
-  passed : LapPassed s k tol
-  passed = list-passed s k tol (w .kinds) (w .steps) (given .0) .0
+unfolding listFile
+each-is-listed s f tol room room′ e h =
+    let q = accepted s tol room′ f e .passed in
+    let m = q .few in
+    unless-gives (refusal (textRows s tol room)) _ (text-0 s tol room (q .file) (ap not (q .within)) m (omega arith))
 
 -- ---- kinds
 kind-bytes : (cs : List Command) → map kindByte (map enc cs) ≡ map kindOf cs
@@ -50,26 +119,26 @@ unfolding enc
 kind-bytes [] = refl
 kind-bytes (c ∷ cs) = ap (λ (l : List ℕ). kindOf c ∷ l) (kind-bytes cs)
 
--- The rows have, one for one and in order, the kinds of the commands in the fitted lap.
+-- The rows of lap k have, one for one and in order, the kinds of the commands in the fitted lap.
 pub kinds-of-the-fit : KindsOfTheFit
-kinds-of-the-fit s f tol k rs w =
-    let p = passed s f tol k rs w in
+unfolding lapRows
+kinds-of-the-fit s f tol room e k a b =
     let cs = map decoded (lapAt s k) in
-    let l = laps-are-fitted s f tol (w .room) (w .fit) .1 k (p .first) (p .last) in
-    ap kindsOf (given s f tol k rs w .1) ∙ course-kinds tol cs ∙ sym (ap (map kindByte) l ∙ kind-bytes (courseFit tol cs))
+    let l = laps-are-fitted s f tol room e .1 k a b in
+    course-kinds tol cs ∙ sym (ap (map kindByte) l ∙ kind-bytes (courseFit tol cs))
 
 -- ---- steps
--- The rows are those of the lap's parts in order,
+-- They are those of the lap's parts in order,
 pub rows-of-the-parts : RowsOfTheParts
-unfolding courseRows rowsOf
-rows-of-the-parts s f tol k rs w = given s f tol k rs w .1
+unfolding lapRows courseRows rowsOf
+rows-of-the-parts s tol k = refl
 
 -- of a chain one for each piece of its fit, with the piece's steps.
 pub rows-of-a-chain : RowsOfAChain
 unfolding partRows chainRows
 rows-of-a-chain tol points = refl
 
--- The steps that the rows give are, together, the steps of the lap's thinned chains.
+-- The steps that they give are, together, the steps of the lap's thinned chains.
 pub steps-of-the-chains : StepsOfTheChains
-steps-of-the-chains s f tol k rs w =
-    ap (λ (xs : List Row). total (stepsIn xs)) (given s f tol k rs w .1) ∙ course-steps tol (tolerance-positive tol (passed s f tol k rs w .within)) (map decoded (lapAt s k))
+unfolding lapRows
+steps-of-the-chains s f tol room e k a b = course-steps tol (tolerance-positive tol (accepted s tol room f e .passed .within)) (map decoded (lapAt s k))

@@ -1,6 +1,9 @@
 -- What more than one function's proof cites, and what a listing says of a fit.
-pub mod Place
+pub mod Decimal
+pub mod Text
+pub mod Lines
+pub mod Counts
+pub mod Laps
 pub mod Rows
-pub mod Found
 pub mod Demand
 pub mod Worked

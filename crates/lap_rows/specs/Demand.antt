@@ -1,52 +1,67 @@
--- What the listing of a lap says of its fit. Definitions only; `proofs/Demand.antt` has the proofs.
-use Prim.Native.Nat.{ℕ, _≤_}
+-- What the listing of a file says of its fit. Definitions only; `proofs/Demand.antt` has the proofs.
+use Prim.Native.Nat.{ℕ, _+_, _-_, _*_, _≤_}
 use mathlib.Core.Path.{_≡_}
-use mathlib.Core.List.{List, map}
+use mathlib.Core.List.{List, [], _∷_, map}
 use lib.ListN.{getD}
 use lib.Ieee.{Float}
-use Rattle.types.specs.Outcome.{gives}
+use Rattle.types.specs.Outcome.{refusal, gives}
 use Rattle.types.specs.Lent.{flat}
 use Rattle.file.specs.Command.{decoded}
 use Rattle.course.specs.Parts.{chain}
 use Rattle.course.specs.Course.{courseParts}
 use Rattle.course.specs.Demand.{chainPieces}
-use Rattle.listing.specs.Rows.{Row, pieceRow, partRows, courseRows, kindsOf, stepsIn, total, chainsSteps}
-use Rattle.laps.specs.File.{lapCount}
-use Rattle.laps.specs.Calls.{fitFile}
+use Rattle.listing.specs.Rows.{pieceRow, partRows, kindsOf, stepsIn, total, chainsSteps}
+use Rattle.laps.specs.File.{lapCount, lapsOf}
+use Rattle.laps.specs.Fit.{sizeOf}
+use Rattle.laps.specs.Calls.{fitRows, fitFile}
 use Rattle.laps.specs.Demand.{lapAt}
-use Rattle.lap_rows.specs.Listing.{listCall}
+use Rattle.lap_rows.specs.Listing.{decimal, lapRows, listText, mostText, textRows, listFile}
 
+-- ---- the text
+-- the number that decimal digits spell, `before` being that of the digits in front of them
+unfoldable pub spelled : ℕ → List ℕ → ℕ
+spelled before [] = before
+spelled before (d ∷ ds) = spelled (10 * before + (d - 48)) ds
+
+-- The digits of a number spell it.
+abbrev pub DigitsSpell : Type 0
+DigitsSpell = (n : ℕ) → spelled 0 (decimal n) ≡ n
+
+-- No digit 0 stands in front.
+abbrev pub NoZeroInFront : Type 0
+NoZeroInFront = (n : ℕ) → 1 ≤ n → getD (decimal n) 0 0 ≡ 48 → ⊥
+
+-- ---- refusals
+-- With room for the text of 800 rows, and for a fitted file of 64 laps and 800 commands (58,920 bytes), the listing is refused exactly where the fit is, by the same row.
+abbrev pub RefusedAlike : Type 0
+RefusedAlike =
+    (s : List ℕ) (tol : Float) (room room′ : ℕ) → mostText 800 ≤ room → sizeOf 64 800 ≤ room′ → refusal (textRows s tol room) ≡ refusal (fitRows s tol room′)
+
+-- Each file that the fit accepts is listed.
+abbrev pub EachIsListed : Type 0
+EachIsListed =
+    (s f : List ℕ) (tol : Float) (room room′ : ℕ) → fitFile s tol room′ ≡ gives f → mostText 800 ≤ room → listFile s tol room ≡ gives (listText tol (lapsOf s))
+
+-- ---- the rows of the laps, of which `listText` has the lines: f is the fit of the file s
 -- the first byte of a command is its kind
 abbrev pub kindByte : List ℕ → ℕ
 kindByte c = getD c 0 0
 
--- f is the fit of the file s at tol, and the rows rs list its lap k
-pub record Lists (s f : List ℕ) (tol : Float) (k : ℕ) (rs : List Row) : Type 0 where
-  pub room : ℕ
-  pub fit : fitFile s tol room ≡ gives f
-  pub kinds : ℕ
-  pub steps : ℕ
-  pub listed : listCall s k tol kinds steps ≡ gives rs
-
--- Each lap of a file that the fit accepts is listed, to outputs with room for 800 rows.
-abbrev pub EachIsListed : Type 0
-EachIsListed =
-    (s f : List ℕ) (tol : Float) (room : ℕ) → fitFile s tol room ≡ gives f
-    → (k : ℕ) → 1 ≤ k → k ≤ lapCount s
-    → (kinds steps : ℕ) → 800 ≤ kinds → 800 ≤ steps → listCall s k tol kinds steps ≡ gives (courseRows tol (map decoded (lapAt s k)))
-
--- The rows have, one for one and in order, the kinds of the commands in the fitted lap.
+-- The rows of lap k have, one for one and in order, the kinds of the commands in the fitted lap.
 abbrev pub KindsOfTheFit : Type 0
-KindsOfTheFit = (s f : List ℕ) (tol : Float) (k : ℕ) (rs : List Row) → Lists s f tol k rs → kindsOf rs ≡ map kindByte (lapAt f k)
+KindsOfTheFit =
+    (s f : List ℕ) (tol : Float) (room : ℕ) → fitFile s tol room ≡ gives f
+    → (k : ℕ) → 1 ≤ k → k ≤ lapCount s → kindsOf (lapRows tol (lapAt s k)) ≡ map kindByte (lapAt f k)
 
--- The rows are those of the lap's parts in order: of a chain one row for each piece of its fit, with the piece's steps; of a command that is kept one row with no step.
+-- They are those of the lap's parts in order: of a chain one row for each piece of its fit, with the piece's steps; of a command that is kept one row with no step.
 abbrev pub RowsOfTheParts : Type 0
-RowsOfTheParts = (s f : List ℕ) (tol : Float) (k : ℕ) (rs : List Row) → Lists s f tol k rs → rs ≡ flat (partRows tol) (courseParts tol (map decoded (lapAt s k)))
+RowsOfTheParts = (s : List ℕ) (tol : Float) (k : ℕ) → lapRows tol (lapAt s k) ≡ flat (partRows tol) (courseParts tol (map decoded (lapAt s k)))
 
 abbrev pub RowsOfAChain : Type 0
 RowsOfAChain = (tol : Float) (points : List Float) → partRows tol (chain points) ≡ map pieceRow (chainPieces tol points)
 
--- The steps that the rows give are, together, the steps of the lap's thinned chains.
+-- The steps that they give are, together, the steps of the lap's thinned chains.
 abbrev pub StepsOfTheChains : Type 0
 StepsOfTheChains =
-    (s f : List ℕ) (tol : Float) (k : ℕ) (rs : List Row) → Lists s f tol k rs → total (stepsIn rs) ≡ chainsSteps tol (courseParts tol (map decoded (lapAt s k)))
+    (s f : List ℕ) (tol : Float) (room : ℕ) → fitFile s tol room ≡ gives f
+    → (k : ℕ) → 1 ≤ k → k ≤ lapCount s → total (stepsIn (lapRows tol (lapAt s k))) ≡ chainsSteps tol (courseParts tol (map decoded (lapAt s k)))

@@ -1,44 +1,101 @@
--- The listing of one lap of a recorded file: which row of document 01's table refuses it, else its rows. Definitions only.
+-- The listing of a recorded file as text: which row of document 01's table refuses it, else its bytes. Definitions only.
 -- "It lists lap, kind letter (M, L, A) and steps of the thinned chain covered (0 for M and a kept Arc)" (document 01, "Worked laps").
-use Prim.Native.Nat.{ℕ, _+_, _*_, _≤_}
+use Prim.Native.Nat.{ℕ, zero, suc, _+_, _*_, _/_, _%_, _<_}
+use Prim.Native.Char.{code}
+use Prim.Native.String.{String, len, charAt}
 use mathlib.Core.Bool.{not}
 use mathlib.Core.Path.{_≡_}
 use mathlib.Core.List.{List, [], _∷_, _++_, map}
-use lib.ListN.{length}
+use lib.ListN.{length, getD}
+use lib.Seq.{sets}
 use lib.Dec.{ltb}
 use lib.Ieee.{Float}
-use Rattle.types.specs.declared.types.Answer.{Answer}
+use Rattle.number.specs.Ops.{if_then_else_}
 use Rattle.types.specs.Domain.{tolerance}
+use Rattle.types.specs.Lent.{flat}
 use Rattle.types.specs.Outcome as table
-use Rattle.types.specs.Outcome.{row, refusal, Outcome, unless, answer, left}
-use Rattle.file.specs.Command.{commandsAt, decoded}
-use Rattle.listing.specs.Rows.{Row, courseRows, kindsOf, stepsIn}
-use Rattle.laps.specs.File.{lapsOf}
-use Rattle.laps.specs.Fit.{mostLap, mostOf}
-use Rattle.laps.specs.Calls.{fileRows, row7}
-use Rattle.laps.specs.Demand.{lapAt}
+use Rattle.types.specs.Outcome.{row, refusal, Outcome, unless}
+use Rattle.types.specs.Walk.{listFrom}
+use Rattle.file.specs.Command.{decoded}
+use Rattle.listing.specs.Rows.{Row, letterOf, courseRows}
+use Rattle.laps.specs.File.{Lap, lapsOf}
+use Rattle.laps.specs.Fit.{mostOf}
+use Rattle.laps.specs.Calls.{fileRows}
 
--- the n commands from `at` on lie in the file, and are its lap number k
-pub record Stands (s : List ℕ) (k at n : ℕ) : Type 0 where
-  pub inside : at + 73 * n ≤ length s
-  pub few : n ≤ 800
-  pub commands : commandsAt s at n ≡ lapAt s k
+-- ---- text
+-- the bytes of a text of ASCII characters
+unfoldable pub ascii : String → List ℕ
+ascii text = listFrom (λ i. code (charAt text i)) (len text) 0
 
--- ---- the listing of lap k of the file s
--- rows 1 to 8: those of the file's fit, and the number of the lap
-unfoldable pub lapRows : List ℕ → ℕ → Float → List table.Row
-lapRows s k tol = fileRows s ++ (row 6 (not (tolerance tol)) ∷ row 7 (row7 k s) ∷ row 8 (ltb 800 (mostOf tol (lapsOf s))) ∷ [])
+-- a number's decimal digits, with no zero in front: at most `more` of them, and a number has no more digits than one more than itself
+unfoldable pub digitsBy : ℕ → ℕ → List ℕ
+digitsBy zero n = []
+digitsBy (suc more) n = if ltb n 10 then ((48 + n) ∷ []) else (digitsBy more (n / 10) ++ ((48 + n % 10) ∷ []))
 
--- and row 9: outputs for that many kinds and steps have no room for the lap's most
-unfoldable pub listRows : List ℕ → ℕ → Float → ℕ → ℕ → List table.Row
-listRows s k tol kinds steps = lapRows s k tol ++ (row 9 (ltb kinds (mostLap tol (lapAt s k))) ∷ row 9 (ltb steps (mostLap tol (lapAt s k))) ∷ [])
+unfoldable pub decimal : ℕ → List ℕ
+decimal n = digitsBy (suc n) n
 
--- the rows of the lap's commands
-unfoldable pub listCall : List ℕ → ℕ → Float → ℕ → ℕ → Outcome (List Row)
-listCall s k tol kinds steps = unless (refusal (listRows s k tol kinds steps)) (courseRows tol (map decoded (lapAt s k)))
+abbrev pub comma : ℕ
+comma = 44
 
--- what a call that writes rows to two outputs answers and leaves: the rows' kinds and steps, and then what stood there; all as it was where the call is refused
-pub record WroteRows (o : Outcome (List Row)) (ks ks′ ss ss′ : List ℕ) (r : Answer) : Type 0 where
-  pub says : r ≡ answer o
-  pub kinds : ks′ ≡ left kindsOf ks o
-  pub steps : ss′ ≡ left stepsIn ss o
+abbrev pub newline : ℕ
+newline = 10
+
+-- one line: lap, kind letter, steps
+unfoldable pub rowText : ℕ → Row → List ℕ
+rowText lap r = decimal lap ++ (comma ∷ letterOf (r .kind) ∷ comma ∷ []) ++ decimal (r .steps) ++ (newline ∷ [])
+
+-- a line for each row of a lap,
+unfoldable pub rowsText : ℕ → List Row → List ℕ
+rowsText lap rs = flat (rowText lap) rs
+
+-- whose rows are those of its commands
+unfoldable pub lapRows : Float → Lap → List Row
+lapRows tol l = courseRows tol (map decoded l)
+
+unfoldable pub lapText : Float → ℕ → Lap → List ℕ
+lapText tol lap l = rowsText lap (lapRows tol l)
+
+-- the laps from number j on
+unfoldable pub lapsText : Float → ℕ → List Lap → List ℕ
+lapsText tol j [] = []
+lapsText tol j (l ∷ ls) = lapText tol j l ++ lapsText tol (j + 1) ls
+
+abbrev pub header : List ℕ
+header = ascii "lap,kind,steps\n"
+
+unfoldable pub listText : Float → List Lap → List ℕ
+listText tol ls = header ++ lapsText tol 1 ls
+
+-- ---- the listing of the file s into an output of `room` bytes
+-- room for the first line and `most` rows: a row has at most nine bytes, as a lap's number is at most 64, and its steps at most 800
+abbrev pub mostText : ℕ → ℕ
+mostText most = 15 + 9 * most
+
+unfoldable pub textRows : List ℕ → Float → ℕ → List table.Row
+textRows s tol room =
+    fileRows s ++ (row 6 (not (tolerance tol)) ∷ row 8 (ltb 800 (mostOf tol (lapsOf s))) ∷ row 9 (ltb room (mostText (mostOf tol (lapsOf s)))) ∷ [])
+
+unfoldable pub listFile : List ℕ → Float → ℕ → Outcome (List ℕ)
+listFile s tol room = unless (refusal (textRows s tol room)) (listText tol (lapsOf s))
+
+-- ---- what the code leaves
+-- a text written from place `at` on, which ends before place `end`
+pub record TextPut (text out out′ : List ℕ) (at end : ℕ) : Type 0 where
+  pub ends : end ≡ at + length text
+  pub bytes : out′ ≡ sets out at text
+
+abbrev pub listed : ℕ → ℕ → Row
+listed kind steps = record { kind = kind; steps = steps }
+
+-- the n rows from index i on, of which ks are the kinds and ss the steps
+abbrev pub rowAt : List ℕ → List ℕ → ℕ → Row
+rowAt ks ss i = listed (getD ks i 0) (getD ss i 0)
+
+unfoldable pub rowsFrom : List ℕ → List ℕ → ℕ → ℕ → List Row
+rowsFrom ks ss n i = listFrom (rowAt ks ss) n i
+
+-- each row has fewer than 1,000 steps
+abbrev pub Short : List Row → Type 0
+Short [] = Unit
+Short (r ∷ rs) = (r .steps < 1000) × Short rs

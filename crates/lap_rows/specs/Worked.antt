@@ -6,10 +6,9 @@ use Rattle.types.specs.declared.types.Command.{Command}
 use Rattle.types.specs.declared.types.Command.the-variants.{Move, Line}
 use Rattle.types.specs.Outcome.{gives}
 use Rattle.file.specs.Command.{enc}
-use Rattle.listing.specs.Rows.{Row}
 use Rattle.laps.specs.File.{encode}
 use Rattle.laps.specs.Worked.{share, point}
-use Rattle.lap_rows.specs.Listing.{listCall}
+use Rattle.lap_rows.specs.Listing.{ascii, listFile}
 
 -- "as one lap of a Move and two Lines"
 abbrev pub angle : List Command
@@ -18,9 +17,6 @@ angle = Move (point 0 0) ∷ Line (point 10 0) ∷ Line (point 10 10) ∷ []
 abbrev pub angle-file : List ℕ
 angle-file = encode (map enc angle ∷ [])
 
-abbrev pub listed : ℕ → ℕ → Row
-listed kind steps = record { kind = kind; steps = steps }
-
--- its listing at 0.5, to outputs with room for three rows: M and no step, then two times L and one step
+-- its listing at 0.5, as document 01 prints it, to an output with room for three rows: 15 bytes and nine a row
 abbrev pub RightAngle : Type 0
-RightAngle = listCall angle-file 1 (share 1 2) 3 3 ≡ gives (listed 0 0 ∷ listed 1 1 ∷ listed 1 1 ∷ [])
+RightAngle = listFile angle-file (share 1 2) 42 ≡ gives (ascii "lap,kind,steps\n1,M,0\n1,L,1\n1,L,1\n")

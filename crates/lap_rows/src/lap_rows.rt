@@ -1,44 +1,173 @@
-// The listing of one lap of a recorded file: the rows of `listing`, for the commands of that lap.
+// The listing of a recorded file as text: a line for each row of `listing`, for the commands of each lap.
 use file::command::read_commands;
-use laps::fit::most_lap;
 use laps::fit::most_of;
 use laps::lap_file::check_file;
 use laps::lap_file::count_at;
 use laps::lap_file::lap_count;
+use listing::listing::letter;
 use listing::listing::list_course;
 use types::domain::is_within;
 use types::types::Answer;
 ghost use mathlib.Core.Path.{_≡_};
 ghost use mathlib.Core.Bool.{true};
-ghost use mathlib.Core.List.{map};
-ghost use Prim.Native.Nat.{_+_, _*_, _<_, _≤_};
-ghost use lib.ListN.{length};
+ghost use mathlib.Core.List.{List, _++_};
+ghost use Prim.Native.Nat.{ℕ, _+_, _*_, _<_, _≤_};
+ghost use lib.ListN.{length, drop};
 ghost use Rattle.number.specs.Ops.{_≺_, +0};
-ghost use Rattle.types.specs.Outcome.{refusal};
-ghost use Rattle.file.specs.Command.{commandsAt, decoded};
-ghost use Rattle.listing.specs.Rows.{courseRows, RowsPlaced};
-ghost use Rattle.laps.specs.File.{lapCount, countAt, tableOk};
-ghost use Rattle.laps.specs.Fit.{mostLap};
-ghost use Rattle.lap_rows.specs.Listing.{Stands, lapRows, listRows, listCall, WroteRows};
+ghost use Rattle.types.specs.Outcome.{refusal, Wrote};
+ghost use Rattle.file.specs.Command.{commandsAt};
+ghost use Rattle.listing.specs.Rows.{RowsPlaced};
+ghost use Rattle.laps.specs.File.{lapCount, lapsOf, tableOk};
+ghost use Rattle.laps.specs.Fit.{mostLap, mostOf};
+ghost use Rattle.lap_rows.specs.Listing.{decimal, rowText, rowsText, lapRows, lapText, listText, mostText, textRows, listFile, TextPut, listed, rowsFrom, Short};
 
-// Where lap number i + 1 starts.
-fn place_of(s: &[u8], i: usize) -> usize
-    requires { ⌜ (8 ≤ length (now s)) × (tableOk (now s) ≡ true) × (i < lapCount (now s)) ⌝ }
-    ensures { λ r. ⌜ Stands (now (s .entry)) (i + 1) r (countAt (now (s .entry)) i) ⌝ }
+// Writes a number's decimal digits from `at` on, and answers where they end.
+fn put_decimal(out: &mut [u8], at: usize, n: usize) -> usize
+    requires { ⌜ (n < 1000) × (at + length (decimal n) ≤ length (now out)) ⌝ }
+    ensures { λ r. ⌜ TextPut (decimal n) (now (out .entry)) (now (out .exit)) at r ⌝ }
 {
+    if n < 10 {
+        out[at] = 48 + n as u8;
+        return at + 1;
+    }
+    if n < 100 {
+        out[at] = 48 + (n / 10) as u8;
+        out[at + 1] = 48 + (n % 10) as u8;
+        return at + 2;
+    }
+    out[at] = 48 + (n / 100) as u8;
+    out[at + 1] = 48 + (n / 10 % 10) as u8;
+    out[at + 2] = 48 + (n % 10) as u8;
+    at + 3
+}
+
+// Writes one line from `at` on, and answers where it ends: lap, kind letter, steps.
+fn put_row(out: &mut [u8], at: usize, lap: usize, kind: u8, steps: usize) -> usize
+    requires { ⌜ (lap < 100) × (steps < 1000) × (at + 9 ≤ length (now out)) ⌝ }
+    ensures { λ r. ⌜ TextPut (rowText lap (listed kind steps)) (now (out .entry)) (now (out .exit)) at r ⌝ }
+{
+    let a = put_decimal(out, at, lap);
+    out[a] = 44;
+    out[a + 1] = letter(kind);
+    out[a + 2] = 44;
+    let b = put_decimal(out, a + 3, steps);
+    out[b] = 10;
+    b + 1
+}
+
+// Writes the first n rows of a lap from `at` on, and answers where they end.
+fn put_rows(kinds: &[u8], steps: &[usize], n: usize, lap: usize, out: &mut [u8], at: usize) -> usize
+    requires { ⌜ (lap < 100) × (n ≤ length (now kinds)) × (n ≤ length (now steps)) × Short (rowsFrom (now kinds) (now steps) n 0) × (at + 9 * n ≤ length (now out)) ⌝ }
+    ensures { λ r. ⌜ TextPut (rowsText lap (rowsFrom (now (kinds .entry)) (now (steps .entry)) n 0)) (now (out .entry)) (now (out .exit)) at r ⌝ }
+{
+    let mut to = at;
+    for i in 0..n {
+        to = put_row(out, to, lap, kinds[i], steps[i]);
+    }
+    to
+}
+
+// Lists the n commands from `at` on, and answers how many rows they have. The arrays in front of the outputs are for the
+// commands and their chains.
+fn list_commands(
+    s: &[u8],
+    at: usize,
+    n: usize,
+    tolerance: f64,
+    kinds: &mut [u8],
+    nums: &mut [f64],
+    chain: &mut [f64],
+    out_kinds: &mut [u8],
+    out_steps: &mut [usize],
+) -> usize
+    requires { ⌜ ((+0 ≺ tolerance) ≡ true) × (at + 73 * n ≤ length (now s)) × (n ≤ length (now kinds)) × (9 * n ≤ length (now nums)) × (mostLap tolerance (commandsAt (now s) at n) ≤ 800) × (mostLap tolerance (commandsAt (now s) at n) ≤ length (now «out_kinds»)) × (mostLap tolerance (commandsAt (now s) at n) ≤ length (now «out_steps»)) × (length (now chain) ≡ 2403) ⌝ }
+    ensures { λ r. ⌜ RowsPlaced (lapRows tolerance (commandsAt (now (s .entry)) at n)) 0 r (now («out_kinds» .entry)) (now («out_kinds» .exit)) (now («out_steps» .entry)) (now («out_steps» .exit)) ⌝ }
+{
+    read_commands(s, at, n, kinds, nums);
+    let m = 9 * n;
+    list_course(
+        &kinds[..n],
+        &nums[..m],
+        tolerance,
+        chain,
+        out_kinds,
+        out_steps,
+    )
+}
+
+// Writes the text of one lap, the n commands from `at` on, from `to` on, and answers where it ends.
+fn put_lap(
+    s: &[u8],
+    at: usize,
+    n: usize,
+    tolerance: f64,
+    lap: usize,
+    kinds: &mut [u8],
+    nums: &mut [f64],
+    chain: &mut [f64],
+    row_kinds: &mut [u8],
+    row_steps: &mut [usize],
+    out: &mut [u8],
+    to: usize,
+) -> usize
+    requires { ⌜ ((+0 ≺ tolerance) ≡ true) × (at + 73 * n ≤ length (now s)) × (n ≤ 800) × (lap < 100) × (mostLap tolerance (commandsAt (now s) at n) ≤ 800) × (to + 9 * mostLap tolerance (commandsAt (now s) at n) ≤ length (now out)) ⌝ }
+    requires { ⌜ (800 ≤ length (now kinds)) × (7200 ≤ length (now nums)) × (800 ≤ length (now «row_kinds»)) × (800 ≤ length (now «row_steps»)) × (length (now chain) ≡ 2403) ⌝ }
+    ensures { λ r. ⌜ TextPut (lapText tolerance lap (commandsAt (now (s .entry)) at n)) (now (out .entry)) (now (out .exit)) to r ⌝ }
+{
+    let rows = list_commands(
+        s,
+        at,
+        n,
+        tolerance,
+        kinds,
+        nums,
+        chain,
+        row_kinds,
+        row_steps,
+    );
+    put_rows(row_kinds, row_steps, rows, lap, out, to)
+}
+
+// Writes the listing's text, its first line first, and answers how many bytes it has. The arrays stand here and not in
+// `put_lap`, which would fill them for each lap.
+fn list_laps(s: &[u8], tolerance: f64, out: &mut [u8]) -> usize
+    requires { ⌜ ((+0 ≺ tolerance) ≡ true) × (8 ≤ length (now s)) × (tableOk (now s) ≡ true) × (lapCount (now s) ≤ 64) × (mostOf tolerance (lapsOf (now s)) ≤ 800) × (mostText (mostOf tolerance (lapsOf (now s))) ≤ length (now out)) ⌝ }
+    ensures { λ r. ⌜ (r ≡ length (listText tolerance (lapsOf (now (s .entry))))) × (now (out .exit) ≡ listText tolerance (lapsOf (now (s .entry))) ++ drop (length (listText tolerance (lapsOf (now (s .entry))))) (now (out .entry))) ⌝ }
+{
+    let mut kinds = [0u8; 800];
+    let mut nums = [0.0f64; 7200];
+    let mut chain = [0.0f64; 2403];
+    let mut row_kinds = [0u8; 800];
+    let mut row_steps = [0usize; 800];
+    let mut to = bytes::copy(b"lap,kind,steps\n", out);
     let l = lap_count(s);
     let mut at = 8 + 8 * l;
     let mut j = 0;
-    while j < i {
-        at += 73 * count_at(s, j);
+    while j < l {
+        let n = count_at(s, j);
+        to = put_lap(
+            s,
+            at,
+            n,
+            tolerance,
+            j + 1,
+            &mut kinds,
+            &mut nums,
+            &mut chain,
+            &mut row_kinds,
+            &mut row_steps,
+            out,
+            to,
+        );
+        at += 73 * n;
         j += 1;
     }
-    at
+    to
 }
 
-// The number of the first of the rows 1 to 8 that a listing falls under, or 0.
-fn check_lap(s: &[u8], k: usize, tolerance: f64) -> u32
-    ensures { λ r. ⌜ r ≡ refusal (lapRows (now (s .entry)) k tolerance) ⌝ }
+// The number of the first row that the listing of a file falls under, or 0.
+fn check_text(s: &[u8], tolerance: f64, room: usize) -> u32
+    ensures { λ r. ⌜ r ≡ refusal (textRows (now (s .entry)) tolerance room) ⌝ }
 {
     let refused = check_file(s);
     if refused != 0 {
@@ -47,73 +176,23 @@ fn check_lap(s: &[u8], k: usize, tolerance: f64) -> u32
     if !is_within(0.001, 1000.0, tolerance) {
         return 6;
     }
-    if k == 0 {
-        return 7;
-    }
-    if lap_count(s) < k {
-        return 7;
-    }
-    if 800 < most_of(s, tolerance) {
+    let most = most_of(s, tolerance);
+    if 800 < most {
         return 8;
     }
-    0
-}
-
-// The number of the first row that a listing to outputs of these lengths falls under, or 0.
-fn check_list(s: &[u8], k: usize, tolerance: f64, kinds: usize, steps: usize) -> u32
-    ensures { λ r. ⌜ r ≡ refusal (listRows (now (s .entry)) k tolerance kinds steps) ⌝ }
-{
-    let refused = check_lap(s, k, tolerance);
-    if refused != 0 {
-        return refused;
-    }
-    let at = place_of(s, k - 1);
-    let n = count_at(s, k - 1);
-    let most = most_lap(s, at, n, tolerance);
-    if kinds < most {
-        return 9;
-    }
-    if steps < most {
+    if room < 15 + 9 * most {
         return 9;
     }
     0
 }
 
-// Lists the n commands from `at` on, and answers how many rows they have.
-fn list_commands(
-    s: &[u8],
-    at: usize,
-    n: usize,
-    tolerance: f64,
-    out_kinds: &mut [u8],
-    out_steps: &mut [usize],
-) -> usize
-    requires { ⌜ ((+0 ≺ tolerance) ≡ true) × (at + 73 * n ≤ length (now s)) × (n ≤ 800) × (mostLap tolerance (commandsAt (now s) at n) ≤ 800) × (mostLap tolerance (commandsAt (now s) at n) ≤ length (now «out_kinds»)) × (mostLap tolerance (commandsAt (now s) at n) ≤ length (now «out_steps»)) ⌝ }
-    ensures { λ r. ⌜ RowsPlaced (courseRows tolerance (map decoded (commandsAt (now (s .entry)) at n))) 0 r (now («out_kinds» .entry)) (now («out_kinds» .exit)) (now («out_steps» .entry)) (now («out_steps» .exit)) ⌝ }
+// Lists the fit of a recorded file: writes the listing's text to the front of out. A refusal changes nothing.
+pub fn list_file(recorded: &[u8], tolerance: f64, out: &mut [u8]) -> Answer
+    ensures { λ r. ⌜ Wrote (λ (bytes : List ℕ). bytes) (listFile (now (recorded .entry)) tolerance (length (now (out .entry)))) (now (out .entry)) (now (out .exit)) r ⌝ }
 {
-    let mut kinds = [0u8; 800];
-    let mut nums = [0.0f64; 7200];
-    read_commands(s, at, n, &mut kinds, &mut nums);
-    let m = 9 * n;
-    list_course(&kinds[..n], &nums[..m], tolerance, out_kinds, out_steps)
-}
-
-// Lists one lap of a recorded file, by its number from 1: writes the rows' kinds and steps to the front of two outputs,
-// and answers how many rows there are. A refusal changes nothing.
-pub fn list_lap(
-    recorded: &[u8],
-    lap: usize,
-    tolerance: f64,
-    kinds: &mut [u8],
-    steps: &mut [usize],
-) -> Answer
-    ensures { λ r. ⌜ WroteRows (listCall (now (recorded .entry)) lap tolerance (length (now (kinds .entry))) (length (now (steps .entry)))) (now (kinds .entry)) (now (kinds .exit)) (now (steps .entry)) (now (steps .exit)) r ⌝ }
-{
-    let refused = check_list(recorded, lap, tolerance, kinds.len(), steps.len());
+    let refused = check_text(recorded, tolerance, out.len());
     if refused != 0 {
         return Answer::Refused(refused);
     }
-    let at = place_of(recorded, lap - 1);
-    let n = count_at(recorded, lap - 1);
-    Answer::Written(list_commands(recorded, at, n, tolerance, kinds, steps))
+    Answer::Written(list_laps(recorded, tolerance, out))
 }

@@ -1,2 +1,2 @@
-// The listing of one lap of a recorded file.
+// The listing of a recorded file.
 pub mod lap_rows;

@@ -6,7 +6,7 @@ use lib.Dec.{ltb}
 use Rattle.number.specs.Ops.{if_then_else_}
 use Rattle.types.specs.Outcome.{Outcome, refused}
 use Rattle.file.specs.Bytes.{numberAt}
-use Rattle.laps.specs.Calls.{fitFile}
+use Rattle.lap_rows.specs.Listing.{listFile}
 
-unfoldable pub fitInput : List ℕ → ℕ → Outcome (List ℕ)
-fitInput s room = if ltb (length s) 16 then refused 1 else fitFile (drop 8 s) (numberAt s 0) room
+unfoldable pub listInput : List ℕ → ℕ → Outcome (List ℕ)
+listInput s room = if ltb (length s) 16 then refused 1 else listFile (drop 8 s) (numberAt s 0) room

@@ -1,24 +1,27 @@
--- The fit of a lap: how much it writes, and that it writes something. Assumes nothing.
+-- The fit of a lap: how much it writes, that it writes something, and its most command by command. Assumes nothing.
 use Prim.Native.Nat.{ℕ, zero, suc, _+_, _-_, _*_, _≤_, _<_}
-use mathlib.Core.Path.{_≡_, refl, ap}
+use mathlib.Core.Path.{_≡_, refl, sym, ap}
 use mathlib.Core.Bool.{true}
 use mathlib.Core.List.{List, [], _∷_, map}
 use native.Mathlib.Omega.{arith}
 use borrow.Author.Tests.{eqb-true}
-use lib.ListN.{length, getD, length-map}
+use lib.ListN.{length, getD, take, drop, length-map}
 use lib.Dec.{eqb}
 use lib.Ieee.{Float}
 use Rattle.number.specs.Ops.{_≺_, +0}
 use Rattle.number.proofs.Order.{and-left}
+use Rattle.types.specs.declared.types.Point3D.{Point3D}
+use Rattle.types.specs.declared.types.Command.{Command}
 use Rattle.types.specs.declared.types.Command.the-variants.{Move}
-use Rattle.types.specs.Lent.{commandOf}
+use Rattle.types.specs.Lent.{origin, endOf, commandOf}
 use Rattle.file.specs.Command.{commandsAt, decoded, enc, pointFrom}
-use Rattle.course.specs.Course.{courseFit, courseMost, lentCourse}
+use Rattle.course.specs.Course.{joined, courseFit, courseMost, lentCourse}
+use Rattle.course.specs.Walks.{weightOf, weightsFrom}
 use Rattle.laps.specs.File.{Lap, lapsAt, countAt, placed, formOk, holds, lapOk}
 use Rattle.laps.specs.Fit.{fitLap, mostLap, mostOf, fitNew}
 use Rattle.laps.proofs.Here.{cond-false}
-use Rattle.course.proofs.Accepted.{course-few}
-use Rattle.laps.proofs.Course.{course-some}
+use Rattle.course.proofs.Accepted.{course-few, course-some}
+use Rattle.course.proofs.Steps.{most-of-commands}
 
 pub length-commands : (s : List ℕ) (at n : ℕ) → length (commandsAt s at n) ≡ n
 unfolding commandsAt
@@ -58,3 +61,25 @@ mosts-step tol s j at l n h e = let z : l - j ≡ suc (l - (j + 1)) = omega arit
 pub mosts-end : (tol : Float) (s : List ℕ) (j at l : ℕ) → l ≤ j → mostOf tol (lapsAt s j at (l - j)) ≡ 0
 unfolding mostOf lapsAt
 mosts-end tol s j at l h = let z : l - j ≡ zero = omega arith in rw z
+
+-- ---- the commands of a lap, one by one
+module _ (tol : Float) where
+  -- what the k commands from b on count as, behind the position `last`
+  abbrev pub weights : List ℕ → Point3D → ℕ → ℕ → ℕ
+  weights s last b k = weightsFrom (joined tol) last (map decoded (commandsAt s b k))
+
+  pub weights-all : (s : List ℕ) (at n : ℕ) → weights s origin at n ≡ mostLap tol (commandsAt s at n)
+  unfolding mostLap
+  weights-all s at n = sym (most-of-commands tol (map decoded (commandsAt s at n)))
+
+  pub weights-step : (s : List ℕ) (last last′ : Point3D) (c : Command) (b n i : ℕ) → i < n → c ≡ decoded (take (b + 73 - b) (drop b s)) → last′ ≡ endOf c
+      → weights s last b (n - i) ≡ weightOf (joined tol last c) + weights s last′ (b + 73) (n - (i + 1))
+  unfolding weightsFrom commandsAt
+  weights-step s last last′ c b n i h e q =
+      let z : n - i ≡ suc (n - (i + 1)) = omega arith in
+      let w : b + 73 - b ≡ 73 = omega arith in
+      rw (z, q, e, w)
+
+  pub weights-end : (s : List ℕ) (last : Point3D) (b n i : ℕ) → n ≤ i → weights s last b (n - i) ≡ 0
+  unfolding weightsFrom commandsAt
+  weights-end s last b n i h = let z : n - i ≡ zero = omega arith in rw z

@@ -4,7 +4,6 @@ pub mod Sets
 pub mod Whole
 pub mod Going
 pub mod Copy
-pub mod Course
 pub mod Cap
 pub mod Lap
 pub mod Arrays

@@ -4,12 +4,15 @@ use crate::lap_file::count_at;
 use crate::lap_file::lap_count;
 use crate::lap_file::put_entry;
 use crate::lap_file::put_head;
-use course::course::course_most;
+use course::course::add_capped;
 use course::course::fit_course;
+use course::course::weight;
+use file::command::read_command;
 use file::command::read_commands;
 use file::command::write_commands;
 use types::domain::is_within;
 use types::types::Answer;
+use types::types::Point3D;
 ghost use mathlib.Core.Path.{_≡_};
 ghost use mathlib.Core.Bool.{true};
 ghost use mathlib.Core.List.{List, map, _++_};
@@ -23,26 +26,22 @@ ghost use Rattle.laps.specs.File.{lapCount, lapsOf, encode, tableOk, Put
 ghost use Rattle.laps.specs.Fit.{fitLap, mostLap, mostOf, sizeOf, fitNew};
 ghost use Rattle.laps.specs.Calls.{fitRows, fitFile};
 
-// A count, where all above 800 are told as 801.
-fn capped(n: usize) -> usize
-    ensures { λ r. ⌜ (r ≡ cap n) × (r ≤ 801) ⌝ }
-{
-    if 800 < n {
-        return 801;
-    }
-    n
-}
-
 // What the n commands from `at` on could become at most.
-pub fn most_lap(s: &[u8], at: usize, n: usize, tolerance: f64) -> usize
+fn most_lap(s: &[u8], at: usize, n: usize, tolerance: f64) -> usize
     requires { ⌜ (at + 73 * n ≤ length (now s)) × (n ≤ 800) ⌝ }
     ensures { λ r. ⌜ r ≡ cap (mostLap tolerance (commandsAt (now (s .entry)) at n)) ⌝ }
 {
-    let mut kinds = [0u8; 800];
-    let mut nums = [0.0f64; 7200];
-    read_commands(s, at, n, &mut kinds, &mut nums);
-    let m = 9 * n;
-    course_most(&kinds[..n], &nums[..m], tolerance)
+    let mut most = 0;
+    let mut last = Point3D::ZERO;
+    let mut b = at;
+    for i in 0..n {
+        let e = b + 73;
+        let c = read_command(&s[b..e]);
+        most = add_capped(most, weight(c, last, tolerance));
+        last = c.end_point();
+        b = e;
+    }
+    most
 }
 
 // What the laps of a file could become at most.
@@ -56,11 +55,30 @@ pub fn most_of(s: &[u8], tolerance: f64) -> usize
     let mut j = 0;
     while j < l {
         let n = count_at(s, j);
-        most = capped(most + most_lap(s, at, n, tolerance));
+        most = add_capped(most, most_lap(s, at, n, tolerance));
         at += 73 * n;
         j += 1;
     }
     most
+}
+
+// Writes the fit of lent commands from `to` on, by way of three arrays, and returns how many commands it has.
+fn fit_lent(
+    kinds: &[u8],
+    nums: &[f64],
+    tolerance: f64,
+    chain: &mut [f64],
+    out_kinds: &mut [u8],
+    out_nums: &mut [f64],
+    out: &mut [u8],
+    to: usize,
+) -> usize
+    requires { ⌜ ((+0 ≺ tolerance) ≡ true) × (9 * length (now kinds) ≤ length (now nums)) × (courseMost tolerance (lentCourse (now kinds) (now nums)) ≤ 800) × (to + 73 * length (fitNew tolerance (now kinds) (now nums)) ≤ length (now out)) × (length (now «out_kinds») ≡ 800) × (length (now «out_nums») ≡ 7200) × (length (now chain) ≡ 2403) ⌝ }
+    ensures { λ r. ⌜ PutLap (fitNew tolerance (now (kinds .entry)) (now (nums .entry))) (now (out .entry)) (now (out .exit)) to r ⌝ }
+{
+    let n = fit_course(kinds, nums, tolerance, chain, out_kinds, out_nums);
+    write_commands(out_kinds, out_nums, n, out, to);
+    n
 }
 
 // Writes the fit of lent commands from `to` on, and returns how many commands it has.
@@ -68,23 +86,50 @@ pub fn fit_commands(kinds: &[u8], nums: &[f64], tolerance: f64, out: &mut [u8], 
     requires { ⌜ ((+0 ≺ tolerance) ≡ true) × (9 * length (now kinds) ≤ length (now nums)) × (courseMost tolerance (lentCourse (now kinds) (now nums)) ≤ 800) × (to + 73 * length (fitNew tolerance (now kinds) (now nums)) ≤ length (now out)) ⌝ }
     ensures { λ r. ⌜ PutLap (fitNew tolerance (now (kinds .entry)) (now (nums .entry))) (now (out .entry)) (now (out .exit)) to r ⌝ }
 {
+    let mut chain = [0.0; 2403];
     let mut out_kinds = [0u8; 800];
     let mut out_nums = [0.0f64; 7200];
-    let n = fit_course(kinds, nums, tolerance, &mut out_kinds, &mut out_nums);
-    write_commands(&out_kinds, &out_nums, n, out, to);
-    n
+    fit_lent(
+        kinds,
+        nums,
+        tolerance,
+        &mut chain,
+        &mut out_kinds,
+        &mut out_nums,
+        out,
+        to,
+    )
 }
 
-// Writes the fit of the n commands from `at` on, from `to` on, and returns how many commands it has.
-fn fit_lap(s: &[u8], at: usize, n: usize, tolerance: f64, out: &mut [u8], to: usize) -> usize
-    requires { ⌜ ((+0 ≺ tolerance) ≡ true) × (at + 73 * n ≤ length (now s)) × (n ≤ 800) × (mostLap tolerance (commandsAt (now s) at n) ≤ 800) × (to + 73 * length (fitLap tolerance (commandsAt (now s) at n)) ≤ length (now out)) ⌝ }
+// Writes the fit of the n commands from `at` on, from `to` on, by way of five arrays, and returns how many commands it has.
+fn fit_lap(
+    s: &[u8],
+    at: usize,
+    n: usize,
+    tolerance: f64,
+    kinds: &mut [u8],
+    nums: &mut [f64],
+    chain: &mut [f64],
+    out_kinds: &mut [u8],
+    out_nums: &mut [f64],
+    out: &mut [u8],
+    to: usize,
+) -> usize
+    requires { ⌜ ((+0 ≺ tolerance) ≡ true) × (at + 73 * n ≤ length (now s)) × (n ≤ 800) × (mostLap tolerance (commandsAt (now s) at n) ≤ 800) × (to + 73 * length (fitLap tolerance (commandsAt (now s) at n)) ≤ length (now out)) × (length (now kinds) ≡ 800) × (length (now nums) ≡ 7200) × (length (now «out_kinds») ≡ 800) × (length (now «out_nums») ≡ 7200) × (length (now chain) ≡ 2403) ⌝ }
     ensures { λ r. ⌜ PutLap (fitLap tolerance (commandsAt (now (s .entry)) at n)) (now (out .entry)) (now (out .exit)) to r ⌝ }
 {
-    let mut kinds = [0u8; 800];
-    let mut nums = [0.0f64; 7200];
-    read_commands(s, at, n, &mut kinds, &mut nums);
+    read_commands(s, at, n, kinds, nums);
     let m = 9 * n;
-    fit_commands(&kinds[..n], &nums[..m], tolerance, out, to)
+    fit_lent(
+        &kinds[..n],
+        &nums[..m],
+        tolerance,
+        chain,
+        out_kinds,
+        out_nums,
+        out,
+        to,
+    )
 }
 
 // Writes the fit of a file, the mark first, and returns how many bytes it has.
@@ -92,6 +137,12 @@ fn fit_laps(s: &[u8], tolerance: f64, out: &mut [u8]) -> usize
     requires { ⌜ ((+0 ≺ tolerance) ≡ true) × (8 ≤ length (now s)) × (tableOk (now s) ≡ true) × (mostOf tolerance (lapsOf (now s)) ≤ 800) × (sizeOf (lapCount (now s)) (mostOf tolerance (lapsOf (now s))) ≤ length (now out)) ⌝ }
     ensures { λ r. ⌜ (r ≡ length (encode (map (fitLap tolerance) (lapsOf (now (s .entry)))))) × (now (out .exit) ≡ encode (map (fitLap tolerance) (lapsOf (now (s .entry)))) ++ drop (length (encode (map (fitLap tolerance) (lapsOf (now (s .entry)))))) (now (out .entry))) ⌝ }
 {
+    // filled here once, and lent for each lap
+    let mut kinds = [0u8; 800];
+    let mut nums = [0.0f64; 7200];
+    let mut chain = [0.0; 2403];
+    let mut out_kinds = [0u8; 800];
+    let mut out_nums = [0.0f64; 7200];
     let l = lap_count(s);
     put_head(out, l);
     let mut at = 8 + 8 * l;
@@ -99,7 +150,19 @@ fn fit_laps(s: &[u8], tolerance: f64, out: &mut [u8]) -> usize
     let mut j = 0;
     while j < l {
         let n = count_at(s, j);
-        let c = fit_lap(s, at, n, tolerance, out, to);
+        let c = fit_lap(
+            s,
+            at,
+            n,
+            tolerance,
+            &mut kinds,
+            &mut nums,
+            &mut chain,
+            &mut out_kinds,
+            &mut out_nums,
+            out,
+            to,
+        );
         put_entry(out, j, to, c);
         at += 73 * n;
         to += 73 * c;

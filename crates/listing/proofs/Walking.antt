@@ -41,21 +41,21 @@ module _ (tol : Float) (c : Command) (w : Walk) (s : List Float) (ks ss : List �
         steps = refl;
       })
 
-  -- it ends the chain and is kept
-  pub listed-ends : (n k : ℕ) (ks₁ ks₂ ss₁ ss₂ : List ℕ) → 3 ≤ length s
+  -- it ends the chain, whose listing leaves the buffer s₁, and is kept
+  pub listed-ends : (n k : ℕ) (ks₁ ks₂ ss₁ ss₂ : List ℕ) (s₁ : List Float) → length s₁ ≡ length s → 3 ≤ length s
       → RowsPlaced (chainRows tol (underWay w s)) (w .written) n ks ks₁ ss ss₁ → k ≡ kindOf c → ks₂ ≡ set ks₁ (w .written + n) k → ss₂ ≡ set ss₁ (w .written + n) 0
-      → (r : Walk) (s′ : List Float) (end : Point3D) → end ≡ endOf c → r ≡ record { points = 1; last = end; written = w .written + n + 1 } → s′ ≡ sets s 0 (triple end)
+      → (r : Walk) (s′ : List Float) (end : Point3D) → end ≡ endOf c → r ≡ record { points = 1; last = end; written = w .written + n + 1 } → s′ ≡ sets s₁ 0 (triple end)
       → Listed tol ends c w r s s′ ks ks₂ ss ss₂
   unfolding closed carried rowsOf flat partRows
-  listed-ends n k ks₁ ks₂ ss₁ ss₂ h p ec ek es r s′ end q e d =
+  listed-ends n k ks₁ ks₂ ss₁ ss₂ s₁ ls h p ec ek es r s′ end q e d =
       let b = both-rows (chainRows tol (underWay w s)) (keptRow c ∷ []) (chainRows tol (underWay w s) ++ keptRow c ∷ []) (w .written) n 1 ks ks₁ ks₂ ss ss₁ ss₂ refl p
       (one-row (keptRow c) (keptRow c ∷ []) (w .written + n) ks₁ ks₂ ss₁ ss₂ refl (ek ∙ ap (set ks₁ (w .written + n)) ec) es) in
       rw (e, d) (record {
         last = q;
         some = omega arith;
-        inside = rw (length-sets s 0 (triple end)) h;
-        long = length-sets s 0 (triple end);
-        carries = take-sets s 0 3 (triple end) refl h ∙ ap triple q;
+        inside = rw (length-sets s₁ 0 (triple end)) (rw ls h);
+        long = length-sets s₁ 0 (triple end) ∙ ls;
+        carries = take-sets s₁ 0 3 (triple end) refl (rw ls h) ∙ ap triple q;
         written = let t = b .count in omega arith;
         kinds = b .kinds;
         steps = b .steps;

@@ -3,12 +3,13 @@ use course::course::Walk;
 use course::course::add_bezier;
 use course::course::add_line;
 use fitting::fitting::line_deviation;
-use simplify::simplify::thin_points;
+use simplify::simplify::thin_in_place;
 use trial::trial::Trial;
 use trial::trial::try_arcs;
 use types::lent::command_at;
 use types::lent::put_point;
 use types::types::Command;
+use types::types::Point3D;
 ghost use mathlib.Core.Path.{_≡_};
 ghost use mathlib.Core.Bool.{true};
 ghost use Prim.Native.Nat.{_+_, _-_, _*_, _/_, _<_, _≤_};
@@ -62,7 +63,7 @@ fn put_row(kinds: &mut [u8], steps: &mut [usize], at: usize, kind: u8, covered: 
 }
 
 // Writes the rows of the points from start to end, from place `at` on, and answers how many they are. It cuts as `fit_range` does.
-pub fn list_range(
+fn list_range(
     points: &[f64],
     tolerance: f64,
     start: usize,
@@ -97,24 +98,24 @@ pub fn list_range(
     }
 }
 
-// Lists a chain: it is thinned, and what is kept is listed. A course of at most 800 commands has no longer chain than 801 points.
-pub fn list_chain(
-    chain: &[f64],
+// Lists a chain: it is thinned in place, and what is kept is listed. A course of at most 800 commands has no longer chain than 801 points.
+fn list_chain(
+    chain: &mut [f64],
     tolerance: f64,
     kinds: &mut [u8],
     steps: &mut [usize],
     at: usize,
 ) -> usize
     requires { ⌜ ((+0 ≺ tolerance) ≡ true) × ((length (now chain) / 3 ≤ 801) × (at + (length (now chain) / 3 - 1) ≤ length (now kinds)) × (at + (length (now chain) / 3 - 1) ≤ length (now steps))) ⌝ }
-    ensures { λ r. ⌜ RowsPlaced (chainRows tolerance (now (chain .entry))) at r (now (kinds .entry)) (now (kinds .exit)) (now (steps .entry)) (now (steps .exit)) ⌝ }
+    ensures rows { λ r. ⌜ RowsPlaced (chainRows tolerance (now (chain .entry))) at r (now (kinds .entry)) (now (kinds .exit)) (now (steps .entry)) (now (steps .exit)) ⌝ }
+    ensures long { λ _. ⌜ length (now (chain .exit)) ≡ length (now (chain .entry)) ⌝ }
 {
     let n = chain.len() / 3;
     if n < 2 {
         return 0;
     }
-    let mut kept = [0.0; 2403];
-    let k = thin_points(chain, n, tolerance * tolerance, &mut kept);
-    list_range(&kept[..3 * k], tolerance, 0, k - 1, kinds, steps, at)
+    let k = thin_in_place(chain, n, tolerance * tolerance);
+    list_range(&chain[..3 * k], tolerance, 0, k - 1, kinds, steps, at)
 }
 
 // The command ends the chain: the chain is listed, and the command, which is kept, behind it with no step.
@@ -129,7 +130,13 @@ fn end_listed(
     requires { ⌜ ((+0 ≺ tolerance) ≡ true) × RowRoom ends c w (now chain) (length (now kinds)) (length (now steps)) ⌝ }
     ensures { λ r. ⌜ Listed tolerance ends c w r (now (chain .entry)) (now (chain .exit)) (now (kinds .entry)) (now (kinds .exit)) (now (steps .entry)) (now (steps .exit)) ⌝ }
 {
-    let n = list_chain(&chain[..3 * w.points], tolerance, kinds, steps, w.written);
+    let n = list_chain(
+        &mut chain[..3 * w.points],
+        tolerance,
+        kinds,
+        steps,
+        w.written,
+    );
     put_row(kinds, steps, w.written + n, kind_of(c), 0);
     let end = c.end_point();
     put_point(chain, 0, end);
@@ -168,25 +175,28 @@ fn list_command(
     }
 }
 
-// Lists a course, and answers how many rows it has.
+// Lists a course, and answers how many rows it has. The caller lends the chain's buffer.
 pub fn list_course(
     kinds: &[u8],
     nums: &[f64],
     tolerance: f64,
+    chain: &mut [f64],
     out_kinds: &mut [u8],
     out_steps: &mut [usize],
 ) -> usize
-    requires { ⌜ ((+0 ≺ tolerance) ≡ true) × ((9 * length (now kinds) ≤ length (now nums)) × (courseMost tolerance (lentCourse (now kinds) (now nums)) ≤ 800) × (courseMost tolerance (lentCourse (now kinds) (now nums)) ≤ length (now «out_kinds»)) × (courseMost tolerance (lentCourse (now kinds) (now nums)) ≤ length (now «out_steps»))) ⌝ }
-    ensures { λ r. ⌜ RowsPlaced (courseRows tolerance (lentCourse (now (kinds .entry)) (now (nums .entry)))) 0 r (now («out_kinds» .entry)) (now («out_kinds» .exit)) (now («out_steps» .entry)) (now («out_steps» .exit)) ⌝ }
+    requires { ⌜ ((+0 ≺ tolerance) ≡ true) × ((9 * length (now kinds) ≤ length (now nums)) × (courseMost tolerance (lentCourse (now kinds) (now nums)) ≤ 800) × (courseMost tolerance (lentCourse (now kinds) (now nums)) ≤ length (now «out_kinds»)) × (courseMost tolerance (lentCourse (now kinds) (now nums)) ≤ length (now «out_steps»)) × (length (now chain) ≡ 2403)) ⌝ }
+    ensures rows { λ r. ⌜ RowsPlaced (courseRows tolerance (lentCourse (now (kinds .entry)) (now (nums .entry)))) 0 r (now («out_kinds» .entry)) (now («out_kinds» .exit)) (now («out_steps» .entry)) (now («out_steps» .exit)) ⌝ }
+    ensures long { λ _. ⌜ length (now (chain .exit)) ≡ 2403 ⌝ }
 {
-    let mut chain = [0.0; 2403];
     let mut w = Walk::new();
+    // The buffer may still hold the chain of another course.
+    put_point(chain, 0, Point3D::ZERO);
     for i in 0..kinds.len() {
         let c = command_at(kinds, nums, i);
-        w = list_command(c, tolerance, w, &mut chain, out_kinds, out_steps);
+        w = list_command(c, tolerance, w, chain, out_kinds, out_steps);
     }
     let n = list_chain(
-        &chain[..3 * w.points],
+        &mut chain[..3 * w.points],
         tolerance,
         out_kinds,
         out_steps,

@@ -5,6 +5,7 @@ pub mod Near
 pub mod Again
 pub mod Flags
 pub mod Copy
+pub mod InPlace
 pub mod Accepted
 pub mod Thinning
 pub mod Search

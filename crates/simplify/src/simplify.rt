@@ -297,6 +297,22 @@ fn copy_points(points: &[f64], n: usize, keep: &[bool], out: &mut [f64]) -> usiz
     count
 }
 
+// The same in place: the points whose flag is set close up to the front. A point is moved to no place behind its own, so those ahead stand as they stood.
+fn close_up(points: &mut [f64], n: usize, keep: &[bool]) -> usize
+    requires { ⌜ (3 * n ≤ length (now points)) × (n ≤ length (now keep)) ⌝ }
+    ensures { λ r. ⌜ Copied triple (flagged (pointAt (now (points .entry))) (now (keep .entry)) n) (now (points .entry)) (now (points .exit)) r ⌝ }
+{
+    let mut count = 0;
+    for i in 0..n {
+        if keep[i] {
+            let p = point_at(points, i);
+            put_point(points, 3 * count, p);
+            count += 1;
+        }
+    }
+    count
+}
+
 // Every Move is kept, whatever its flag.
 fn is_kept(c: Command, flag: bool) -> bool
     ensures { λ r. ⌜ r ≡ (isMove c || flag) ⌝ }
@@ -346,7 +362,7 @@ fn thin_pairs(points: &[f64], n: usize, limit: f64, out: &mut [f64]) -> usize
 }
 
 // The same of triples.
-pub fn thin_points(points: &[f64], n: usize, limit: f64, out: &mut [f64]) -> usize
+fn thin_points(points: &[f64], n: usize, limit: f64, out: &mut [f64]) -> usize
     requires { ⌜ ((limit ≺ +0) ≡ false) × ((n ≤ 2048) × (3 * n ≤ length (now points)) × (3 * n ≤ length (now out))) ⌝ }
     ensures { λ r. ⌜ Copied triple (thinnedPoints lineSq limit (pointAt (now (points .entry))) n) (now (out .entry)) (now (out .exit)) r ⌝ }
 {
@@ -358,6 +374,21 @@ pub fn thin_points(points: &[f64], n: usize, limit: f64, out: &mut [f64]) -> usi
     mark(points, limit, 0, n - 1, &mut keep);
     keep[n - 1] = true;
     copy_points(points, n, &keep, out)
+}
+
+// The same in place.
+pub fn thin_in_place(points: &mut [f64], n: usize, limit: f64) -> usize
+    requires { ⌜ ((limit ≺ +0) ≡ false) × ((n ≤ 2048) × (3 * n ≤ length (now points))) ⌝ }
+    ensures { λ r. ⌜ Copied triple (thinnedPoints lineSq limit (pointAt (now (points .entry))) n) (now (points .entry)) (now (points .exit)) r ⌝ }
+{
+    if n == 0 {
+        return 0;
+    }
+    let mut keep = [false; 2048];
+    keep[0] = true;
+    mark(points, limit, 0, n - 1, &mut keep);
+    keep[n - 1] = true;
+    close_up(points, n, &keep)
 }
 
 // The same of all the commands, which are at most 800.

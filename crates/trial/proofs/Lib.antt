@@ -1,3 +1,4 @@
 -- What more than one function's proof cites.
+pub mod Squares
 pub mod Steps
 pub mod Going

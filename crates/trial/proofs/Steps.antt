@@ -1,17 +1,19 @@
 -- The walk along the steps of an arc: one step, and that what is not below the tolerance stays so. Assumes nothing.
-use Prim.Native.Nat.{ℕ, zero, suc, _+_, _-_}
+use Prim.Native.Nat.{ℕ, zero, suc, _+_}
 use mathlib.Core.Path.{_≡_, sym, ap, _∙_}
 use mathlib.Core.Logic.{⊎-elim}
 use mathlib.Core.Bool.{false}
 use lib.Ieee.{Float, lt}
 use Rattle.number.specs.Ops.{_⊖_}
+use Rattle.number.specs.Root.{rootOf}
 use Rattle.number.proofs.Order.{either, clash, lt-trans}
 use Rattle.types.specs.declared.types.Point.{Point}
 use Rattle.types.specs.declared.types.Point3D.{Point3D}
-use Rattle.types.specs.Vector.{lengthOf}
+use Rattle.types.specs.Vector.{lengthSq, lengthOf}
 use Rattle.types.specs.Walk.{fold}
 use Rattle.circle.specs.declared.circle.Deviation.{Deviation}
 use Rattle.circle.specs.Worst.{worse}
+use Rattle.circle.specs.Three.{radiusFrom}
 use Rattle.trial.specs.declared.trial.Spoke.{Spoke}
 use Rattle.trial.specs.Deviation.{spokeOf, stepOf, stepBetween}
 
@@ -20,6 +22,16 @@ pub step-is : (m : Point) (r : Float) (p q p′ q′ : Point3D) (s t : Spoke) (l
     → len ≡ lengthOf (q .x ⊖ p .x) (q .y ⊖ p .y) → d ≡ stepOf r len s t → d ≡ stepBetween m r p′ q′
 unfolding stepBetween
 step-is m r p q p′ q′ s t len d ep eq es et el ed = rw (ed, el, es, et, ep, eq)
+
+-- the length of the spoke to a point is its distance from the centre
+pub spoke-length : (m : Point) (p p′ : Point3D) (s : Spoke) → p ≡ p′ → s ≡ spokeOf m p → s .len ≡ radiusFrom m p′
+unfolding spokeOf radiusFrom
+spoke-length m p p′ s ep es = rw (es, ep)
+
+-- and the root of its own square
+pub spoke-root : (m : Point) (p : Point3D) (s : Spoke) → s ≡ spokeOf m p → s .len ≡ rootOf (lengthSq (s .x) (s .y))
+unfolding spokeOf lengthOf
+spoke-root m p s es = rw es
 
 -- a turn of the walk over the distances f
 abbrev pub walk : (ℕ → Float) → ℕ → Deviation → Deviation

@@ -2,10 +2,9 @@
 // of lent triples, from start to end.
 use arc::arc::turn;
 use circle::circle::Center;
-use circle::circle::CircleThrough;
+use circle::circle::CenterThrough;
 use circle::circle::Deviation;
-use circle::circle::circle_through;
-use circle::circle::get_radius;
+use circle::circle::center_through;
 use circle::circle::least_squares;
 use circle::circle::to_bisector;
 use number::float::abs;
@@ -20,12 +19,15 @@ ghost use mathlib.Core.Path.{_≡_};
 ghost use Prim.Native.Nat.{_+_, _*_, _<_, _≤_};
 ghost use lib.ListN.{length};
 ghost use lib.Ieee.{lt};
-ghost use Rattle.types.specs.Vector.{flatten};
+ghost use Rattle.number.specs.Ops.{_⊖_};
+ghost use Rattle.number.specs.Root.{rootOf};
+ghost use Rattle.types.specs.Vector.{flatten, lengthOf};
 ghost use Rattle.types.specs.Lent.{pointAt};
 ghost use Rattle.arc.specs.Direction.{clockwise};
+ghost use Rattle.circle.specs.Three.{radiusFrom};
 ghost use Rattle.trial.specs.Deviation.{spokeOf, sagittaOf, endsOf, stepOf, arcDeviation};
 ghost use Rattle.trial.specs.Traversal.{offsetOf, crossOf, dotOf, atCentre, halfOf, turned, justBehind, justAhead, passesBy, traverses};
-ghost use Rattle.trial.specs.Trial.{sharpTurn, sharpAt, closedRange, trialRound, trialOf, trialThree, trialLeast, tryArcs};
+ghost use Rattle.trial.specs.Trial.{sharpTurn, sharpAt, closedRange, trialOf, trialThree, trialLeast, tryArcs};
 
 // A point seen from a centre: its offset and its distance.
 pub struct Spoke {
@@ -37,6 +39,8 @@ pub struct Spoke {
 impl Spoke {
     // A step or a spoke shorter than this has no direction.
     pub const SHORT: f64 = 1e-9;
+    // The root of this is above SHORT: a step whose square is at least this is not short.
+    pub const SHORT_SQUARE: f64 = 1e-17;
 
     pub fn new(m: Point, p: Point3D) -> Self
         ensures { λ r. ⌜ r ≡ spokeOf m p ⌝ }
@@ -86,6 +90,23 @@ fn step_deviation(len: f64, s: Spoke, t: Spoke, r: f64) -> f64
     max(sagitta(s, t, r), e)
 }
 
+// The deviation of the step from p to q. r is the root of `square`: a step that is not short, and no longer than the
+// radius, needs no root.
+fn deviation_of_step(p: Point3D, q: Point3D, s: Spoke, t: Spoke, r: f64, square: f64) -> f64
+    requires { ⌜ r ≡ rootOf square ⌝ }
+    ensures { λ d. ⌜ d ≡ stepOf r (lengthOf (q .x ⊖ p .x) (q .y ⊖ p .y)) s t ⌝ }
+{
+    let dx = q.x - p.x;
+    let dy = q.y - p.y;
+    let l = dx * dx + dy * dy;
+    if Spoke::SHORT_SQUARE <= l {
+        if l <= square {
+            return max(sagitta(s, t, r), ends_off(s, t, r));
+        }
+    }
+    step_deviation(sqrt(l), s, t, r)
+}
+
 // The greatest deviation of a step from the arc, and the first step that has it. A point's distance from the centre is
 // worked out once: it serves the step before and the step after.
 pub fn arc_deviation(points: &[f64], start: usize, end: usize, m: Point, r: f64) -> Deviation
@@ -109,10 +130,11 @@ pub fn arc_deviation(points: &[f64], start: usize, end: usize, m: Point, r: f64)
     worst
 }
 
-// Whether that deviation is below the tolerance: the walk ends at the first step that is not.
-fn is_arc_within(points: &[f64], start: usize, end: usize, m: Point, r: f64, tolerance: f64) -> bool
+// Whether that deviation is below the tolerance, where the radius is the first point's distance from the centre: the walk
+// ends at the first step that is not.
+fn is_arc_within(points: &[f64], start: usize, end: usize, m: Point, tolerance: f64) -> bool
     requires { ⌜ (start ≤ end) × (3 * end + 2 < length (now points)) ⌝ }
-    ensures { λ b. ⌜ b ≡ lt (arcDeviation m r (pointAt (now (points .entry))) start end .dist) tolerance ⌝ }
+    ensures { λ b. ⌜ b ≡ lt (arcDeviation m (radiusFrom m (pointAt (now (points .entry)) start)) (pointAt (now (points .entry))) start end .dist) tolerance ⌝ }
 {
     let mut worst = Deviation {
         dist: 0.0,
@@ -120,11 +142,12 @@ fn is_arc_within(points: &[f64], start: usize, end: usize, m: Point, r: f64, tol
     };
     let mut p = point_at(points, start);
     let mut s = Spoke::new(m, p);
+    let r = s.len;
+    let square = s.x * s.x + s.y * s.y;
     for i in start..end {
         let q = point_at(points, i + 1);
         let t = Spoke::new(m, q);
-        let len = get_length(q.x - p.x, q.y - p.y);
-        worst = worst.or(step_deviation(len, s, t, r), i);
+        worst = worst.or(deviation_of_step(p, q, s, t, r, square), i);
         let ok = worst.dist < tolerance;
         if !ok {
             return false;
@@ -338,13 +361,21 @@ pub enum Trial {
 impl Trial {
     // A range whose ends are nearer than this is closed.
     pub const CLOSED: f64 = 1e-6;
+    // The root of this is above CLOSED: a range is not closed where the square of its ends' distance is at least this.
+    pub const CLOSED_SQUARE: f64 = 1e-11;
 }
 
 // Whether the range's ends all but meet.
 fn is_closed_range(a: Point3D, b: Point3D) -> bool
     ensures { λ r. ⌜ r ≡ closedRange a b ⌝ }
 {
-    get_length(a.x - b.x, a.y - b.y) < Trial::CLOSED
+    let dx = a.x - b.x;
+    let dy = a.y - b.y;
+    let l = dx * dx + dy * dy;
+    if Trial::CLOSED_SQUARE <= l {
+        return false;
+    }
+    sqrt(l) < Trial::CLOSED
 }
 
 // The arc round a fitted centre, moved to the bisector of the range's ends. Its radius is measured again from there.
@@ -354,8 +385,7 @@ fn trial_of(points: &[f64], start: usize, end: usize, tolerance: f64, fitted: Po
 {
     let a = point_at(points, start);
     let center = to_bisector(a, point_at(points, end), fitted);
-    let radius = get_radius(center, a);
-    if !is_arc_within(points, start, end, center, radius, tolerance) {
+    if !is_arc_within(points, start, end, center, tolerance) {
         return Trial::None;
     }
     if !traversal_passes(points, start, end, center) {
@@ -372,17 +402,10 @@ fn trial_of_three(points: &[f64], start: usize, end: usize, tolerance: f64) -> T
     let a = point_at(points, start);
     let b = point_at(points, start + 1);
     let c = point_at(points, end);
-    let t = circle_through(a, b, c);
+    let t = center_through(a, b, c);
     match t {
-        CircleThrough::Around { center, radius: _ } => trial_of(
-            points,
-            start,
-            end,
-            tolerance,
-            center,
-        ),
-        CircleThrough::None => Trial::None,
-        CircleThrough::Refused(_) => Trial::None,
+        CenterThrough::At(center) => trial_of(points, start, end, tolerance, center),
+        CenterThrough::None => Trial::None,
     }
 }
 

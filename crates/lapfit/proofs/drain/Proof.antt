@@ -8,10 +8,13 @@ use Rattle.lapfit.proofs.drain.Statement.{statement}
 use Rattle.lapfit.proofs.drain.Tie as tie
 
 abbrev Inv-loop : tie.InvT-loop
-Inv-loop rest₀ counter₀ rest counter = 65536 ≡ length rest
+Inv-loop n rest₀ counter₀ rest counter = 65536 ≡ length rest
 
 abbrev μ-loop : tie.MeasureT-loop
-μ-loop rest₀ counter₀ rest counter = 18446744073709551615 - counter
+μ-loop n rest₀ counter₀ rest counter = 18446744073709551615 - counter
+
+returns : tie.Need-returns Inv-loop μ-loop
+returns c = search needs
 
 large-buffer-requires : tie.Need-large-buffer-requires Inv-loop μ-loop
 large-buffer-requires c κs = search needs
@@ -25,8 +28,8 @@ slice-aggregate-read-full c = omega arith
 read-full-requires : tie.Need-read-full-requires Inv-loop μ-loop
 read-full-requires c κs = search needs
 
-returns : tie.Need-returns Inv-loop μ-loop
-returns c = search needs
+returns-2 : tie.Need-returns-2 Inv-loop μ-loop
+returns-2 c = search needs
 
 add-counter : tie.Need-add-counter Inv-loop μ-loop
 add-counter c = omega arith
@@ -37,8 +40,8 @@ loop-less c = omega arith
 loop-again : tie.Need-loop-again Inv-loop μ-loop
 loop-again c = omega arith
 
-returns-2 : tie.Need-returns-2 Inv-loop μ-loop
-returns-2 c = search needs
+returns-3 : tie.Need-returns-3 Inv-loop μ-loop
+returns-3 c = search needs
 
 pub drain-spec : {M : Type 1} → statement M
 drain-spec =
@@ -46,12 +49,13 @@ drain-spec =
     (tie.spec
     Inv-loop
     μ-loop
+    returns
     large-buffer-requires
     loop-holds
     slice-aggregate-read-full
     read-full-requires
-    returns
+    returns-2
     add-counter
     loop-less
     loop-again
-    returns-2)
+    returns-3)

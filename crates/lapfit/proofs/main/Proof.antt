@@ -1,26 +1,24 @@
--- `lapfit::main` meets its contract: an input that is not refused has 16 bytes or more. Assumes nothing.
+-- `lapfit::main` meets its contract: the text that is printed lies in the output. Assumes nothing.
 use Prim.Native.Nat.{ℕ, _≤_}
-use mathlib.Core.Path.{_≡_, refl, sym, _∙_}
-use mathlib.Core.Bool.{Bool, true, false}
+use mathlib.Core.Path.{_≡_, sym, ap, _∙_}
 use mathlib.Core.List.{List}
 use native.Mathlib.Omega.{arith}
-use borrow.Author.Tests.{ltb-false}
-use lib.ListN.{length}
-use lib.Dec.{ltb}
+use lib.ListN.{length, drop, length-append, length-take}
+use Rattle.types.specs.declared.types.Answer.{Answer}
 use Rattle.types.specs.declared.types.Answer.the-variants.{Written, Refused}
-use Rattle.types.specs.Outcome.{answer}
-use Rattle.lapfit.specs.Input.{fitInput}
+use Rattle.types.specs.Outcome.{Outcome, refused, gives, answer, left, Wrote}
 use borrow.Author.Needs.{needs}
 use Rattle.lapfit.proofs.main.Statement.{statement}
 use Rattle.lapfit.proofs.main.Tie as tie
 
-long-enough : (s : List ℕ) (room m : ℕ) → Written m ≡ answer (fitInput s room) → 16 ≤ length s
-unfolding fitInput
-long-enough s room m e = either (ltb (length s) 16) refl
-  where
-    either : (t : Bool) → ltb (length s) 16 ≡ t → 16 ≤ length s
-    either true q = let d : Written m ≡ Refused 1 = e ∙ (unfold answer in rw q) in let z : _≡_ {A = ℕ} 0 1 = cc in absurd (omega arith)
-    either false q = ltb-false (length s) 16 q
+-- what is written to an output fits into it
+written-few : (o : Outcome (List ℕ)) (out out′ : List ℕ) (r : Answer) (m : ℕ) → Wrote (λ (bytes : List ℕ). bytes) o out out′ r → r ≡ Written m → m ≤ length out′
+unfolding answer left
+written-few (refused n) out out′ r m w e = let d : Written m ≡ Refused n = sym e ∙ w .says in let z : _≡_ {A = ℕ} 0 1 = cc in absurd (omega arith)
+written-few (gives xs) out out′ r m w e =
+    let d : Written m ≡ Written (length xs) = sym e ∙ w .says in
+    let z : m ≡ length xs = cc in
+    let l = ap length (w .leaves) ∙ length-append xs (drop (length xs) out) in omega arith
 
 input-buffer-requires : tie.Need-input-buffer-requires
 input-buffer-requires c κs = search needs
@@ -40,35 +38,35 @@ drain-requires c κs = search needs
 array-share-prefix-input : tie.Need-array-share-prefix-input
 array-share-prefix-input c = search needs
 
-slice-aggregate-fit-input : tie.Need-slice-aggregate-fit-input
-slice-aggregate-fit-input c = search needs
+slice-aggregate-list-input : tie.Need-slice-aggregate-list-input
+slice-aggregate-list-input c = search needs
 
-slice-aggregate-fit-input-2 : tie.Need-slice-aggregate-fit-input-2
-slice-aggregate-fit-input-2 c = search needs
+slice-aggregate-list-input-2 : tie.Need-slice-aggregate-list-input-2
+slice-aggregate-list-input-2 c = search needs
 
-fit-input-requires : tie.Need-fit-input-requires
-fit-input-requires c κs = search needs
+list-input-requires : tie.Need-list-input-requires
+list-input-requires c κs = search needs
 
-enum-told : tie.Need-enum-told
-enum-told c = search needs
+enum-known-m : tie.Need-enum-known-m
+enum-known-m c = search needs
 
-array-share-prefix-input-2 : tie.Need-array-share-prefix-input-2
-array-share-prefix-input-2 c = search needs
+array-share-prefix-out : tie.Need-array-share-prefix-out
+array-share-prefix-out c = written-few _ _ _ _ _ (c .before .before .before .before .list-input .ensures) (c .before .m .given .1)
 
-slice-aggregate-print-listing : tie.Need-slice-aggregate-print-listing
-slice-aggregate-print-listing c = search needs
+slice-aggregate-write-all : tie.Need-slice-aggregate-write-all
+slice-aggregate-write-all c = let h = written-few _ _ _ _ _ (c .before .before .before .before .before .list-input .ensures) (c .before .before .m .given .1) in simp length-take (omega (arith, h))
 
-print-listing-requires : tie.Need-print-listing-requires
-print-listing-requires c κs = long-enough _ _ _ (sym (c .before .enum-told .given .1) ∙ c .before .before .before .before .fit-input .ensures .says)
+write-all-requires : tie.Need-write-all-requires
+write-all-requires c κs = search needs
 
 enum-known-number : tie.Need-enum-known-number
 enum-known-number c = search needs
 
-slice-aggregate-write-all : tie.Need-slice-aggregate-write-all
-slice-aggregate-write-all c = search needs
+slice-aggregate-write-all-2 : tie.Need-slice-aggregate-write-all-2
+slice-aggregate-write-all-2 c = search needs
 
-write-all-requires : tie.Need-write-all-requires
-write-all-requires c κs = search needs
+write-all-requires-2 : tie.Need-write-all-requires-2
+write-all-requires-2 c κs = search needs
 
 cast-print-decimal : tie.Need-cast-print-decimal
 cast-print-decimal c = search needs
@@ -76,11 +74,11 @@ cast-print-decimal c = search needs
 print-decimal-requires : tie.Need-print-decimal-requires
 print-decimal-requires c κs = search needs
 
-slice-aggregate-write-all-2 : tie.Need-slice-aggregate-write-all-2
-slice-aggregate-write-all-2 c = search needs
+slice-aggregate-write-all-3 : tie.Need-slice-aggregate-write-all-3
+slice-aggregate-write-all-3 c = search needs
 
-write-all-requires-2 : tie.Need-write-all-requires-2
-write-all-requires-2 c κs = search needs
+write-all-requires-3 : tie.Need-write-all-requires-3
+write-all-requires-3 c κs = search needs
 
 returns : tie.Need-returns
 returns c = search needs
@@ -98,19 +96,19 @@ main-spec =
     read-full-requires
     drain-requires
     array-share-prefix-input
-    slice-aggregate-fit-input
-    slice-aggregate-fit-input-2
-    fit-input-requires
-    enum-told
-    array-share-prefix-input-2
-    slice-aggregate-print-listing
-    print-listing-requires
-    enum-known-number
+    slice-aggregate-list-input
+    slice-aggregate-list-input-2
+    list-input-requires
+    enum-known-m
+    array-share-prefix-out
     slice-aggregate-write-all
     write-all-requires
-    cast-print-decimal
-    print-decimal-requires
+    enum-known-number
     slice-aggregate-write-all-2
     write-all-requires-2
+    cast-print-decimal
+    print-decimal-requires
+    slice-aggregate-write-all-3
+    write-all-requires-3
     returns
     returns-2)

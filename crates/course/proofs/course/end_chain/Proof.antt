@@ -1,21 +1,24 @@
 -- `course::course::end_chain` meets its contract: the chain's commands are written, and the command behind them. Assumes nothing.
+use Prim.Native.Nat.{_*_}
+use mathlib.Core.List.{_++_}
+use lib.ListN.{drop}
 use native.Mathlib.Omega.{arith}
 use mathlib.Core.Path.{refl, sym}
 use Rattle.course.specs.Course.{flushedBy}
 use Rattle.course.specs.Parts.{ends}
 use Rattle.course.specs.Walks.{underWay}
 use Rattle.course.proofs.Stepping.{placed-kinds, placed-numbers, front-length, ends-room}
-use Rattle.course.proofs.Walking.{stepped-ends}
+use Rattle.course.proofs.Walking.{length-refront, stepped-ends}
 use Rattle.course.proofs.Chains.{flushed-few}
 use borrow.Author.Needs.{needs}
 use Rattle.course.proofs.course.end_chain.Statement.{statement}
 use Rattle.course.proofs.course.end_chain.Tie as tie
 
 mul-flush-by : tie.Need-mul-flush-by
-mul-flush-by c = let r = ends-room (c .before .before .before .before .args .c) (c .before .before .before .before .args .w) (c .before .before .before .before .args .chain .now) _ _ (c .before .before .before .before .pre .1) in omega (arith, r)
+mul-flush-by c = search needs
 
-slice-reshare-prefix-flush-by : tie.Need-slice-reshare-prefix-flush-by
-slice-reshare-prefix-flush-by c = let r = c .before .before .before .before .pre .1 .inside in omega (arith, r)
+slice-relend-prefix-flush-by : tie.Need-slice-relend-prefix-flush-by
+slice-relend-prefix-flush-by c = search needs
 
 slice-aggregate-flush-by : tie.Need-slice-aggregate-flush-by
 slice-aggregate-flush-by c = sym (front-length (c .before .before .before .before .before .args .c) (c .before .before .before .before .before .args .w) (c .before .before .before .before .before .args .chain .now) _ _ ends (c .before .before .before .before .before .pre .1))
@@ -26,18 +29,18 @@ flush-by-requires c κs = let a = c .before .before .before .before .before .bef
     let l = front-length (a .c) (a .w) (a .chain .now) _ _ ends (c .before .before .before .before .before .before .before .pre .1) in (c .before .before .before .before .before .before .before .pre .0, (omega (arith, r, l), omega (arith, r, l), omega (arith, r, l)))
 
 add-put-command : tie.Need-add-put-command
-add-put-command c = let a = c .before .before .before .before .before .before .before .before .before .before .before .before .before .before .before .args in
-    let r = ends-room (a .c) (a .w) (a .chain .now) _ _ (c .before .before .before .before .before .before .before .before .before .before .before .before .before .before .before .pre .1) in
-    let l = front-length (a .c) (a .w) (a .chain .now) _ _ ends (c .before .before .before .before .before .before .before .before .before .before .before .before .before .before .before .pre .1) in
-    let f = flushed-few (a .how) (a .tolerance) (c .before .before .before .before .before .before .before .before .before .before .before .before .before .before .before .pre .0) (underWay (a .w) (a .chain .now)) in
-    let n = c .before .before .before .before .before .before .before .flush-by .ensures .count in omega (arith, r, l, f, n)
+add-put-command c = let a = c .before .before .before .before .before .before .before .before .before .before .before .before .before .before .before .before .before .args in
+    let r = ends-room (a .c) (a .w) (a .chain .now) _ _ (c .before .before .before .before .before .before .before .before .before .before .before .before .before .before .before .before .before .pre .1) in
+    let l = front-length (a .c) (a .w) (a .chain .now) _ _ ends (c .before .before .before .before .before .before .before .before .before .before .before .before .before .before .before .before .before .pre .1) in
+    let f = flushed-few (a .how) (a .tolerance) (c .before .before .before .before .before .before .before .before .before .before .before .before .before .before .before .before .before .pre .0) (underWay (a .w) (a .chain .now)) in
+    let n = c .before .before .before .before .before .before .before .before .before .flush-by .ensures .0 .count in omega (arith, r, l, f, n)
 
 put-command-requires : tie.Need-put-command-requires
-put-command-requires c κs = let a = c .before .before .before .before .before .before .before .before .before .before .before .before .before .before .before .args in
-    let r = ends-room (a .c) (a .w) (a .chain .now) _ _ (c .before .before .before .before .before .before .before .before .before .before .before .before .before .before .before .pre .1) in
-    let l = front-length (a .c) (a .w) (a .chain .now) _ _ ends (c .before .before .before .before .before .before .before .before .before .before .before .before .before .before .before .pre .1) in
-    let f = flushed-few (a .how) (a .tolerance) (c .before .before .before .before .before .before .before .before .before .before .before .before .before .before .before .pre .0) (underWay (a .w) (a .chain .now)) in
-    let p = c .before .before .before .before .before .before .before .flush-by .ensures in
+put-command-requires c κs = let a = c .before .before .before .before .before .before .before .before .before .before .before .before .before .before .before .before .before .args in
+    let r = ends-room (a .c) (a .w) (a .chain .now) _ _ (c .before .before .before .before .before .before .before .before .before .before .before .before .before .before .before .before .before .pre .1) in
+    let l = front-length (a .c) (a .w) (a .chain .now) _ _ ends (c .before .before .before .before .before .before .before .before .before .before .before .before .before .before .before .before .before .pre .1) in
+    let f = flushed-few (a .how) (a .tolerance) (c .before .before .before .before .before .before .before .before .before .before .before .before .before .before .before .before .before .pre .0) (underWay (a .w) (a .chain .now)) in
+    let p = c .before .before .before .before .before .before .before .before .before .flush-by .ensures .0 in
     let n = p .count in
     let lk = placed-kinds _ _ _ _ _ _ _ p in
     let ln = placed-numbers _ _ _ _ _ _ _ p in (omega (arith, r, l, f, n, lk), omega (arith, r, l, f, n, ln))
@@ -46,21 +49,21 @@ end-point-requires : tie.Need-end-point-requires
 end-point-requires c κs = search needs
 
 put-point-requires : tie.Need-put-point-requires
-put-point-requires c κs = let b = c .before .before .before .before .before .before .before .before .before .before .before .before .before .before .before .before .before .before .before .before .before .before .pre .1 .buffer in omega (arith, b)
+put-point-requires c κs = search needs
 
 add-t10 : tie.Need-add-t10
-add-t10 c = let a = c .before .before .before .before .before .before .before .before .before .before .before .before .before .before .before .before .before .before .before .before .before .before .before .before .before .before .args in
-    let r = ends-room (a .c) (a .w) (a .chain .now) _ _ (c .before .before .before .before .before .before .before .before .before .before .before .before .before .before .before .before .before .before .before .before .before .before .before .before .before .before .pre .1) in
-    let l = front-length (a .c) (a .w) (a .chain .now) _ _ ends (c .before .before .before .before .before .before .before .before .before .before .before .before .before .before .before .before .before .before .before .before .before .before .before .before .before .before .pre .1) in
-    let f = flushed-few (a .how) (a .tolerance) (c .before .before .before .before .before .before .before .before .before .before .before .before .before .before .before .before .before .before .before .before .before .before .before .before .before .before .pre .0) (underWay (a .w) (a .chain .now)) in
-    let n = c .before .before .before .before .before .before .before .before .before .before .before .before .before .before .before .before .before .before .flush-by .ensures .count in omega (arith, r, l, f, n)
+add-t10 c = let a = c .before .before .before .before .before .before .before .before .before .before .before .before .before .before .before .before .before .before .before .before .before .before .before .before .before .before .before .before .args in
+    let r = ends-room (a .c) (a .w) (a .chain .now) _ _ (c .before .before .before .before .before .before .before .before .before .before .before .before .before .before .before .before .before .before .before .before .before .before .before .before .before .before .before .before .pre .1) in
+    let l = front-length (a .c) (a .w) (a .chain .now) _ _ ends (c .before .before .before .before .before .before .before .before .before .before .before .before .before .before .before .before .before .before .before .before .before .before .before .before .before .before .before .before .pre .1) in
+    let f = flushed-few (a .how) (a .tolerance) (c .before .before .before .before .before .before .before .before .before .before .before .before .before .before .before .before .before .before .before .before .before .before .before .before .before .before .before .before .pre .0) (underWay (a .w) (a .chain .now)) in
+    let n = c .before .before .before .before .before .before .before .before .before .before .before .before .before .before .before .before .before .before .before .before .flush-by .ensures .0 .count in omega (arith, r, l, f, n)
 
 add-t24 : tie.Need-add-t24
-add-t24 c = let a = c .before .before .before .before .before .before .before .before .before .before .before .before .before .before .before .before .before .before .before .before .before .before .before .before .before .before .args in
-    let r = ends-room (a .c) (a .w) (a .chain .now) _ _ (c .before .before .before .before .before .before .before .before .before .before .before .before .before .before .before .before .before .before .before .before .before .before .before .before .before .before .pre .1) in
-    let l = front-length (a .c) (a .w) (a .chain .now) _ _ ends (c .before .before .before .before .before .before .before .before .before .before .before .before .before .before .before .before .before .before .before .before .before .before .before .before .before .before .pre .1) in
-    let f = flushed-few (a .how) (a .tolerance) (c .before .before .before .before .before .before .before .before .before .before .before .before .before .before .before .before .before .before .before .before .before .before .before .before .before .before .pre .0) (underWay (a .w) (a .chain .now)) in
-    let n = c .before .before .before .before .before .before .before .before .before .before .before .before .before .before .before .before .before .before .flush-by .ensures .count in omega (arith, r, l, f, n)
+add-t24 c = let a = c .before .before .before .before .before .before .before .before .before .before .before .before .before .before .before .before .before .before .before .before .before .before .before .before .before .before .before .before .args in
+    let r = ends-room (a .c) (a .w) (a .chain .now) _ _ (c .before .before .before .before .before .before .before .before .before .before .before .before .before .before .before .before .before .before .before .before .before .before .before .before .before .before .before .before .pre .1) in
+    let l = front-length (a .c) (a .w) (a .chain .now) _ _ ends (c .before .before .before .before .before .before .before .before .before .before .before .before .before .before .before .before .before .before .before .before .before .before .before .before .before .before .before .before .pre .1) in
+    let f = flushed-few (a .how) (a .tolerance) (c .before .before .before .before .before .before .before .before .before .before .before .before .before .before .before .before .before .before .before .before .before .before .before .before .before .before .before .before .pre .0) (underWay (a .w) (a .chain .now)) in
+    let n = c .before .before .before .before .before .before .before .before .before .before .before .before .before .before .before .before .before .before .before .before .flush-by .ensures .0 .count in omega (arith, r, l, f, n)
 
 same-length : tie.Need-same-length
 same-length c = search needs
@@ -72,16 +75,17 @@ same-length-3 : tie.Need-same-length-3
 same-length-3 c = search needs
 
 returns : tie.Need-returns
-returns c = let a = c .before .before .before .before .before .before .before .before .before .before .before .before .before .before .before .before .before .before .before .before .before .before .before .before .before .before .args in
-    let b = c .before .before .before .before .before .before .before .before .before .before .before .before .before .before .before .before .before .before .before .before .before .before .before .before .before .before .pre .1 .buffer in
-    stepped-ends (flushedBy (a .how) (a .tolerance)) (a .c) (a .w) (a .chain .now) 0 0 (a .kinds .now) (a .nums .now) _ _ _ _ _ (omega (arith, b)) (c .before .before .before .before .before .before .before .before .before .before .before .before .before .before .before .before .before .before .flush-by .ensures) (c .before .before .before .before .before .before .before .before .before .before .put-command .ensures .0) (c .before .before .before .before .before .before .before .before .before .before .put-command .ensures .1) _ _ _ (c .before .before .before .before .before .end-point .ensures) refl (c .before .before .before .put-point .ensures)
+returns c = let a = c .before .before .before .before .before .before .before .before .before .before .before .before .before .before .before .before .before .before .before .before .before .before .before .before .before .before .before .before .args in
+    let b = c .before .before .before .before .before .before .before .before .before .before .before .before .before .before .before .before .before .before .before .before .before .before .before .before .before .before .before .before .pre .1 .buffer in
+    let t = c .before .before .before .before .before .before .before .before .before .before .before .before .before .before .before .before .before .before .before .before .flush-by .last .1 .0 in
+    stepped-ends (flushedBy (a .how) (a .tolerance)) (a .c) (a .w) (a .chain .now) 0 0 (a .kinds .now) (a .nums .now) _ _ _ _ _ (t ++ drop (3 * a .w .points) (a .chain .now)) (length-refront (3 * a .w .points) (a .chain .now) t (c .before .before .before .before .before .before .before .before .before .before .before .before .before .before .before .before .before .before .before .before .before .before .before .before .before .before .before .before .pre .1 .inside) (c .before .before .before .before .before .before .before .before .before .before .before .before .before .before .before .before .before .before .before .before .flush-by .ensures .1)) (omega (arith, b)) (c .before .before .before .before .before .before .before .before .before .before .before .before .before .before .before .before .before .before .before .before .flush-by .ensures .0) (c .before .before .before .before .before .before .before .before .before .before .put-command .ensures .0) (c .before .before .before .before .before .before .before .before .before .before .put-command .ensures .1) _ _ _ (c .before .before .before .before .before .end-point .ensures) refl (c .before .before .before .put-point .ensures)
 
 pub end-chain-spec : {M : Type 1} → statement M
 end-chain-spec =
     tie.close
     (tie.spec
     mul-flush-by
-    slice-reshare-prefix-flush-by
+    slice-relend-prefix-flush-by
     slice-aggregate-flush-by
     flush-by-requires
     add-put-command

@@ -1,5 +1,6 @@
 -- `course::course::fit_arcs` meets its contract: a refusal is the table's, and what passed the checks meets what `fit_course` asks. Assumes nothing.
 use native.Mathlib.Omega.{arith}
+use mathlib.Core.Path.{refl}
 use lib.ListN.{length}
 use Rattle.types.proofs.Outcomes.{commands-refused}
 use Rattle.course.specs.Course.{arcsCall}
@@ -15,11 +16,14 @@ returns : tie.Need-returns
 unfolding arcsCall
 returns c = commands-refused _ _ (c .before .check-course .ensures) _ _ _ (c .if1 .taken)
 
+slice-aggregate-fit-course : tie.Need-slice-aggregate-fit-course
+slice-aggregate-fit-course c = search needs
+
 fit-course-requires : tie.Need-fit-course-requires
-fit-course-requires c κs = let a = c .before .before .before .before .before .before .before .before .args in
-    let r = arcs-accepted (a .kinds .now) (a .nums .now) (a .tolerance) (length (a .out-kinds .now)) (length (a .out-nums .now)) _ (c .before .before .before .check-course .ensures) (c .before .before .if1 .left) in
+fit-course-requires c κs = let a = c .before .before .before .before .before .before .before .before .before .args in
+    let r = arcs-accepted (a .kinds .now) (a .nums .now) (a .tolerance) (length (a .out-kinds .now)) (length (a .out-nums .now)) _ (c .before .before .before .before .check-course .ensures) (c .before .before .before .if1 .left) in
     let n = r .nine-each in
-    let k = r .room-numbers in (r .above-zero, (omega (arith, n), r .not-many, r .room-kinds, omega (arith, k)))
+    let k = r .room-numbers in (r .above-zero, (omega (arith, n), r .not-many, r .room-kinds, omega (arith, k), refl))
 
 same-length : tie.Need-same-length
 same-length c = search needs
@@ -28,7 +32,7 @@ same-length-2 : tie.Need-same-length-2
 same-length-2 c = search needs
 
 returns-2 : tie.Need-returns-2
-returns-2 c = let a = c .before .before .before .before .before .before .before .before .before .before .before .before .before .args in wrote-arcs (a .kinds .now) (a .nums .now) (a .tolerance) (a .out-kinds .now) _ (a .out-nums .now) _ _ _ (c .before .before .before .before .before .before .before .before .check-course .ensures) (c .before .before .before .before .before .before .before .if1 .left) (c .before .before .before .before .fit-course .ensures)
+returns-2 c = let a = c .before .before .before .before .before .before .before .before .before .before .before .before .before .before .before .args in wrote-arcs (a .kinds .now) (a .nums .now) (a .tolerance) (a .out-kinds .now) _ (a .out-nums .now) _ _ _ (c .before .before .before .before .before .before .before .before .before .before .check-course .ensures) (c .before .before .before .before .before .before .before .before .before .if1 .left) (c .before .before .before .before .before .fit-course .ensures .0)
 
 pub fit-arcs-spec : {M : Type 1} → statement M
 fit-arcs-spec =
@@ -36,6 +40,7 @@ fit-arcs-spec =
     (tie.spec
     check-course-requires
     returns
+    slice-aggregate-fit-course
     fit-course-requires
     same-length
     same-length-2

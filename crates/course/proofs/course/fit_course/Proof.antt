@@ -7,9 +7,9 @@ use Rattle.course.proofs.course.fit_course.Statement.{statement}
 use Rattle.course.proofs.course.fit_course.Tie as tie
 
 walk-course-requires : tie.Need-walk-course-requires
-walk-course-requires c κs = let a = c .before .before .before .before .before .before .args in
-    let p = c .before .before .before .before .before .before .pre .1 in
-    let m = course-most (a .tolerance) (lentCourse (a .kinds .now) (a .nums .now)) in (c .before .before .before .before .before .before .pre .0, (p .0, omega (arith, p, m), omega (arith, p, m), omega (arith, p, m)))
+walk-course-requires c κs = let a = c .before .before .before .before .before .before .before .before .args in
+    let p = c .before .before .before .before .before .before .before .before .pre .1 in
+    let m = course-most (a .tolerance) (lentCourse (a .kinds .now) (a .nums .now)) in (c .before .before .before .before .before .before .before .before .pre .0, (p .0, omega (arith, p, m), omega (arith, p, m), omega (arith, p, m), p .4))
 
 same-length : tie.Need-same-length
 same-length c = search needs
@@ -17,8 +17,13 @@ same-length c = search needs
 same-length-2 : tie.Need-same-length-2
 same-length-2 c = search needs
 
+same-length-3 : tie.Need-same-length-3
+same-length-3 c = search needs
+
 returns : tie.Need-returns
-returns c = let a = c .before .before .before .before .before .before .before .before .before .before .before .args in fitted-course (course-fit (a .tolerance) (lentCourse (a .kinds .now) (a .nums .now))) _ (a .out-kinds .now) _ (a .out-nums .now) _ (c .before .before .before .before .walk-course .ensures)
+returns c = let a = c .before .before .before .before .before .before .before .before .before .before .before .before .before .before .before .args in
+    (fitted-course (course-fit (a .tolerance) (lentCourse (a .kinds .now) (a .nums .now))) _ (a .out-kinds .now) _ (a .out-nums .now) _ (c .before .before .before .before .before .before .walk-course .ensures .0), c .before .before .before .before .before .before .walk-course .ensures .1)
 
 pub fit-course-spec : {M : Type 1} → statement M
-fit-course-spec = tie.close (tie.spec walk-course-requires same-length same-length-2 returns)
+fit-course-spec =
+    tie.close (tie.spec walk-course-requires same-length same-length-2 same-length-3 returns)

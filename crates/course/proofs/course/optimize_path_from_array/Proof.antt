@@ -1,4 +1,5 @@
 -- `course::course::optimize_path_from_array` meets its contract: a refusal is the table's, and the most of a path is its command count. Assumes nothing.
+use mathlib.Core.Path.{refl}
 use Rattle.types.proofs.Outcomes.{commands-refused}
 use Rattle.course.specs.Course.{optimizeCall}
 use Rattle.course.proofs.Paths.{placed-as, path-accepted, wrote-path}
@@ -16,8 +17,13 @@ returns c = commands-refused _ _ (c .before .refuse-commands .ensures) _ _ _ (c 
 path-flush-requires : tie.Need-path-flush-requires
 path-flush-requires c κs = search needs
 
+slice-aggregate-walk-course : tie.Need-slice-aggregate-walk-course
+slice-aggregate-walk-course c = search needs
+
 walk-course-requires : tie.Need-walk-course-requires
-walk-course-requires c κs = let a = c .before .before .before .before .before .before .before .before .before .args in rw (c .before .before .path-flush .ensures) (path-accepted (a .kinds .now) (a .nums .now) (a .tolerance) (a .use-fit-arcs) (a .out-kinds .now) (a .out-nums .now) _ (c .before .before .before .before .refuse-commands .ensures) (c .before .before .before .if1 .left))
+walk-course-requires c κs = let a = c .before .before .before .before .before .before .before .before .before .before .args in
+    let q = path-accepted (a .kinds .now) (a .nums .now) (a .tolerance) (a .use-fit-arcs) (a .out-kinds .now) (a .out-nums .now) _ (c .before .before .before .before .before .refuse-commands .ensures) (c .before .before .before .before .if1 .left) in
+    rw (c .before .before .before .path-flush .ensures) (q .0, (q .1 .0, q .1 .1, q .1 .2, q .1 .3, refl))
 
 same-length : tie.Need-same-length
 same-length c = search needs
@@ -26,7 +32,7 @@ same-length-2 : tie.Need-same-length-2
 same-length-2 c = search needs
 
 returns-2 : tie.Need-returns-2
-returns-2 c = let a = c .before .before .before .before .before .before .before .before .before .before .before .before .before .before .args in wrote-path (a .kinds .now) (a .nums .now) (a .tolerance) (a .use-fit-arcs) (a .out-kinds .now) (a .out-nums .now) _ (c .before .before .before .before .before .before .before .before .before .refuse-commands .ensures) (c .before .before .before .before .before .before .before .before .if1 .left) _ _ _ (placed-as (c .before .before .before .before .before .before .before .path-flush .ensures) (a .tolerance) _ _ (a .out-kinds .now) _ (a .out-nums .now) _ (c .before .before .before .before .walk-course .ensures))
+returns-2 c = let a = c .before .before .before .before .before .before .before .before .before .before .before .before .before .before .before .before .args in wrote-path (a .kinds .now) (a .nums .now) (a .tolerance) (a .use-fit-arcs) (a .out-kinds .now) (a .out-nums .now) _ (c .before .before .before .before .before .before .before .before .before .before .before .refuse-commands .ensures) (c .before .before .before .before .before .before .before .before .before .before .if1 .left) _ _ _ (placed-as (c .before .before .before .before .before .before .before .before .before .path-flush .ensures) (a .tolerance) _ _ (a .out-kinds .now) _ (a .out-nums .now) _ (c .before .before .before .before .before .walk-course .ensures .0))
 
 pub optimize-path-from-array-spec : {M : Type 1} → statement M
 optimize-path-from-array-spec =
@@ -35,6 +41,7 @@ optimize-path-from-array-spec =
     refuse-commands-requires
     returns
     path-flush-requires
+    slice-aggregate-walk-course
     walk-course-requires
     same-length
     same-length-2

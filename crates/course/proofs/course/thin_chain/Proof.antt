@@ -1,4 +1,4 @@
--- `course::course::thin_chain` meets its contract: what `thin_points` leaves at the front of the buffer is the thinned chain. Assumes nothing.
+-- `course::course::thin_chain` meets its contract: what `thin_in_place` leaves at the front of the chain is the chain, thinned. Assumes nothing.
 use native.Mathlib.Omega.{arith}
 use mathlib.Core.Path.{sym}
 use Rattle.number.proofs.Unsigned.{square-not-negative}
@@ -8,29 +8,26 @@ use borrow.Author.Needs.{needs}
 use Rattle.course.proofs.course.thin_chain.Statement.{statement}
 use Rattle.course.proofs.course.thin_chain.Tie as tie
 
-slice-aggregate-thin-points : tie.Need-slice-aggregate-thin-points
-slice-aggregate-thin-points c = search needs
+thin-in-place-requires : tie.Need-thin-in-place-requires
+thin-in-place-requires c κs = (square-not-negative (c .before .before .before .before .args .tolerance), omega (arith, c .before .before .before .before .pre))
 
-thin-points-requires : tie.Need-thin-points-requires
-thin-points-requires c κs = (square-not-negative (c .before .before .before .before .args .tolerance), omega (arith, c .before .before .before .before .pre))
-
-mul-kept : tie.Need-mul-kept
-mul-kept c = let a = c .before .before .before .before .before .before .args in
+mul-put-lines : tie.Need-mul-put-lines
+mul-put-lines c = let a = c .before .before .before .before .before .before .before .args in
     let f = kept-few (a .tolerance) (a .chain .now) in
-    let e = c .before .thin-points .ensures .count in omega (arith, c .before .before .before .before .before .before .pre)
+    let e = c .before .before .thin-in-place .ensures .count in omega (arith, c .before .before .before .before .before .before .before .pre)
 
-array-share-prefix-kept : tie.Need-array-share-prefix-kept
-array-share-prefix-kept c = let a = c .before .before .before .before .before .before .args in kept-fits (a .tolerance) (a .chain .now) _ _ _ (c .before .thin-points .ensures) (omega (arith, c .before .before .before .before .before .before .pre))
+slice-reshare-prefix-put-lines : tie.Need-slice-reshare-prefix-put-lines
+slice-reshare-prefix-put-lines c = let a = c .before .before .before .before .before .before .before .args in kept-fits (a .tolerance) (a .chain .now) _ _ _ (c .before .before .thin-in-place .ensures) (omega arith)
 
 slice-aggregate-put-lines : tie.Need-slice-aggregate-put-lines
-slice-aggregate-put-lines c = let a = c .before .before .before .before .before .before .before .args in sym (kept-wide (a .tolerance) (a .chain .now) _ _ _ (c .before .before .thin-points .ensures) (omega (arith, c .before .before .before .before .before .before .before .pre)))
+slice-aggregate-put-lines c = let a = c .before .before .before .before .before .before .before .before .args in sym (kept-wide (a .tolerance) (a .chain .now) _ _ _ (c .before .before .before .thin-in-place .ensures) (omega arith))
 
 put-lines-requires : tie.Need-put-lines-requires
-put-lines-requires c κs = let a = c .before .before .before .before .before .before .before .before .before .args in
+put-lines-requires c κs = let a = c .before .before .before .before .before .before .before .before .before .before .args in
     let f = kept-few (a .tolerance) (a .chain .now) in
-    let e = c .before .before .before .before .thin-points .ensures .count in
-    let w = kept-wide (a .tolerance) (a .chain .now) _ _ _ (c .before .before .before .before .thin-points .ensures) (omega (arith, c .before .before .before .before .before .before .before .before .before .pre)) in
-    let p = c .before .before .before .before .before .before .before .before .before .pre in (omega arith, omega (arith, p), omega (arith, p))
+    let e = c .before .before .before .before .before .thin-in-place .ensures .count in
+    let w = kept-wide (a .tolerance) (a .chain .now) _ _ _ (c .before .before .before .before .before .thin-in-place .ensures) (omega arith) in
+    let p = c .before .before .before .before .before .before .before .before .before .before .pre in (omega arith, omega (arith, p), omega (arith, p))
 
 same-length : tie.Need-same-length
 same-length c = search needs
@@ -38,19 +35,23 @@ same-length c = search needs
 same-length-2 : tie.Need-same-length-2
 same-length-2 c = search needs
 
+same-length-3 : tie.Need-same-length-3
+same-length-3 c = search needs
+
 returns : tie.Need-returns
-returns c = let a = c .before .before .before .before .before .before .before .before .before .before .before .before .before .before .args in thinned-lines (a .tolerance) (a .chain .now) _ _ _ (a .at) _ (a .kinds .now) _ (a .nums .now) _ (c .before .before .before .before .before .before .before .before .before .thin-points .ensures) (omega (arith, c .before .before .before .before .before .before .before .before .before .before .before .before .before .before .pre)) (c .before .before .before .before .put-lines .ensures)
+returns c = let a = c .before .before .before .before .before .before .before .before .before .before .before .before .before .before .before .args in
+    (thinned-lines (a .tolerance) (a .chain .now) _ _ _ (a .at) _ (a .kinds .now) _ (a .nums .now) _ (c .before .before .before .before .before .before .before .before .before .before .thin-in-place .ensures) (omega arith) (c .before .before .before .before .put-lines .ensures), c .before .before .before .before .before .before .before .before .before .before .thin-in-place .kept .0)
 
 pub thin-chain-spec : {M : Type 1} → statement M
 thin-chain-spec =
     tie.close
     (tie.spec
-    slice-aggregate-thin-points
-    thin-points-requires
-    mul-kept
-    array-share-prefix-kept
+    thin-in-place-requires
+    mul-put-lines
+    slice-reshare-prefix-put-lines
     slice-aggregate-put-lines
     put-lines-requires
     same-length
     same-length-2
+    same-length-3
     returns)

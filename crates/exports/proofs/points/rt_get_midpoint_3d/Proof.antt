@@ -1,5 +1,4 @@
 -- `exports::points::rt_get_midpoint_3d` meets its contract: by the answer's case, its numbers are stored or its number is handed back. Assumes nothing.
-use mathlib.Core.Path.{refl}
 use Rattle.types.specs.Lent.{triple}
 use Rattle.exports.proofs.Answers.{midpoint-gives, midpoint-refused}
 use Rattle.exports.proofs.Plain.{gave, gave-nothing}

@@ -3,7 +3,6 @@ use Prim.Native.Nat.{_+_, _-_, _≤_}
 use mathlib.Core.Path.{_≡_, sym, ap, _∙_}
 use native.Mathlib.Nat.{zero-add}
 use native.Mathlib.Omega.{arith}
-use borrow.Author.Needs.{needs}
 use Rattle.course.specs.Course.{cap}
 use Rattle.laps.specs.File.{lapsAt, lapsOf}
 use Rattle.laps.specs.Fit.{mostOf}
@@ -37,11 +36,8 @@ count-at-requires c κs = omega arith
 most-lap-requires : tie.Need-most-lap-requires Inv-loop μ-loop
 most-lap-requires c κs = let l = c .before .before .loop in let w = step (c .before .before .before .before .before .args .s .now) (l .j) (l .at) _ _ (c .count-at .ensures .0) (l .inv .2) (c .before .loop-test .taken) in (w .fits, w .few)
 
-add-capped : tie.Need-add-capped Inv-loop μ-loop
-add-capped c = let b = cap-small _ _ (c .most-lap .ensures) in omega arith
-
-capped-requires : tie.Need-capped-requires Inv-loop μ-loop
-capped-requires c κs = search needs
+add-capped-requires : tie.Need-add-capped-requires Inv-loop μ-loop
+add-capped-requires c κs = (c .before .before .before .loop .inv .1, cap-small _ _ (c .most-lap .ensures))
 
 mul-at-2 : tie.Need-mul-at-2 Inv-loop μ-loop
 mul-at-2 c = omega arith
@@ -56,7 +52,7 @@ loop-less : tie.Need-loop-less Inv-loop μ-loop
 loop-less c = omega arith
 
 loop-again : tie.Need-loop-again Inv-loop μ-loop
-loop-again c = let a = c .before .before .before .before .before .before .before .args in let l = c .before .before .before .before .loop in (omega arith, c .capped .ensures .1, step (a .s .now) (l .j) (l .at) _ _ (c .before .before .count-at .ensures .0) (l .inv .2) (c .before .before .before .loop-test .taken) .then, cap-step (l .most) _ _ _ _ _ (c .before .most-lap .ensures) (c .capped .ensures .0) (ap (λ m. cap (l .most + m)) (sym (mosts-step (a .tolerance) (a .s .now) (l .j) (l .at) _ _ (c .before .before .before .loop-test .taken) (c .before .before .count-at .ensures .0))) ∙ l .inv .3))
+loop-again c = let a = c .before .before .before .before .before .before .before .args in let l = c .before .before .before .before .loop in (omega arith, c .add-capped .ensures .1, step (a .s .now) (l .j) (l .at) _ _ (c .before .before .count-at .ensures .0) (l .inv .2) (c .before .before .before .loop-test .taken) .then, cap-step (l .most) _ _ _ _ _ (c .before .most-lap .ensures) (c .add-capped .ensures .0) (ap (λ m. cap (l .most + m)) (sym (mosts-step (a .tolerance) (a .s .now) (l .j) (l .at) _ _ (c .before .before .before .loop-test .taken) (c .before .before .count-at .ensures .0))) ∙ l .inv .3))
 
 returns : tie.Need-returns Inv-loop μ-loop
 returns c = let a = c .before .before .before .before .args in let l = c .before .loop in cap-done (l .most) _ _ (mosts-end (a .tolerance) (a .s .now) (l .j) (l .at) _ (c .loop-test .left)) (l .inv .1) (l .inv .3)
@@ -73,8 +69,7 @@ most-of-spec =
     loop-holds
     count-at-requires
     most-lap-requires
-    add-capped
-    capped-requires
+    add-capped-requires
     mul-at-2
     add-at-2
     add-j

@@ -1,4 +1,4 @@
--- `trial::trial::is_arc_within` meets its contract: as for `arc_deviation`; and a greatest deviation that is not below the tolerance stays so, so the walk may end there. Assumes nothing.
+-- `trial::trial::is_arc_within` meets its contract: as for `arc_deviation`, with the first spoke's length for a radius; and a greatest deviation that is not below the tolerance stays so, so the walk may end there. Assumes nothing.
 use mathlib.Core.Path.{_≡_, refl, ap, _∙_}
 use Prim.Native.Nat.{_+_, _-_, _≤_}
 use native.Mathlib.Omega.{arith}
@@ -10,16 +10,17 @@ use Rattle.types.specs.Walk.{fold}
 use Rattle.types.proofs.Walk.{fold-turn, fold-done}
 use Rattle.circle.specs.declared.circle.Deviation.{Deviation}
 use Rattle.circle.specs.Worst.{worse, worst as worstOf}
+use Rattle.circle.specs.Three.{radiusFrom}
 use Rattle.trial.specs.Deviation.{spokeOf, stepBetween, arcDeviation}
-use Rattle.trial.proofs.Steps.{walk, step-is, too-far}
+use Rattle.trial.proofs.Steps.{walk, step-is, spoke-length, spoke-root, too-far}
 use Rattle.trial.proofs.trial.is_arc_within.Statement.{statement}
 use Rattle.trial.proofs.trial.is_arc_within.Tie as tie
 
 abbrev Inv-loop : tie.InvT-loop
-Inv-loop points start end m r tolerance worst₀ p₀ s₀ i₀ worst p s i = (start ≤ i) × (i ≤ end) × (p ≡ pointAt points i) × (s ≡ spokeOf m (pointAt points i)) × (fold (walk (λ j. stepBetween m r (pointAt points j) (pointAt points (j + 1)))) (end - i) i worst ≡ arcDeviation m r (pointAt points) start end)
+Inv-loop points start end m tolerance worst₀ p₀ s₀ r square i₀ worst p s i = (start ≤ i) × (i ≤ end) × (p ≡ pointAt points i) × (s ≡ spokeOf m (pointAt points i)) × (fold (walk (λ j. stepBetween m r (pointAt points j) (pointAt points (j + 1)))) (end - i) i worst ≡ arcDeviation m (radiusFrom m (pointAt points start)) (pointAt points) start end)
 
 abbrev μ-loop : tie.MeasureT-loop
-μ-loop points start end m r tolerance worst₀ p₀ s₀ i₀ worst p s i = end - i
+μ-loop points start end m tolerance worst₀ p₀ s₀ r square i₀ worst p s i = end - i
 
 point-at-requires : tie.Need-point-at-requires Inv-loop μ-loop
 point-at-requires c κs = omega arith
@@ -29,7 +30,7 @@ new-requires c κs = search needs
 
 loop-holds : tie.Need-loop-holds Inv-loop μ-loop
 unfolding arcDeviation worstOf
-loop-holds c = (omega arith, omega arith, c .before .point-at .ensures, c .new .ensures ∙ ap (spokeOf _) (c .before .point-at .ensures), refl)
+loop-holds c = let a = c .before .before .before .before .before .args in (omega arith, omega arith, c .before .before .before .point-at .ensures, c .before .before .new .ensures ∙ ap (spokeOf _) (c .before .before .before .point-at .ensures), ap (λ (r : Float). arcDeviation (a .m) r (pointAt (a .points .now)) (a .start) (a .end)) (spoke-length (a .m) _ _ _ (c .before .before .before .point-at .ensures) (c .before .before .new .ensures)))
 
 add-point-at : tie.Need-add-point-at Inv-loop μ-loop
 add-point-at c = omega arith
@@ -40,37 +41,36 @@ point-at-requires-2 c κs = omega arith
 new-requires-2 : tie.Need-new-requires-2 Inv-loop μ-loop
 new-requires-2 c κs = search needs
 
-get-length-requires : tie.Need-get-length-requires Inv-loop μ-loop
-get-length-requires c κs = search needs
-
-step-deviation-requires : tie.Need-step-deviation-requires Inv-loop μ-loop
-step-deviation-requires c κs = search needs
+deviation-of-step-requires : tie.Need-deviation-of-step-requires Inv-loop μ-loop
+deviation-of-step-requires c κs = spoke-root _ _ _ (c .before .before .before .before .before .before .new .ensures)
 
 or-requires : tie.Need-or-requires Inv-loop μ-loop
 or-requires c κs = search needs
 
 returns : tie.Need-returns Inv-loop μ-loop
-returns c = let a = c .before .before .before .before .before .before .before .before .before .before .before .before .before .before .before .before .args in
-    let v = c .before .before .before .before .before .before .before .before .before .before .before .before .loop .inv in
-    let d = step-is (a .m) (a .r) _ _ _ _ _ _ _ _ (v .2) (c .before .before .before .before .before .before .before .before .before .before .point-at2 .ensures) (v .3) (c .before .before .before .before .before .before .before .before .before .new2 .ensures) (c .before .before .before .before .get-length .ensures) (c .before .before .before .step-deviation .ensures) in
-    let n = ap (λ (x : Float). worse x (c .before .before .before .before .before .before .before .before .before .before .before .before .loop .i) (c .before .before .before .before .before .before .before .before .before .before .before .before .loop .worst)) d in
-    too-far _ _ _ _ _ _ (not-true (lt (c .before .before .or .result .dist) (a .tolerance)) (c .if1 .taken)) (fold-turn _ (a .end) _ _ _ _ (c .before .before .before .before .before .before .before .before .before .before .before .loop-test .taken) (c .before .before .or .ensures ∙ n) (v .4))
+returns c = let a = c .before .before .before .before .before .before .before .before .before .before .before .before .before .args in
+    let l = c .before .before .before .before .before .before .before .loop in
+    let v = l .inv in
+    let d = step-is (a .m) (c .before .before .before .before .before .before .before .before .before .before .new .result .len) _ _ _ _ _ _ _ _ (v .2) (c .before .before .before .before .before .point-at2 .ensures) (v .3) (c .before .before .before .before .new2 .ensures) refl (c .before .before .before .deviation-of-step .ensures) in
+    let n = ap (λ (x : Float). worse x (l .i) (l .worst)) d in
+    too-far _ _ _ _ _ _ (not-true (lt (c .before .before .or .result .dist) (a .tolerance)) (c .if1 .taken)) (fold-turn _ (a .end) _ _ _ _ (c .before .before .before .before .before .before .loop-test .taken) (c .before .before .or .ensures ∙ n) (v .4))
 
 add-i : tie.Need-add-i Inv-loop μ-loop
-add-i c = omega (arith, c .before .before .before .before .before .before .before .before .before .before .before .loop-test .taken, c .before .before .before .before .before .before .before .before .before .before .before .before .before .before .before .before)
+add-i c = omega (arith, c .before .before .before .before .before .before .loop-test .taken, c .before .before .before .before .before .before .before .before .before .before .before .before .before .fits)
 
 loop-less : tie.Need-loop-less Inv-loop μ-loop
 loop-less c = omega arith
 
 loop-again : tie.Need-loop-again Inv-loop μ-loop
-loop-again c = let a = c .before .before .before .before .before .before .before .before .before .before .before .before .before .before .before .before .args in
-    let v = c .before .before .before .before .before .before .before .before .before .before .before .before .loop .inv in
-    let d = step-is (a .m) (a .r) _ _ _ _ _ _ _ _ (v .2) (c .before .before .before .before .before .before .before .before .before .before .point-at2 .ensures) (v .3) (c .before .before .before .before .before .before .before .before .before .new2 .ensures) (c .before .before .before .before .get-length .ensures) (c .before .before .before .step-deviation .ensures) in
-    let n = ap (λ (x : Float). worse x (c .before .before .before .before .before .before .before .before .before .before .before .before .loop .i) (c .before .before .before .before .before .before .before .before .before .before .before .before .loop .worst)) d in
-    (omega arith, omega arith, c .before .before .before .before .before .before .before .before .before .before .point-at2 .ensures, c .before .before .before .before .before .before .before .before .before .new2 .ensures ∙ ap (spokeOf _) (c .before .before .before .before .before .before .before .before .before .before .point-at2 .ensures), fold-turn _ (a .end) _ _ _ _ (c .before .before .before .before .before .before .before .before .before .before .before .loop-test .taken) (c .before .before .or .ensures ∙ n) (v .4))
+loop-again c = let a = c .before .before .before .before .before .before .before .before .before .before .before .before .before .args in
+    let l = c .before .before .before .before .before .before .before .loop in
+    let v = l .inv in
+    let d = step-is (a .m) (c .before .before .before .before .before .before .before .before .before .before .new .result .len) _ _ _ _ _ _ _ _ (v .2) (c .before .before .before .before .before .point-at2 .ensures) (v .3) (c .before .before .before .before .new2 .ensures) refl (c .before .before .before .deviation-of-step .ensures) in
+    let n = ap (λ (x : Float). worse x (l .i) (l .worst)) d in
+    (omega arith, omega arith, c .before .before .before .before .before .point-at2 .ensures, c .before .before .before .before .new2 .ensures ∙ ap (spokeOf _) (c .before .before .before .before .before .point-at2 .ensures), fold-turn _ (a .end) _ _ _ _ (c .before .before .before .before .before .before .loop-test .taken) (c .before .before .or .ensures ∙ n) (v .4))
 
 returns-2 : tie.Need-returns-2 Inv-loop μ-loop
-returns-2 c = let a = c .before .before .before .before .before .before .args in
+returns-2 c = let a = c .before .before .before .before .before .before .before .before .args in
     ap (λ (w : Deviation). lt (w .dist) (a .tolerance)) (fold-done _ (a .end) _ _ _ (c .before .loop-test .left) (c .before .before .loop .inv .4))
 
 pub is-arc-within-spec : {M : Type 1} → statement M
@@ -85,8 +85,7 @@ is-arc-within-spec =
     add-point-at
     point-at-requires-2
     new-requires-2
-    get-length-requires
-    step-deviation-requires
+    deviation-of-step-requires
     or-requires
     returns
     add-i

@@ -14,29 +14,29 @@ point-at-requires-2 c κs = search needs
 to-bisector-requires : tie.Need-to-bisector-requires
 to-bisector-requires c κs = search needs
 
-get-radius-requires : tie.Need-get-radius-requires
-get-radius-requires c κs = search needs
-
 is-arc-within-requires : tie.Need-is-arc-within-requires
 is-arc-within-requires c κs = search needs
 
 returns : tie.Need-returns
 unfolding trialOf trialRound
-returns c = rw (← c .before .before .before .before .before .point-at .ensures, ← c .before .before .before .before .point-at2 .ensures, ← c .before .before .before .to-bisector .ensures, ← c .before .before .get-radius .ensures, ← c .before .is-arc-within .ensures, not-true (c .before .is-arc-within .result) (c .if1 .taken))
+returns c = let e = rw (c .before .before .before .before .point-at .ensures, c .before .before .before .point-at2 .ensures) at (c .before .before .to-bisector .ensures) in
+    rw (← e, ← c .before .is-arc-within .ensures, not-true (c .before .is-arc-within .result) (c .if1 .taken))
 
 traversal-passes-requires : tie.Need-traversal-passes-requires
 traversal-passes-requires c κs = search needs
 
 returns-2 : tie.Need-returns-2
 unfolding trialOf trialRound
-returns-2 c = rw (← c .before .before .before .before .before .before .before .point-at .ensures, ← c .before .before .before .before .before .before .point-at2 .ensures, ← c .before .before .before .before .before .to-bisector .ensures, ← c .before .before .before .before .get-radius .ensures, ← c .before .before .before .is-arc-within .ensures, not-false (c .before .before .before .is-arc-within .result) (c .before .before .if1 .left), ← c .before .traversal-passes .ensures, not-true (c .before .traversal-passes .result) (c .if2 .taken))
+returns-2 c = let e = rw (c .before .before .before .before .before .before .point-at .ensures, c .before .before .before .before .before .point-at2 .ensures) at (c .before .before .before .before .to-bisector .ensures) in
+    rw (← e, ← c .before .before .before .is-arc-within .ensures, not-false (c .before .before .before .is-arc-within .result) (c .before .before .if1 .left), ← c .before .traversal-passes .ensures, not-true (c .before .traversal-passes .result) (c .if2 .taken))
 
 goes-clockwise-requires : tie.Need-goes-clockwise-requires
 goes-clockwise-requires c κs = search needs
 
 returns-3 : tie.Need-returns-3
 unfolding trialOf trialRound
-returns-3 c = rw (← c .before .before .before .before .before .before .before .before .point-at .ensures, ← c .before .before .before .before .before .before .before .point-at2 .ensures, ← c .before .before .before .before .before .before .to-bisector .ensures, ← c .before .before .before .before .before .get-radius .ensures, ← c .before .before .before .before .is-arc-within .ensures, not-false (c .before .before .before .before .is-arc-within .result) (c .before .before .before .if1 .left), ← c .before .before .traversal-passes .ensures, not-false (c .before .before .traversal-passes .result) (c .before .if2 .left), c .goes-clockwise .ensures)
+returns-3 c = let e = rw (c .before .before .before .before .before .before .before .point-at .ensures, c .before .before .before .before .before .before .point-at2 .ensures) at (c .before .before .before .before .before .to-bisector .ensures) in
+    rw (← e, ← c .before .before .before .before .is-arc-within .ensures, not-false (c .before .before .before .before .is-arc-within .result) (c .before .before .before .if1 .left), ← c .before .before .traversal-passes .ensures, not-false (c .before .before .traversal-passes .result) (c .before .if2 .left), c .goes-clockwise .ensures)
 
 pub trial-of-spec : {M : Type 1} → statement M
 trial-of-spec =
@@ -45,7 +45,6 @@ trial-of-spec =
     point-at-requires
     point-at-requires-2
     to-bisector-requires
-    get-radius-requires
     is-arc-within-requires
     returns
     traversal-passes-requires

@@ -1,0 +1,93 @@
+-- The lines of a lap: the rows that stand in two arrays, written one by one. Assumes nothing.
+use Prim.Native.Nat.{ℕ, zero, suc, _+_, _-_, _*_, _≤_, _<_}
+use mathlib.Core.Path.{_≡_, refl, ap, _∙_, subst}
+use mathlib.Core.List.{List, [], _∷_, _++_}
+use native.Mathlib.Omega.{arith}
+use lib.ListN.{length, getD, drop}
+use Rattle.types.specs.Lent.{flat}
+use Rattle.types.specs.Walk.{listFrom}
+use Rattle.types.proofs.Stores.{sets-front}
+use Rattle.types.proofs.Walk.{list-step, list-done}
+use Rattle.listing.specs.Rows.{Row, kindsOf, stepsIn, RowsPlaced}
+use Rattle.listing.proofs.Writing.{kinds-length, steps-length}
+use Rattle.lap_rows.specs.Listing.{rowText, rowsText, TextPut, rowAt, rowsFrom, Short}
+use Rattle.lap_rows.proofs.Text.{line-length, Writing, write-start, write-step, write-done}
+
+-- where the loop stands before row i: what is left, written from here, gives the whole, and has room
+pub record Lines (ks ss : List ℕ) (n lap : ℕ) (out₀ out : List ℕ) (at to i : ℕ) : Type 0 where
+  pub inside : i ≤ n
+  pub short : Short (rowsFrom ks ss (n - i) i)
+  pub room : to + 9 * (n - i) ≤ length out₀
+  pub going : Writing out₀ out at to (rowsText lap (rowsFrom ks ss (n - i) i)) (rowsText lap (rowsFrom ks ss n 0))
+
+module _ (ks ss : List ℕ) (n lap : ℕ) (out₀ : List ℕ) (at : ℕ) where
+  rows-step : (i : ℕ) → i < n → rowsFrom ks ss (n - i) i ≡ rowAt ks ss i ∷ rowsFrom ks ss (n - (i + 1)) (i + 1)
+  unfolding rowsFrom
+  rows-step i h = list-step (rowAt ks ss) n i h
+
+  text-step : (i : ℕ) → i < n → rowsText lap (rowsFrom ks ss (n - i) i) ≡ rowText lap (rowAt ks ss i) ++ rowsText lap (rowsFrom ks ss (n - (i + 1)) (i + 1))
+  unfolding rowsText flat
+  text-step i h = ap (λ (rs : List Row). flat (rowText lap) rs) (rows-step i h)
+
+  text-done : (i : ℕ) → n ≤ i → rowsText lap (rowsFrom ks ss (n - i) i) ≡ []
+  unfolding rowsText flat rowsFrom
+  text-done i h = ap (λ (rs : List Row). flat (rowText lap) rs) (list-done (rowAt ks ss) n i h)
+
+  pub lines-start : Short (rowsFrom ks ss n 0) → at + 9 * n ≤ length out₀ → Lines ks ss n lap out₀ out₀ at at 0
+  lines-start w h =
+      let e : n - 0 ≡ n = omega arith in
+      record {
+        inside = omega arith;
+        short = rw e w;
+        room = rw e h;
+        going = write-start out₀ at _ _ (rw e);
+      }
+
+  -- row i is short, and has room
+  pub line-short : (out : List ℕ) (to i : ℕ) → Lines ks ss n lap out₀ out at to i → i < n → getD ss i 0 < 1000
+  line-short out to i w h = subst Short (rows-step i h) (w .short) .0
+
+  pub line-room : (out : List ℕ) (to i : ℕ) → Lines ks ss n lap out₀ out at to i → i < n → to + 9 ≤ length out
+  line-room out to i w h = let r = w .room in let l = w .going .same in omega arith
+
+  pub lines-step : lap < 100 → (out out′ : List ℕ) (to to′ i : ℕ) → Lines ks ss n lap out₀ out at to i → i < n → TextPut (rowText lap (rowAt ks ss i)) out out′ to to′
+      → Lines ks ss n lap out₀ out′ at to′ (i + 1)
+  lines-step b out out′ to to′ i w h p =
+      let r = w .room in
+      let e = p .ends in
+      let l = line-length lap (rowAt ks ss i) b (line-short out to i w h) in
+      record {
+        inside = omega arith;
+        short = subst Short (rows-step i h) (w .short) .1;
+        room = omega arith;
+        going = write-step out₀ out out′ at to to′ (rowText lap (rowAt ks ss i)) _ _ _ (text-step i h) p (w .going);
+      }
+
+  pub lines-done : (out : List ℕ) (to i : ℕ) → Lines ks ss n lap out₀ out at to i → n ≤ i → TextPut (rowsText lap (rowsFrom ks ss n 0)) out₀ out at to
+  lines-done out to i w h = write-done out₀ out at to _ _ (text-done i h) (w .going)
+
+-- ---- rows by another name
+pub placed-same : (rs ts : List Row) (n : ℕ) (ks ks′ ss ss′ : List ℕ) → rs ≡ ts → RowsPlaced rs 0 n ks ks′ ss ss′ → RowsPlaced ts 0 n ks ks′ ss ss′
+placed-same rs ts n ks ks′ ss ss′ e p = subst (λ (xs : List Row). RowsPlaced xs 0 n ks ks′ ss ss′) e p
+
+-- ---- rows written to two arrays, read back
+rows-shift : (k s : ℕ) (ks ss : List ℕ) (n i : ℕ) → rowsFrom (k ∷ ks) (s ∷ ss) n (i + 1) ≡ rowsFrom ks ss n i
+unfolding rowsFrom listFrom
+rows-shift k s ks ss zero i = refl
+rows-shift k s ks ss (suc n) i =
+    let e : i + 1 ≡ suc i = omega arith in
+    ap (λ (r : Row). r ∷ rowsFrom (k ∷ ks) (s ∷ ss) n (i + 1 + 1)) (ap (rowAt (k ∷ ks) (s ∷ ss)) e) ∙ ap (λ (rs : List Row). rowAt ks ss i ∷ rs) (rows-shift k s ks ss n (i + 1))
+
+rows-front : (rs : List Row) (us vs : List ℕ) → rowsFrom (kindsOf rs ++ us) (stepsIn rs ++ vs) (length rs) 0 ≡ rs
+unfolding rowsFrom listFrom kindsOf stepsIn
+rows-front [] us vs = refl
+rows-front (r ∷ rs) us vs = ap (λ (ts : List Row). r ∷ ts) (rows-shift (r .kind) (r .steps) (kindsOf rs ++ us) (stepsIn rs ++ vs) (length rs) 0 ∙ rows-front rs us vs)
+
+pub rows-back : (rs : List Row) (n : ℕ) (ks ks′ ss ss′ : List ℕ) → RowsPlaced rs 0 n ks ks′ ss ss′ → length rs ≤ length ks → length rs ≤ length ss → rowsFrom ks′ ss′ n 0 ≡ rs
+rows-back rs n ks ks′ ss ss′ p h k =
+    let a = p .kinds ∙ sets-front (kindsOf rs) ks (rw (kinds-length rs) h) in
+    let b = p .steps ∙ sets-front (stepsIn rs) ss (rw (steps-length rs) k) in
+    rw (a, b, p .count) (rows-front rs (drop (length (kindsOf rs)) ks) (drop (length (stepsIn rs)) ss))
+
+pub text-same : (lap : ℕ) (rs ts : List Row) (out out′ : List ℕ) (at to : ℕ) → rs ≡ ts → TextPut (rowsText lap rs) out out′ at to → TextPut (rowsText lap ts) out out′ at to
+text-same lap rs ts out out′ at to e p = subst (λ (xs : List Row). TextPut (rowsText lap xs) out out′ at to) e p

@@ -1,0 +1,96 @@
+-- Texts written one behind the other, and a line's. Assumes nothing.
+use Prim.Native.Nat.{ℕ, suc, _+_, _*_, _≤_, _<_}
+use mathlib.Core.Path.{_≡_, refl, sym, ap, _∙_}
+use mathlib.Core.List.{List, [], _∷_, _++_}
+use native.Mathlib.Omega.{arith}
+use lib.ListN.{length, set, length-append}
+use lib.Seq.{sets, length-sets}
+use Rattle.types.specs.Lent.{flat}
+use Rattle.types.proofs.Stores.{sets-append}
+use Rattle.listing.specs.Rows.{Row, letterOf}
+use Rattle.lap_rows.specs.Listing.{decimal, comma, newline, rowText, rowsText, TextPut, listed, Short}
+use Rattle.lap_rows.proofs.Decimal.{below-100, below-1000}
+
+-- a text, and another behind it
+pub put-both : (xs ys out out₁ out₂ : List ℕ) (at mid end : ℕ) → TextPut xs out out₁ at mid → TextPut ys out₁ out₂ mid end → TextPut (xs ++ ys) out out₂ at end
+put-both xs ys out out₁ out₂ at mid end a b =
+    let p = a .ends in
+    let q = b .ends in
+    let l = length-append xs ys in
+    record { ends = omega arith; bytes = b .bytes ∙ rw (a .bytes, p) (sym (sets-append xs ys out at)) }
+
+pub put-length : (text out out′ : List ℕ) (at end : ℕ) → TextPut text out out′ at end → length out′ ≡ length out
+put-length text out out′ at end p = ap length (p .bytes) ∙ length-sets out at text
+
+-- a text written under another name
+pub put-same : (xs ys out out′ : List ℕ) (at end : ℕ) → xs ≡ ys → TextPut xs out out′ at end → TextPut ys out out′ at end
+put-same xs ys out out′ at end e p = record { ends = p .ends ∙ ap (λ (l : List ℕ). at + length l) e; bytes = p .bytes ∙ ap (sets out at) e }
+
+-- bytes stored one by one
+pub put-one : (out : List ℕ) (at x : ℕ) → TextPut (x ∷ []) out (set out at x) at (at + 1)
+put-one out at x = record { ends = refl; bytes = refl }
+
+pub put-two : (out : List ℕ) (at x y : ℕ) → TextPut (x ∷ y ∷ []) out (set (set out at x) (at + 1) y) at (at + 2)
+put-two out at x y = let e : at + 1 ≡ suc at = omega arith in record { ends = refl; bytes = rw e }
+
+pub put-three : (out : List ℕ) (at x y z : ℕ) → TextPut (x ∷ y ∷ z ∷ []) out (set (set (set out at x) (at + 1) y) (at + 2) z) at (at + 3)
+put-three out at x y z =
+    let e : at + 1 ≡ suc at = omega arith in
+    let f : at + 2 ≡ suc (suc at) = omega arith in
+    record { ends = refl; bytes = rw (e, f) }
+
+-- ---- a line
+-- the lap's digits, the letter between commas, the steps' digits, the line's end
+pub put-line : (out out₁ out₂ : List ℕ) (at a b lap kind steps letter : ℕ) → TextPut (decimal lap) out out₁ at a → letter ≡ letterOf kind
+    → TextPut (decimal steps) (set (set (set out₁ a comma) (a + 1) letter) (a + 2) comma) out₂ (a + 3) b
+    → TextPut (rowText lap (listed kind steps)) out (set out₂ b newline) at (b + 1)
+unfolding rowText
+put-line out out₁ out₂ at a b lap kind steps letter p e q =
+    let between : List ℕ = comma ∷ letterOf kind ∷ comma ∷ [] in
+    let m : TextPut between out₁ (set (set (set out₁ a comma) (a + 1) letter) (a + 2) comma) a (a + 3) = rw e (put-three out₁ a comma (letterOf kind) comma) in
+    put-both (decimal lap ++ between ++ decimal steps) (newline ∷ []) out out₂ _ at b (b + 1)
+    (put-both (decimal lap ++ between) (decimal steps) out _ out₂ at (a + 3) b (put-both (decimal lap) between out out₁ _ at a (a + 3) p m) q)
+    (put-one out₂ b newline)
+
+-- it has at most nine bytes
+pub line-length : (lap : ℕ) (r : Row) → lap < 100 → r .steps < 1000 → length (rowText lap r) ≤ 9
+unfolding rowText
+line-length lap r h k =
+    let a = below-100 lap h in
+    let b = below-1000 (r .steps) k in
+    simp length-append (omega arith)
+
+pub lines-length : (lap : ℕ) (rs : List Row) → lap < 100 → Short rs → length (rowsText lap rs) ≤ 9 * length rs
+unfolding rowsText flat
+lines-length lap [] h w = omega arith
+lines-length lap (r ∷ rs) h w =
+    let a = line-length lap r h (w .0) in
+    let b = lines-length lap rs h (w .1) in
+    let l = length-append (rowText lap r) (rowsText lap rs) in omega arith
+
+-- ---- a loop that writes a text: `left` of it is left, to be written from `to` on
+pub record Writing (out₀ out : List ℕ) (at to : ℕ) (left all : List ℕ) : Type 0 where
+  pub same : length out ≡ length out₀
+  pub work : sets out to left ≡ sets out₀ at all
+  pub ends : to + length left ≡ at + length all
+
+pub write-start : (out : List ℕ) (at : ℕ) (left all : List ℕ) → left ≡ all → Writing out out at at left all
+write-start out at left all e = rw e (record { same = refl; work = refl; ends = refl })
+
+pub write-step : (out₀ out out′ : List ℕ) (at to to′ : ℕ) (text next left all : List ℕ) → left ≡ text ++ next → TextPut text out out′ to to′
+    → Writing out₀ out at to left all → Writing out₀ out′ at to′ next all
+write-step out₀ out out′ at to to′ text next left all e p w =
+    let a = p .ends in
+    let b = w .ends in
+    let l = ap length e ∙ length-append text next in
+    record {
+      same = put-length text out out′ to to′ p ∙ w .same;
+      work = rw (p .bytes, a) (sym (sets-append text next out to)) ∙ sym (ap (sets out to) e) ∙ w .work;
+      ends = omega arith;
+    }
+
+pub write-done : (out₀ out : List ℕ) (at to : ℕ) (left all : List ℕ) → left ≡ [] → Writing out₀ out at to left all → TextPut all out₀ out at to
+write-done out₀ out at to left all e w =
+    let a = w .ends in
+    let l = ap length e in
+    record { ends = omega arith; bytes = sym (ap (sets out to) e) ∙ w .work }
