@@ -1,9 +1,11 @@
-// What the replays of recorded calls share: words of eight bytes, the lowest first, and floats by their patterns.
+// What the replays of recorded calls share: words of eight bytes, the lowest first, floats by their patterns, and lists of
+// both.
 ghost use mathlib.Core.Path.{_≡_};
-ghost use Prim.Native.Nat.{_+_, _≤_, _<_};
+ghost use Prim.Native.Nat.{_+_, _*_, _≤_, _<_};
 ghost use lib.ListN.{length};
+ghost use lib.Seq.{sets};
 ghost use lib.Ieee.{binary64, nanBits, ofBits};
-ghost use Rattle.records.specs.Words.{halfAt, wordAt, hasPattern};
+ghost use Rattle.records.specs.Words.{halfAt, wordAt, hasPattern, numbersAt, kindsAt, numbersWritten, kindsWritten, numbersLeft, bytesLeft};
 
 fn wide(b: u8) -> u64
     ensures { λ r. ⌜ (r ≡ b) × (r < 256) ⌝ }
@@ -55,4 +57,76 @@ pub fn has_pattern(x: f64, p: u64) -> bool
         return is_nan(p);
     }
     f64::to_bits(x) == p
+}
+
+// Reads the n numbers of s from `at` on.
+pub fn read_numbers(s: &[u8], at: usize, n: usize, numbers: &mut [f64])
+    requires { ⌜ (n ≤ length (now numbers)) × (at + 8 * n ≤ length (now s)) ⌝ }
+    ensures { λ _. ⌜ now (numbers .exit) ≡ sets (now (numbers .entry)) 0 (numbersAt (now (s .entry)) at n) ⌝ }
+{
+    for i in 0..n {
+        numbers[i] = float_of(word_at(s, at + 8 * i));
+    }
+}
+
+// Reads the n kinds of s from `at` on, each the lowest byte of a word.
+pub fn read_kinds(s: &[u8], at: usize, n: usize, kinds: &mut [u8])
+    requires { ⌜ (n ≤ length (now kinds)) × (at + 8 * n ≤ length (now s)) ⌝ }
+    ensures { λ _. ⌜ now (kinds .exit) ≡ sets (now (kinds .entry)) 0 (kindsAt (now (s .entry)) at n) ⌝ }
+{
+    for i in 0..n {
+        kinds[i] = s[at + 8 * i];
+    }
+}
+
+// Whether the first n numbers have the patterns of s from `at` on.
+pub fn are_numbers_written(s: &[u8], at: usize, n: usize, out: &[f64]) -> bool
+    requires { ⌜ (n ≤ length (now out)) × (at + 8 * n ≤ length (now s)) ⌝ }
+    ensures { λ r. ⌜ r ≡ numbersWritten (now (s .entry)) at n (now (out .entry)) ⌝ }
+{
+    for i in 0..n {
+        if !has_pattern(out[i], word_at(s, at + 8 * i)) {
+            return false;
+        }
+    }
+    true
+}
+
+// Whether the first n kinds are those of s from `at` on.
+pub fn are_kinds_written(s: &[u8], at: usize, n: usize, kinds: &[u8]) -> bool
+    requires { ⌜ (n ≤ length (now kinds)) × (at + 8 * n ≤ length (now s)) ⌝ }
+    ensures { λ r. ⌜ r ≡ kindsWritten (now (s .entry)) at n (now (kinds .entry)) ⌝ }
+{
+    for i in 0..n {
+        if kinds[i] != s[at + 8 * i] {
+            return false;
+        }
+    }
+    true
+}
+
+// Whether the known number still stands at each index from `from` on and below `to`.
+pub fn are_numbers_left(out: &[f64], from: usize, to: usize, known: f64) -> bool
+    requires { ⌜ to ≤ length (now out) ⌝ }
+    ensures { λ r. ⌜ r ≡ numbersLeft (now (out .entry)) from to known ⌝ }
+{
+    for i in from..to {
+        if out[i] != known {
+            return false;
+        }
+    }
+    true
+}
+
+// The same of bytes.
+pub fn are_bytes_left(bytes: &[u8], from: usize, to: usize, known: u8) -> bool
+    requires { ⌜ to ≤ length (now bytes) ⌝ }
+    ensures { λ r. ⌜ r ≡ bytesLeft (now (bytes .entry)) from to known ⌝ }
+{
+    for i in from..to {
+        if bytes[i] != known {
+            return false;
+        }
+    }
+    true
 }

@@ -5,8 +5,9 @@ mod calls;
 
 use libc::STDIN_FILENO;
 use libc::STDOUT_FILENO;
-use records::float_of;
-use records::has_pattern;
+use records::are_numbers_left;
+use records::are_numbers_written;
+use records::read_numbers;
 use records::word_at;
 ghost use mathlib.Core.Path.{_≡_};
 ghost use Prim.Native.Nat.{_+_, _*_, _≤_};
@@ -19,15 +20,6 @@ const HEAD: usize = 56;
 // What stands in a lent output before a call.
 const BEFORE: f64 = -123456.789;
 
-// Reads the n numbers of s from `at` on.
-fn read_numbers(s: &[u8], at: usize, n: usize, numbers: &mut [f64])
-    requires { ⌜ (n ≤ length (now numbers)) × (at + 8 * n ≤ length (now s)) ⌝ }
-{
-    for i in 0..n {
-        numbers[i] = float_of(word_at(s, at + 8 * i));
-    }
-}
-
 // Puts the known number at the first n places.
 fn clear(out: &mut [f64], n: usize)
     requires { ⌜ n ≤ length (now out) ⌝ }
@@ -35,30 +27,6 @@ fn clear(out: &mut [f64], n: usize)
     for i in 0..n {
         out[i] = BEFORE;
     }
-}
-
-// Whether the first n numbers have the patterns of s from `at` on.
-fn is_written(s: &[u8], at: usize, n: usize, out: &[f64]) -> bool
-    requires { ⌜ (n ≤ length (now out)) × (at + 8 * n ≤ length (now s)) ⌝ }
-{
-    for i in 0..n {
-        if !has_pattern(out[i], word_at(s, at + 8 * i)) {
-            return false;
-        }
-    }
-    true
-}
-
-// Whether the known number still stands at each place from `from` to `to`.
-fn is_left(out: &[f64], from: usize, to: usize) -> bool
-    requires { ⌜ to ≤ length (now out) ⌝ }
-{
-    for i in from..to {
-        if out[i] != BEFORE {
-            return false;
-        }
-    }
-    true
 }
 
 // How many bytes the record at the start of s has; 0 where no whole one stands there.
@@ -113,10 +81,10 @@ fn agrees(s: &[u8]) -> bool
     if r.count as u64 != word_at(s, 40) {
         return false;
     }
-    if !is_written(s, HEAD + 8 * n, written, &out) {
+    if !are_numbers_written(s, HEAD + 8 * n, written, &out) {
         return false;
     }
-    is_left(&out, written, room)
+    are_numbers_left(&out, written, room, BEFORE)
 }
 
 struct Tally {

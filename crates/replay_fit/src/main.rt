@@ -5,8 +5,12 @@ mod calls;
 
 use libc::STDIN_FILENO;
 use libc::STDOUT_FILENO;
+use records::are_bytes_left;
+use records::are_kinds_written;
+use records::are_numbers_left;
+use records::are_numbers_written;
 use records::float_of;
-use records::has_pattern;
+use records::read_numbers;
 use records::word_at;
 ghost use mathlib.Core.Path.{_≡_};
 ghost use Prim.Native.Nat.{_+_, _*_, _≤_};
@@ -20,58 +24,6 @@ const HEAD: usize = 88;
 const BEFORE: f64 = -123456.789;
 
 const BEFORE_KIND: u8 = 200;
-
-// Reads the n numbers of s from `at` on.
-fn read_numbers(s: &[u8], at: usize, n: usize, numbers: &mut [f64])
-    requires { ⌜ (n ≤ length (now numbers)) × (at + 8 * n ≤ length (now s)) ⌝ }
-{
-    for i in 0..n {
-        numbers[i] = float_of(word_at(s, at + 8 * i));
-    }
-}
-
-// Whether the first n numbers have the patterns of s from `at` on.
-fn is_written(s: &[u8], at: usize, n: usize, out: &[f64]) -> bool
-    requires { ⌜ (n ≤ length (now out)) × (at + 8 * n ≤ length (now s)) ⌝ }
-{
-    for i in 0..n {
-        if !has_pattern(out[i], word_at(s, at + 8 * i)) {
-            return false;
-        }
-    }
-    true
-}
-
-// Whether the known number still stands at each place from `from` on.
-fn is_left(out: &[f64], from: usize) -> bool {
-    for i in from..out.len() {
-        if out[i] != BEFORE {
-            return false;
-        }
-    }
-    true
-}
-
-// The same of kinds.
-fn are_kinds_written(s: &[u8], at: usize, n: usize, kinds: &[u8]) -> bool
-    requires { ⌜ (n ≤ length (now kinds)) × (at + 8 * n ≤ length (now s)) ⌝ }
-{
-    for i in 0..n {
-        if kinds[i] != s[at + 8 * i] {
-            return false;
-        }
-    }
-    true
-}
-
-fn are_kinds_left(kinds: &[u8], from: usize) -> bool {
-    for i in from..kinds.len() {
-        if kinds[i] != BEFORE_KIND {
-            return false;
-        }
-    }
-    true
-}
 
 // How many bytes the record at the start of s has; 0 where no whole one stands there.
 fn size_of(s: &[u8]) -> usize
@@ -115,16 +67,16 @@ fn is_output(s: &[u8], out: &[f64], kinds: &[u8]) -> bool
     let at = HEAD + 8 * word_at(s, 32) as usize;
     let written = word_at(s, 72) as usize;
     let kinds_written = word_at(s, 80) as usize;
-    if !is_written(s, at, written, out) {
+    if !are_numbers_written(s, at, written, out) {
         return false;
     }
     if !are_kinds_written(s, at + 8 * written, kinds_written, kinds) {
         return false;
     }
-    if !is_left(out, written) {
+    if !are_numbers_left(out, written, out.len(), BEFORE) {
         return false;
     }
-    are_kinds_left(kinds, kinds_written)
+    are_bytes_left(kinds, kinds_written, kinds.len(), BEFORE_KIND)
 }
 
 // Whether the call of the record at the start of s answers and leaves what it says.

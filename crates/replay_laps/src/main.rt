@@ -3,7 +3,10 @@
 // program prints how many were compared, and how many differ; a damaged one differs and ends the run.
 use libc::STDIN_FILENO;
 use libc::STDOUT_FILENO;
+use recorded_calls::is_answered;
+use records::are_bytes_left;
 use records::float_of;
+use records::read_numbers;
 use records::word_at;
 use types::types::Answer;
 ghost use mathlib.Core.Path.{_≡_};
@@ -17,31 +20,12 @@ const HEAD: usize = 80;
 // What stands in the lent output before a call: no byte of it is left where a call writes all.
 const BEFORE: u8 = 200;
 
-// Reads the n numbers of s from `at` on.
-fn read_numbers(s: &[u8], at: usize, n: usize, numbers: &mut [f64])
-    requires { ⌜ (n ≤ length (now numbers)) × (at + 8 * n ≤ length (now s)) ⌝ }
-{
-    for i in 0..n {
-        numbers[i] = float_of(word_at(s, at + 8 * i));
-    }
-}
-
 // Whether the first n bytes are those of s from `at` on.
 fn is_written(s: &[u8], at: usize, n: usize, out: &[u8]) -> bool
     requires { ⌜ (n ≤ length (now out)) × (at + n ≤ length (now s)) ⌝ }
 {
     for i in 0..n {
         if out[i] != s[at + i] {
-            return false;
-        }
-    }
-    true
-}
-
-// Whether the known byte still stands at each place from `from` on.
-fn is_left(out: &[u8], from: usize) -> bool {
-    for i in from..out.len() {
-        if out[i] != BEFORE {
             return false;
         }
     }
@@ -123,23 +107,6 @@ fn call(
     }
 }
 
-// Whether the answer is that of the record at the start of s.
-fn is_answered(s: &[u8], a: Answer) -> bool
-    requires { ⌜ 80 ≤ length (now s) ⌝ }
-{
-    let number = word_at(s, 64);
-    let count = word_at(s, 72);
-    match a {
-        Answer::Written(n) => {
-            if number != 0 {
-                return false;
-            }
-            n as u64 == count
-        }
-        Answer::Refused(n) => n as u64 == number,
-    }
-}
-
 // Makes the call of the record at the start of s. The files and kinds are lent as they stand in the record.
 fn answer_of(s: &[u8], out: &mut [u8]) -> Answer
     requires { ⌜ Whole (now s) × (66000 ≤ length (now out)) ⌝ }
@@ -178,7 +145,7 @@ fn is_output(s: &[u8], out: &[u8]) -> bool
     if !is_written(s, HEAD + read, written, out) {
         return false;
     }
-    is_left(out, written)
+    are_bytes_left(out, written, out.len(), BEFORE)
 }
 
 // Whether the call of the record at the start of s answers and leaves what it says.
@@ -187,7 +154,7 @@ fn agrees(s: &[u8]) -> bool
 {
     let mut out = [BEFORE; 66000];
     let a = answer_of(s, &mut out);
-    if !is_answered(s, a) {
+    if !is_answered(a, word_at(s, 64), word_at(s, 72)) {
         return false;
     }
     is_output(s, &out)

@@ -3,123 +3,21 @@
 // compared, and how many differ; a damaged one differs and ends the run.
 use libc::STDIN_FILENO;
 use libc::STDOUT_FILENO;
+use recorded_calls::BEFORE;
+use recorded_calls::BEFORE_KIND;
+use recorded_calls::HEAD;
+use recorded_calls::is_answered;
+use recorded_calls::is_output;
+use recorded_calls::size_of;
 use records::float_of;
-use records::has_pattern;
+use records::read_kinds;
+use records::read_numbers;
 use records::word_at;
 use types::types::Answer;
 ghost use mathlib.Core.Path.{_≡_};
-ghost use Prim.Native.Nat.{_+_, _*_, _≤_};
+ghost use Prim.Native.Nat.{_≤_};
 ghost use lib.ListN.{length};
-ghost use Rattle.replay_simplify.specs.Record.{Whole};
-
-// The bytes of a record before its numbers.
-const HEAD: usize = 80;
-
-// What stands in the lent outputs before a call.
-const BEFORE: f64 = -123456.789;
-
-const BEFORE_KIND: u8 = 200;
-
-// Reads the n numbers of s from `at` on.
-fn read_numbers(s: &[u8], at: usize, n: usize, numbers: &mut [f64])
-    requires { ⌜ (n ≤ length (now numbers)) × (at + 8 * n ≤ length (now s)) ⌝ }
-{
-    for i in 0..n {
-        numbers[i] = float_of(word_at(s, at + 8 * i));
-    }
-}
-
-// Reads the n kinds of s from `at` on, each the lowest byte of a word.
-fn read_kinds(s: &[u8], at: usize, n: usize, kinds: &mut [u8])
-    requires { ⌜ (n ≤ length (now kinds)) × (at + 8 * n ≤ length (now s)) ⌝ }
-{
-    for i in 0..n {
-        kinds[i] = s[at + 8 * i];
-    }
-}
-
-// Whether the first n numbers have the patterns of s from `at` on.
-fn is_written(s: &[u8], at: usize, n: usize, out: &[f64]) -> bool
-    requires { ⌜ (n ≤ length (now out)) × (at + 8 * n ≤ length (now s)) ⌝ }
-{
-    for i in 0..n {
-        if !has_pattern(out[i], word_at(s, at + 8 * i)) {
-            return false;
-        }
-    }
-    true
-}
-
-// Whether the known number still stands at each place from `from` on.
-fn is_left(out: &[f64], from: usize) -> bool {
-    for i in from..out.len() {
-        if out[i] != BEFORE {
-            return false;
-        }
-    }
-    true
-}
-
-// The same of kinds.
-fn are_kinds_written(s: &[u8], at: usize, n: usize, kinds: &[u8]) -> bool
-    requires { ⌜ (n ≤ length (now kinds)) × (at + 8 * n ≤ length (now s)) ⌝ }
-{
-    for i in 0..n {
-        if kinds[i] != s[at + 8 * i] {
-            return false;
-        }
-    }
-    true
-}
-
-fn are_kinds_left(kinds: &[u8], from: usize) -> bool {
-    for i in from..kinds.len() {
-        if kinds[i] != BEFORE_KIND {
-            return false;
-        }
-    }
-    true
-}
-
-// How many bytes the record at the start of s has; 0 where no whole one stands there.
-fn size_of(s: &[u8]) -> usize
-    ensures { λ r. ⌜ r ≤ length (now (s .entry)) ⌝ }
-    ensures whole { λ r. ⌜ ((r ≡ 0 → ⊥) → Whole (now (s .entry))) ⌝ }
-{
-    if s.len() < HEAD {
-        return 0;
-    }
-    let numbers = word_at(s, 16);
-    let kinds = word_at(s, 24);
-    let room = word_at(s, 32);
-    let kind_room = word_at(s, 40);
-    let written = word_at(s, 64);
-    let kinds_written = word_at(s, 72);
-    if 7300 < numbers {
-        return 0;
-    }
-    if 900 < kinds {
-        return 0;
-    }
-    if 7300 < room {
-        return 0;
-    }
-    if 1700 < kind_room {
-        return 0;
-    }
-    if room < written {
-        return 0;
-    }
-    if kind_room < kinds_written {
-        return 0;
-    }
-    let size = HEAD
-        + 8 * (numbers as usize + kinds as usize + written as usize + kinds_written as usize);
-    if s.len() < size {
-        return 0;
-    }
-    size
-}
+ghost use Rattle.recorded_calls.specs.Record.{Whole};
 
 // Calls the function of this number on the first n numbers and k kinds, with outputs of so much room. One that no record
 // has is refused by a number that no record expects.
@@ -152,42 +50,6 @@ fn call(
     }
 }
 
-// Whether the answer is that of the record at the start of s.
-fn is_answered(s: &[u8], a: Answer) -> bool
-    requires { ⌜ 80 ≤ length (now s) ⌝ }
-{
-    let number = word_at(s, 48);
-    let count = word_at(s, 56);
-    match a {
-        Answer::Written(n) => {
-            if number != 0 {
-                return false;
-            }
-            n as u64 == count
-        }
-        Answer::Refused(n) => n as u64 == number,
-    }
-}
-
-// Whether the outputs are those of the record at the start of s.
-fn is_output(s: &[u8], out: &[f64], out_kinds: &[u8]) -> bool
-    requires { ⌜ Whole (now s) × (7300 ≤ length (now out)) × (1700 ≤ length (now «out_kinds»)) ⌝ }
-{
-    let at = HEAD + 8 * (word_at(s, 16) as usize + word_at(s, 24) as usize);
-    let written = word_at(s, 64) as usize;
-    let kinds_written = word_at(s, 72) as usize;
-    if !is_written(s, at, written, out) {
-        return false;
-    }
-    if !are_kinds_written(s, at + 8 * written, kinds_written, out_kinds) {
-        return false;
-    }
-    if !is_left(out, written) {
-        return false;
-    }
-    are_kinds_left(out_kinds, kinds_written)
-}
-
 // Whether the call of the record at the start of s answers and leaves what it says.
 fn agrees(s: &[u8]) -> bool
     requires { ⌜ Whole (now s) ⌝ }
@@ -198,7 +60,7 @@ fn agrees(s: &[u8]) -> bool
     let kind_room = word_at(s, 40) as usize;
     let mut numbers = [0.0; 7300];
     let mut kinds = [0; 900];
-    let mut out = [BEFORE; 7300];
+    let mut out = [BEFORE; 8200];
     let mut out_kinds = [BEFORE_KIND; 1700];
     read_numbers(s, HEAD, n, &mut numbers);
     read_kinds(s, HEAD + 8 * n, k, &mut kinds);
@@ -214,7 +76,7 @@ fn agrees(s: &[u8]) -> bool
         &mut out_kinds,
         kind_room,
     );
-    if !is_answered(s, a) {
+    if !is_answered(a, word_at(s, 48), word_at(s, 56)) {
         return false;
     }
     is_output(s, &out, &out_kinds)

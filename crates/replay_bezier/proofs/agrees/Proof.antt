@@ -55,26 +55,26 @@ word-at-requires-7 c κs = search needs
 returns-2 : tie.Need-returns-2
 returns-2 c = search needs
 
-mul-is-written : tie.Need-mul-is-written
-mul-is-written c = search needs
+mul-are-numbers-written : tie.Need-mul-are-numbers-written
+mul-are-numbers-written c = search needs
 
-add-is-written : tie.Need-add-is-written
-add-is-written c = search needs
+add-are-numbers-written : tie.Need-add-are-numbers-written
+add-are-numbers-written c = search needs
 
-slice-aggregate-is-written : tie.Need-slice-aggregate-is-written
-slice-aggregate-is-written c = search needs
+slice-aggregate-are-numbers-written : tie.Need-slice-aggregate-are-numbers-written
+slice-aggregate-are-numbers-written c = search needs
 
-is-written-requires : tie.Need-is-written-requires
-is-written-requires c κs = search needs
+are-numbers-written-requires : tie.Need-are-numbers-written-requires
+are-numbers-written-requires c κs = search needs
 
 returns-3 : tie.Need-returns-3
 returns-3 c = search needs
 
-slice-aggregate-is-left : tie.Need-slice-aggregate-is-left
-slice-aggregate-is-left c = search needs
+slice-aggregate-are-numbers-left : tie.Need-slice-aggregate-are-numbers-left
+slice-aggregate-are-numbers-left c = search needs
 
-is-left-requires : tie.Need-is-left-requires
-is-left-requires c κs = omega (arith, c .before .before .before .before .before .before .before .before .before .before .before .before .before .before .before .before .before .before .before .before .before .before .before .before .before .pre, c .before .before .before .before .before .before .before .before .before .before .before .before .before .before .before .before .before .before .before .before .before .before .word-at2 .ensures)
+are-numbers-left-requires : tie.Need-are-numbers-left-requires
+are-numbers-left-requires c κs = omega (arith, c .before .before .before .before .before .before .before .before .before .before .before .before .before .before .before .before .before .before .before .before .before .before .before .before .before .pre, c .before .before .before .before .before .before .before .before .before .before .before .before .before .before .before .before .before .before .before .before .before .before .word-at2 .ensures)
 
 returns-4 : tie.Need-returns-4
 returns-4 c = search needs
@@ -100,11 +100,11 @@ agrees-spec =
     returns
     word-at-requires-7
     returns-2
-    mul-is-written
-    add-is-written
-    slice-aggregate-is-written
-    is-written-requires
+    mul-are-numbers-written
+    add-are-numbers-written
+    slice-aggregate-are-numbers-written
+    are-numbers-written-requires
     returns-3
-    slice-aggregate-is-left
-    is-left-requires
+    slice-aggregate-are-numbers-left
+    are-numbers-left-requires
     returns-4)

@@ -1,9 +1,8 @@
 -- `replay_bezier::clear` is safe and ends. The measure is how many places are left. Assumes nothing.
 use mathlib.Core.Path.{_≡_}
 use Prim.Native.Nat.{_≤_, _-_}
-use native.Mathlib.Omega.{arith}
 use borrow.Author.Needs.{needs}
-use lib.ListN.{length, length-set}
+use lib.ListN.{length}
 use Rattle.replay_bezier.proofs.clear.Statement.{statement}
 use Rattle.replay_bezier.proofs.clear.Tie as tie
 

@@ -14,20 +14,20 @@ abbrev μ-loop : tie.MeasureT-loop
 loop-holds : tie.Need-loop-holds Inv-loop μ-loop
 loop-holds c = omega arith
 
-mul-pattern-at : tie.Need-mul-pattern-at Inv-loop μ-loop
-mul-pattern-at c = omega arith
+mul-word-at : tie.Need-mul-word-at Inv-loop μ-loop
+mul-word-at c = omega arith
 
-pattern-at-requires : tie.Need-pattern-at-requires Inv-loop μ-loop
-pattern-at-requires c κs = omega arith
+word-at-requires : tie.Need-word-at-requires Inv-loop μ-loop
+word-at-requires c κs = omega arith
 
-mul-pattern-at-2 : tie.Need-mul-pattern-at-2 Inv-loop μ-loop
-mul-pattern-at-2 c = omega arith
+mul-word-at-2 : tie.Need-mul-word-at-2 Inv-loop μ-loop
+mul-word-at-2 c = omega arith
 
-add-pattern-at : tie.Need-add-pattern-at Inv-loop μ-loop
-add-pattern-at c = omega arith
+add-word-at : tie.Need-add-word-at Inv-loop μ-loop
+add-word-at c = omega arith
 
-pattern-at-requires-2 : tie.Need-pattern-at-requires-2 Inv-loop μ-loop
-pattern-at-requires-2 c κs = omega arith
+word-at-requires-2 : tie.Need-word-at-requires-2 Inv-loop μ-loop
+word-at-requires-2 c κs = omega arith
 
 is-same-requires : tie.Need-is-same-requires Inv-loop μ-loop
 is-same-requires c κs = tt
@@ -54,11 +54,11 @@ differences-spec =
     Inv-loop
     μ-loop
     loop-holds
-    mul-pattern-at
-    pattern-at-requires
-    mul-pattern-at-2
-    add-pattern-at
-    pattern-at-requires-2
+    mul-word-at
+    word-at-requires
+    mul-word-at-2
+    add-word-at
+    word-at-requires-2
     is-same-requires
     add-differ
     add-i

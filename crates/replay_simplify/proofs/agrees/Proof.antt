@@ -58,6 +58,12 @@ slice-aggregate-call-4 c = search needs
 call-requires : tie.Need-call-requires
 call-requires c κs = search needs
 
+word-at-requires-7 : tie.Need-word-at-requires-7
+word-at-requires-7 c κs = search needs
+
+word-at-requires-8 : tie.Need-word-at-requires-8
+word-at-requires-8 c κs = omega (arith, c .before .before .before .before .before .before .before .before .before .before .before .before .before .before .before .before .before .before .before .before .before .before .pre .head)
+
 is-answered-requires : tie.Need-is-answered-requires
 is-answered-requires c κs = search needs
 
@@ -71,7 +77,7 @@ slice-aggregate-is-output-2 : tie.Need-slice-aggregate-is-output-2
 slice-aggregate-is-output-2 c = search needs
 
 is-output-requires : tie.Need-is-output-requires
-is-output-requires c κs = (c .before .before .before .before .before .before .before .before .before .before .before .before .before .before .before .before .before .before .before .before .before .before .before .before .before .pre, omega arith, omega arith)
+is-output-requires c κs = (c .before .before .before .before .before .before .before .before .before .before .before .before .before .before .before .before .before .before .before .before .before .before .before .before .before .before .before .pre, omega arith, omega arith)
 
 returns-2 : tie.Need-returns-2
 returns-2 c = search needs
@@ -98,6 +104,8 @@ agrees-spec =
     slice-aggregate-call-3
     slice-aggregate-call-4
     call-requires
+    word-at-requires-7
+    word-at-requires-8
     is-answered-requires
     returns
     slice-aggregate-is-output

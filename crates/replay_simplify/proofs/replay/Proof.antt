@@ -44,7 +44,7 @@ part-agrees-end : tie.Need-part-agrees-end Inv-loop μ-loop
 part-agrees-end c = search needs
 
 agrees-requires : tie.Need-agrees-requires Inv-loop μ-loop
-agrees-requires c κs = c .before .before .size-of .ensures .1 (c .before .if1 .left)
+agrees-requires c κs = c .before .before .size-of .ensures .1 .1 (c .before .if1 .left)
 
 add-differ : tie.Need-add-differ Inv-loop μ-loop
 add-differ c = search needs
@@ -53,13 +53,13 @@ add-compared : tie.Need-add-compared Inv-loop μ-loop
 add-compared c = search needs
 
 add-at : tie.Need-add-at Inv-loop μ-loop
-add-at c = omega (arith, simp (length-take, length-drop) at (c .before .before .before .before .size-of .ensures .0))
+add-at c = omega (arith, simp (length-take, length-drop) at (c .before .before .before .before .size-of .ensures .1 .0))
 
 loop-less : tie.Need-loop-less Inv-loop μ-loop
-loop-less c = omega (arith, simp (length-take, length-drop) at (c .before .before .before .before .size-of .ensures .0))
+loop-less c = omega (arith, simp (length-take, length-drop) at (c .before .before .before .before .size-of .ensures .1 .0))
 
 loop-again : tie.Need-loop-again Inv-loop μ-loop
-loop-again c = let h = simp (length-take, length-drop) at (c .before .before .before .before .size-of .ensures .0) in ⊎-elim (λ k. omega arith) (λ k. omega arith) (c .if2 .came)
+loop-again c = let h = simp (length-take, length-drop) at (c .before .before .before .before .size-of .ensures .1 .0) in ⊎-elim (λ k. omega arith) (λ k. omega arith) (c .if2 .came)
 
 returns-2 : tie.Need-returns-2 Inv-loop μ-loop
 returns-2 c = search needs
