@@ -26,10 +26,10 @@
      rt_simplify_polyline            231328 bytes
      rt_simplify_polyline_3d         231328 bytes
      rt_simplify_data                117200 bytes
-     rt_fit_points_with_primitives   818840 bytes
-     rt_fit_arcs                     360936 bytes
-     rt_fit_file                     477752 bytes
-     rt_replace_lap                  419544 bytes
+     rt_fit_points_with_primitives   818856 bytes
+     rt_fit_arcs                     341720 bytes
+     rt_fit_file                     458648 bytes
+     rt_replace_lap                  400232 bytes
    No input recurses deeper, since each cut takes a point off. What the innermost call takes beside that was measured on
    these zigzags alone, and bytes that a call reserves but never writes do not show: leave a margin of some KiB. */
 #ifndef PIZHGAROL_H

@@ -2,18 +2,20 @@
 use std::process::ExitCode;
 
 const USAGE: &str = "\
-geometry bezier COUNT SEED | geometry arc COUNT SEED | geometry grid | geometry list-bezier COUNT SEED
+geometry bezier COUNT SEED | geometry arc COUNT SEED | geometry grid | geometry bench-bezier
+geometry list-bezier COUNT SEED
 geometry simplify COUNT SEED | geometry grid-simplify | geometry bench-simplify | geometry list-simplify COUNT SEED
 geometry fit COUNT SEED | geometry recordings COUNT SEED | geometry grid-fit | geometry bench-fit | geometry zigzag-in KIB
-geometry list-fit COUNT SEED
-geometry course COUNT SEED | geometry laps COUNT SEED | geometry bench-laps | geometry list-laps COUNT SEED";
+geometry list-fit COUNT SEED | geometry list-course COUNT SEED
+geometry course COUNT SEED | geometry laps COUNT SEED | geometry bench-laps | geometry list-laps COUNT SEED
+geometry lapfit COUNT SEED | geometry bench-lapfit";
 
 /// Whether nothing differed or failed; none where the words ask for nothing.
 #[cfg(given)]
 fn run(words: &[String]) -> Option<bool> {
     use oracle::geometry::{
-        arc, bench_fit, bench_laps, bench_simplify, bezier, course, fit, frame, grid, grid_fit, grid_simplify, laps,
-        list, list_fit, list_laps, list_simplify, simplify,
+        arc, bench_bezier, bench_fit, bench_laps, bench_simplify, bezier, course, fit, frame, grid, grid_fit,
+        grid_simplify, laps, list, list_course, list_fit, list_laps, list_simplify, listing, simplify,
     };
     use std::io::{BufWriter, stdout};
 
@@ -25,16 +27,22 @@ fn run(words: &[String]) -> Option<bool> {
         ("fit", [count, seed]) => Some(frame::run(&fit::FUNCTIONS, *count, *seed)),
         ("course", [count, seed]) => Some(frame::run(&course::FUNCTIONS, *count, *seed)),
         ("laps", [count, seed]) => Some(frame::run(&laps::FUNCTIONS, *count, *seed)),
+        ("lapfit", [count, seed]) => Some(frame::run(&listing::FUNCTIONS, *count, *seed)),
+        ("bench-lapfit", []) => Some(listing::bench()),
         ("recordings", [count, seed]) => Some(frame::run(&[fit::recorded], *count, *seed)),
         ("grid", []) => Some(grid::run()),
         ("grid-fit", []) => Some(grid_fit::run()),
         ("grid-simplify", []) => Some(grid_simplify::run()),
+        ("bench-bezier", []) => Some(bench_bezier::run()),
         ("bench-fit", []) => Some(bench_fit::run()),
         ("zigzag-in", [kib]) => Some(bench_fit::zigzag_in(*kib as usize)),
         ("bench-laps", []) => Some(bench_laps::run()),
         ("bench-simplify", []) => Some(bench_simplify::run()),
         ("list-bezier", [count, seed]) => {
             Some(list::list(*count as usize, *seed, &mut BufWriter::new(stdout())).is_ok())
+        }
+        ("list-course", [count, seed]) => {
+            Some(list_course::list(*count as usize, *seed, &mut BufWriter::new(stdout())).is_ok())
         }
         ("list-fit", [count, seed]) => {
             Some(list_fit::list(*count as usize, *seed, &mut BufWriter::new(stdout())).is_ok())

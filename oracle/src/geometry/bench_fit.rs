@@ -1,5 +1,5 @@
 //! The time of a fit: the proved functions and the given Rust on the same points, in one run.
-use super::bench_simplify::{Row, head, print};
+use super::bench::{Output, Row, table};
 use super::bezier::triple;
 use super::calls::{rt_fit_points_recursive, rt_fit_points_with_primitives};
 use super::draw::Draw;
@@ -15,18 +15,6 @@ fn thinned(list: &[f64], tolerance: f64) -> Vec<f64> {
     simplify::simplify_polyline_3d(&triples(list), tolerance).iter().flat_map(|p| [p.x, p.y, p.z]).collect()
 }
 
-/// Outputs for the most of so many points.
-struct Output {
-    kinds: Vec<u8>,
-    numbers: Vec<f64>,
-}
-
-impl Output {
-    fn new(points: usize) -> Output {
-        Output { kinds: vec![0; points], numbers: vec![0.0; 9 * points] }
-    }
-}
-
 fn whole(name: String, list: Vec<f64>, tolerance: f64) -> Row<'static> {
     let (points, mut out) = (triples(&list), Output::new(list.len() / 3));
     Row {
@@ -37,22 +25,11 @@ fn whole(name: String, list: Vec<f64>, tolerance: f64) -> Row<'static> {
 }
 
 fn primitives(list: &[f64], tolerance: f64, out: &mut Output) -> usize {
-    let mut count = 0;
-    let (kinds, numbers) = (&mut out.kinds, &mut out.numbers);
-    // SAFETY: the lengths are those of the list and of the outputs
-    unsafe {
-        rt_fit_points_with_primitives(
-            list.as_ptr(),
-            list.len(),
-            tolerance,
-            kinds.as_mut_ptr(),
-            kinds.len(),
-            numbers.as_mut_ptr(),
-            numbers.len(),
-            &mut count,
-        )
-    };
-    count
+    let (points, n) = (list.as_ptr(), list.len());
+    // SAFETY: the length is that of the list
+    out.count(|k, ks, x, xs, count| unsafe {
+        rt_fit_points_with_primitives(points, n, tolerance, k, ks, x, xs, count)
+    })
 }
 
 /// The middle half of a list.
@@ -69,24 +46,11 @@ fn part(name: String, list: Vec<f64>, tolerance: f64) -> Row<'static> {
 }
 
 fn recursive(list: &[f64], tolerance: f64, [start, end]: [usize; 2], out: &mut Output) -> usize {
-    let mut count = 0;
-    let (kinds, numbers) = (&mut out.kinds, &mut out.numbers);
-    // SAFETY: the lengths are those of the list and of the outputs
-    unsafe {
-        rt_fit_points_recursive(
-            list.as_ptr(),
-            list.len(),
-            tolerance,
-            start,
-            end,
-            kinds.as_mut_ptr(),
-            kinds.len(),
-            numbers.as_mut_ptr(),
-            numbers.len(),
-            &mut count,
-        )
-    };
-    count
+    let (points, n) = (list.as_ptr(), list.len());
+    // SAFETY: the length is that of the list
+    out.count(|k, ks, x, xs, count| unsafe {
+        rt_fit_points_recursive(points, n, tolerance, start, end, k, ks, x, xs, count)
+    })
 }
 
 /// A quarter of a circle in equal steps: one arc trial, which passes.
@@ -166,7 +130,6 @@ pub fn zigzag_in(kib: usize) -> bool {
 
 /// Prints the table, and answers whether both sides made as many commands of each input.
 pub fn run() -> bool {
-    head("commands");
-    let same = rows().iter_mut().fold(true, |same, row| print(row) && same);
+    let same = table("commands", rows());
     stacks() && same
 }

@@ -4,7 +4,7 @@
 //! Beside the proved functions on files stands the given Rust's `fit_arcs` of each lap, with the reading of the file into
 //! its commands and the writing of the fitted file: once with document 01's rows, as the proved functions have them, and
 //! once with no check but of mark and table.
-use super::bench_simplify::{Row, head, print};
+use super::bench::{Output, Row, table};
 use super::bezier::steps_needed;
 use super::calls::{rt_fit_arcs, rt_fit_file, rt_replace_lap};
 use super::draw::Draw;
@@ -49,21 +49,26 @@ fn fitted_lap(lap: &[Command], tolerance: f64) -> Vec<u8> {
 }
 
 /// Document 01's rows 4 and 5 of a lap, and its most.
-fn most_of(body: &[u8], lap: &[Command], tolerance: f64) -> f64 {
+struct Looked {
+    formed: bool,
+    within: bool,
+    most: f64,
+}
+
+fn look(body: &[u8], lap: &[Command], tolerance: f64) -> Looked {
     let near = |p: Point3D| [p.x, p.y, p.z].iter().all(|x| x.abs() <= 1_000_000.0);
     let finite = |p: Point3D| [p.x, p.y, p.z].iter().all(|x| x.is_finite());
-    let (mut most, mut last) = (0.0, Point3D::new(0.0, 0.0, 0.0));
+    let (mut looked, mut last) = (Looked { formed: true, within: true, most: 0.0 }, Point3D::new(0.0, 0.0, 0.0));
     for (i, (one, command)) in body.chunks_exact(73).zip(lap).enumerate() {
         let end = command.end_point();
-        let unused = || one[25..].iter().all(|byte| *byte == 0);
-        let right = match command {
-            Command::Move { .. } => i == 0 && unused(),
-            Command::Line { .. } => i > 0 && unused(),
-            Command::Arc { center_offset, normal, .. } => i > 0 && finite(*center_offset) && finite(*normal),
-            Command::Bezier { control1, control2, .. } => i > 0 && near(*control1) && near(*control2),
-        };
-        assert!(one[0] < 4 && right && near(end), "an input that is accepted");
-        most += match command {
+        looked.formed &= (i == 0) == (one[0] == 0) && one[0] < 4 && (one[0] > 1 || one[25..].iter().all(|b| *b == 0));
+        looked.within &= near(end)
+            && match command {
+                Command::Move { .. } | Command::Line { .. } => true,
+                Command::Arc { center_offset, normal, .. } => finite(*center_offset) && finite(*normal),
+                Command::Bezier { control1, control2, .. } => near(*control1) && near(*control2),
+            };
+        looked.most += match command {
             Command::Bezier { control1, control2, .. } => {
                 let numbers = [end, *control1, *control2, last].map(|p| [p.x, p.y, p.z]);
                 steps_needed(numbers.as_flattened(), tolerance * 0.25)
@@ -72,28 +77,56 @@ fn most_of(body: &[u8], lap: &[Command], tolerance: f64) -> f64 {
         };
         last = end;
     }
-    most
+    looked
 }
 
-fn given_fit(bytes: &[u8], tolerance: f64, checked: bool) -> Vec<u8> {
-    let raw = bodies(bytes).expect("a right table");
-    let laps: Vec<Vec<Command>> = raw.iter().map(|body| read(body)).collect();
-    if checked {
-        let most: f64 = raw.iter().zip(&laps).map(|(body, lap)| most_of(body, lap, tolerance)).sum();
-        assert!((0.001..=1_000.0).contains(&tolerance) && most <= 800.0, "an input that is accepted");
+/// The laps of a file, or the number of the first of document 01's rows that its fit falls under, an output's room left out.
+pub fn checked(bytes: &[u8], tolerance: f64) -> Result<Vec<Vec<Command>>, u32> {
+    if bytes.len() < 8 {
+        return Err(1);
     }
+    if bytes.len() > 65_536 || u32::from_le_bytes([bytes[4], bytes[5], bytes[6], bytes[7]]) > 64 {
+        return Err(2);
+    }
+    let raw = bodies(bytes).ok_or(3u32)?;
+    let laps: Vec<Vec<Command>> = raw.iter().map(|body| read(body)).collect();
+    let looked: Vec<Looked> = raw.iter().zip(&laps).map(|(body, lap)| look(body, lap, tolerance)).collect();
+    let rows = [
+        (4, !looked.iter().all(|lap| lap.formed)),
+        (5, !looked.iter().all(|lap| lap.within)),
+        (6, !(0.001..=1_000.0).contains(&tolerance)),
+        (8, looked.iter().map(|lap| lap.most).sum::<f64>() > 800.0),
+    ];
+    match rows.iter().find(|row| row.1) {
+        Some(row) => Err(row.0),
+        None => Ok(laps),
+    }
+}
+
+fn given_fit(bytes: &[u8], tolerance: f64, with_rows: bool) -> Vec<u8> {
+    let laps = if with_rows {
+        checked(bytes, tolerance).expect("an input that is accepted")
+    } else {
+        bodies(bytes).expect("a right table").iter().map(|body| read(body)).collect()
+    };
     file(&laps.iter().map(|lap| fitted_lap(lap, tolerance)).collect::<Vec<_>>())
 }
 
 /// The new commands come as a lap's body too, from which the rows read what the commands do not keep.
 fn given_replacement(recorded: &[u8], fitted: &[u8], lap: usize, new: &[u8], tolerance: f64, checked: bool) -> Vec<u8> {
-    let raw = bodies(recorded).expect("a right table");
     let mut laps: Vec<Vec<u8>> = bodies(fitted).expect("a right table").iter().map(|body| body.to_vec()).collect();
     let commands = read(new);
     if checked {
-        raw.iter().for_each(|body| assert!(most_of(body, &read(body), tolerance) > 0.0, "a lap has a Move"));
+        let looked = |body: &[u8], lap: &[Command]| {
+            let looked = look(body, lap, tolerance);
+            assert!(looked.formed && looked.within, "an input that is accepted");
+            looked.most
+        };
+        for body in bodies(recorded).expect("a right table") {
+            black_box(looked(body, &read(body)));
+        }
         let others: usize = laps.iter().map(|body| body.len() / 73).sum::<usize>() - laps[lap - 1].len() / 73;
-        let most = most_of(new, &commands, tolerance) + others as f64;
+        let most = looked(new, &commands) + others as f64;
         assert!((0.001..=1_000.0).contains(&tolerance) && most <= 800.0, "an input that is accepted");
     }
     laps[lap - 1] = fitted_lap(&commands, tolerance);
@@ -148,31 +181,25 @@ fn replaced(name: String, recorded: Vec<u8>, lap: usize, new: Commands, toleranc
 }
 
 fn course(name: String, c: Commands, tolerance: f64) -> Row<'static> {
-    let data = c.given();
-    let (mut kinds, mut numbers) = (vec![0; c.kinds.len()], vec![0.0; c.numbers.len()]);
+    let (data, mut out) = (c.given(), Output::new(c.kinds.len()));
     Row {
         name,
         given: Box::new(move || fitting::fit_arcs(black_box(&data), black_box(tolerance)).len()),
         proved: Box::new(move || {
-            let mut count = 0;
-            // SAFETY: the lengths are those of the commands and of the outputs
-            unsafe {
-                rt_fit_arcs(
-                    c.kinds.as_ptr(),
-                    c.kinds.len(),
-                    c.numbers.as_ptr(),
-                    c.numbers.len(),
-                    tolerance,
-                    kinds.as_mut_ptr(),
-                    kinds.len(),
-                    numbers.as_mut_ptr(),
-                    numbers.len(),
-                    &mut count,
-                )
-            };
-            count
+            let (kinds, n, nums, size) = (c.kinds.as_ptr(), c.kinds.len(), c.numbers.as_ptr(), c.numbers.len());
+            // SAFETY: the lengths are those of the commands
+            out.count(|k, ks, x, xs, count| unsafe {
+                rt_fit_arcs(kinds, n, nums, size, tolerance, k, ks, x, xs, count)
+            })
         }),
     }
+}
+
+/// Full files: six laps with 800 commands, and the most laps, with twelve commands each.
+pub fn full_files(draw: &mut Draw) -> [(&'static str, Vec<Commands>); 2] {
+    let mut laps = |counts: &[usize]| counts.iter().map(|count| lines(&track(draw, *count, 4.0, 1.0))).collect();
+    let six = laps(&[133, 133, 133, 133, 134, 134]);
+    [("six laps, 800 commands", six), ("64 laps, 768 commands", laps(&[12; 64]))]
 }
 
 fn rows() -> Vec<Row<'static>> {
@@ -184,12 +211,16 @@ fn rows() -> Vec<Row<'static>> {
             rows.push(course(format!("fit_arcs, track of {count} points, {tolerance}"), c.clone(), tolerance));
         }
     }
-    // six laps, 800 commands
-    let laps: Vec<Commands> =
-        [133, 133, 133, 133, 134, 134].iter().map(|count| lines(&track(&mut draw, *count, 4.0, 1.0))).collect();
-    let (bytes, new) = (recording(&laps), lines(&track(&mut draw, 133, 4.0, 1.0)));
-    // the most laps, twelve commands each
-    let short: Vec<Commands> = (0..64).map(|_| lines(&track(&mut draw, 12, 4.0, 1.0))).collect();
+    // growth: one lap, and one of two laps replaced
+    let lap = |draw: &mut Draw, count: usize| lines(&track(draw, count, 4.0, 1.0));
+    for count in [100, 200, 400, 700] {
+        let (one, other) = (lap(&mut draw, count), lap(&mut draw, 100));
+        rows.push(whole(format!("file of one lap, {count} commands, 2"), recording(&[one.clone()]), 2.0, true));
+        let (two, new) = (recording(&[one, other]), lap(&mut draw, count));
+        rows.push(replaced(format!("lap of {count} commands replaced, one of two, 2"), two, 1, new, 2.0, true));
+    }
+    let [(_, six), (_, short)] = full_files(&mut draw);
+    let (bytes, new) = (recording(&six), lines(&track(&mut draw, 133, 4.0, 1.0)));
     for (checked, how) in [(true, ""), (false, ", Rust without checks")] {
         for tolerance in [0.5, 2.0, 5.0] {
             let name = format!("file of six laps, 800 commands, {tolerance}{how}");
@@ -204,6 +235,5 @@ fn rows() -> Vec<Row<'static>> {
 
 /// Prints the table, and answers whether both sides made as many commands or bytes of each input.
 pub fn run() -> bool {
-    head("made");
-    rows().iter_mut().fold(true, |same, row| print(row) && same)
+    table("made", rows())
 }

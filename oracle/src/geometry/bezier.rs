@@ -37,11 +37,11 @@ pub fn pairs(numbers: &[f64]) -> Vec<Point> {
 }
 
 /// The four points of a curve.
-fn plane(c: &[f64]) -> (Point, Point, Point, Point) {
+pub fn plane(c: &[f64]) -> (Point, Point, Point, Point) {
     (pair(c, 0), pair(c, 1), pair(c, 2), pair(c, 3))
 }
 
-fn space(c: &[f64]) -> (Point3D, Point3D, Point3D, Point3D) {
+pub fn space(c: &[f64]) -> (Point3D, Point3D, Point3D, Point3D) {
     (triple(c, 0), triple(c, 1), triple(c, 2), triple(c, 3))
 }
 

@@ -22,13 +22,15 @@ pub const FUNCTIONS: [Function; 2] = [draw_arcs, draw_optimized];
 pub struct Way {
     tolerance: f64,
     made: Vec<Command>,
+    /// The steps that each command covers: none where it is kept.
+    pub steps: Vec<usize>,
     stands: Stands,
     chain: Vec<Point3D>,
 }
 
 impl Way {
     fn new(tolerance: f64) -> Way {
-        Way { tolerance, made: Vec::new(), stands: Stands::UNTRIED, chain: Vec::new() }
+        Way { tolerance, made: Vec::new(), steps: Vec::new(), stands: Stands::UNTRIED, chain: Vec::new() }
     }
 
     /// Fits the chain, thinned or as it is, and empties it.
@@ -41,6 +43,13 @@ impl Way {
         let walk = Walk::over(&points, self.tolerance, 0, points.len() - 1);
         self.stands = self.stands.and(Stands { margins: walk.margins, missed: walk.missed, followed: true });
         self.made.extend(walk.commands);
+        self.steps.extend(walk.steps);
+    }
+
+    /// The command stays as it is.
+    fn keep(&mut self, command: &Command) {
+        self.made.push(command.clone());
+        self.steps.push(0);
     }
 
     /// Where the Rust's answer stands.
@@ -66,7 +75,7 @@ pub fn way_of_arcs(data: &[Command], tolerance: f64) -> Way {
             }
             Command::Move { .. } | Command::Arc { .. } => {
                 way.flush(true);
-                way.made.push(command.clone());
+                way.keep(command);
                 if matches!(command, Command::Arc { .. }) {
                     way.chain.push(end);
                 }
@@ -91,7 +100,7 @@ fn way_of_lines(data: &[Command], tolerance: f64) -> Way {
             way.chain.push(end);
         } else {
             way.flush(false);
-            way.made.push(command.clone());
+            way.keep(command);
             way.chain = vec![end];
         }
         last = end;

@@ -1,6 +1,6 @@
 //! The frame that every layer uses: what a call left on either side, compared and counted.
 use super::draw::Draw;
-use super::lent::Lent;
+use super::lent::{Lent, Purpose};
 use crate::random::Random;
 use std::collections::{BTreeMap, BTreeSet};
 
@@ -28,6 +28,25 @@ pub struct Compared {
     pub arguments: Vec<Argument>,
     pub proved: Outcome,
     pub given: Outcome,
+}
+
+impl Compared {
+    /// The expected memory of a purpose.
+    pub fn lent(&self, purpose: Purpose) -> Option<&Lent> {
+        self.given.lent.iter().find(|lent| lent.purpose == purpose)
+    }
+
+    /// The count or the index that is expected, or the truth; 0 of a refusal.
+    pub fn count(&self) -> u64 {
+        if self.given.number != 0 {
+            return 0;
+        }
+        match (self.lent(Purpose::Count), self.lent(Purpose::Flag)) {
+            (Some(count), _) => count.words()[0],
+            (_, Some(flag)) => flag.words()[0] & 0xff,
+            _ => 0,
+        }
+    }
 }
 
 impl Call {

@@ -120,7 +120,7 @@ fn size_rows(laps: usize, most: f64, room: usize) -> [Row; 2] {
     [table::too_much(most), (9, (room as f64) < size(laps, most))]
 }
 
-fn fit_rows(bytes: &[u8], tolerance: f64, room: usize) -> Vec<Row> {
+pub fn fit_rows(bytes: &[u8], tolerance: f64, room: usize) -> Vec<Row> {
     let read = laps_of(bytes);
     let laps = read.as_deref().unwrap_or(&[]);
     let mut rows = vec![
@@ -232,7 +232,7 @@ fn judged(mut call: Compared, made: &[Made], room: usize) -> Judged {
 }
 
 /// A file as an argument: its length, and its bytes by eights, the lowest first.
-fn argument(name: &'static str, bytes: &[u8]) -> Argument {
+pub fn argument(name: &'static str, bytes: &[u8]) -> Argument {
     let eight = |chunk: &[u8]| chunk.iter().rev().fold(0, |word, byte| word << 8 | *byte as u64);
     (name, [bytes.len() as u64].into_iter().chain(bytes.chunks(8).map(eight)).collect())
 }
@@ -526,7 +526,8 @@ fn room(draw: &mut Draw, laps: usize, most: f64) -> usize {
     }
 }
 
-fn draw_fit(draw: &mut Draw) -> Compared {
+/// A file, now and then with something wrong, a tolerance, and an output's room.
+pub fn any_file(draw: &mut Draw) -> (Vec<u8>, f64, usize) {
     let mut laps = laps(draw);
     let tolerance = tolerance_for(draw, &laps);
     let room = room(draw, laps.len(), most_of(&laps, tolerance));
@@ -535,6 +536,11 @@ fn draw_fit(draw: &mut Draw) -> Compared {
     while draw.one_in(5) {
         damage(draw, &mut bytes);
     }
+    (bytes, tolerance, room)
+}
+
+fn draw_fit(draw: &mut Draw) -> Compared {
+    let (bytes, tolerance, room) = any_file(draw);
     fit_of(&bytes, tolerance, room).labelled(draw)
 }
 

@@ -13,7 +13,7 @@
 //! | then | the numbers that go in, and those that are written |
 use super::draw::Draw;
 use super::frame::{Compared, Function};
-use super::lent::{Lent, Purpose};
+use super::lent::Purpose;
 use super::{arc, bezier};
 use crate::random::Random;
 use std::collections::HashMap;
@@ -54,26 +54,10 @@ fn whole(call: &Compared) -> u64 {
     }
 }
 
-fn lent(call: &Compared, purpose: Purpose) -> Option<&Lent> {
-    call.given.lent.iter().find(|lent| lent.purpose == purpose)
-}
-
-/// The count that is expected, or the truth.
-fn count(call: &Compared) -> u64 {
-    if call.given.number != 0 {
-        return 0;
-    }
-    match (lent(call, Purpose::Count), lent(call, Purpose::Flag)) {
-        (Some(count), _) => count.words()[0],
-        (_, Some(flag)) => flag.words()[0] & 0xff,
-        _ => 0,
-    }
-}
-
 fn record(call: &Compared) -> Vec<u64> {
     let function = NAMES.iter().position(|name| *name == call.function).expect("a function with a place");
     let numbers = numbers(call);
-    let answer = lent(call, Purpose::Answer);
+    let answer = call.lent(Purpose::Answer);
     let written = answer.map_or(&[][..], |lent| lent.front());
     let mut words = vec![
         function as u64,
@@ -81,7 +65,7 @@ fn record(call: &Compared) -> Vec<u64> {
         whole(call),
         answer.map_or(0, |lent| lent.len() as u64),
         call.given.number as u64,
-        count(call),
+        call.count(),
         written.len() as u64,
     ];
     words.extend(numbers);

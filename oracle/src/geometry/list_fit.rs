@@ -22,7 +22,7 @@ use super::circle;
 use super::draw::Draw;
 use super::fit::{FUNCTIONS, Judged, deviation_round, primitives_of, recursive_of};
 use super::frame::Compared;
-use super::lent::{Lent, Purpose};
+use super::lent::Purpose;
 use super::margins::Margins;
 use super::shapes::{raised, reversed, track, zigzag};
 use super::simplify::{Rooms, triples};
@@ -53,30 +53,14 @@ fn first(words: &[u64]) -> u64 {
     words.first().copied().unwrap_or(0)
 }
 
-fn lent(call: &Compared, purpose: Purpose) -> Option<&Lent> {
-    call.given.lent.iter().find(|lent| lent.purpose == purpose)
-}
-
-/// The count or the index that is expected, or the truth.
-fn count(call: &Compared) -> u64 {
-    if call.given.number != 0 {
-        return 0;
-    }
-    match (lent(call, Purpose::Count), lent(call, Purpose::Flag)) {
-        (Some(count), _) => count.words()[0],
-        (_, Some(flag)) => flag.words()[0] & 0xff,
-        _ => 0,
-    }
-}
-
 fn record(call: &Compared) -> Vec<u64> {
     let function = NAMES.iter().position(|name| *name == call.function).expect("a function with a place");
     let numbers = [argument(call, "circle"), argument(call, "points"), argument(call, "centre")].concat();
     let (range, rooms) = (argument(call, "range"), argument(call, "rooms"));
-    let answer = lent(call, Purpose::Answer);
+    let answer = call.lent(Purpose::Answer);
     let written = answer.map_or(&[][..], |lent| lent.front());
-    let kinds: Vec<u64> = lent(call, Purpose::Kinds).map_or(vec![], |lent| {
-        lent.words().iter().flat_map(|word| word.to_le_bytes()).take(count(call) as usize).map(u64::from).collect()
+    let kinds: Vec<u64> = call.lent(Purpose::Kinds).map_or(vec![], |lent| {
+        lent.words().iter().flat_map(|word| word.to_le_bytes()).take(call.count() as usize).map(u64::from).collect()
     });
     let mut words = vec![
         function as u64,
@@ -87,7 +71,7 @@ fn record(call: &Compared) -> Vec<u64> {
         answer.map_or(0, |lent| lent.len() as u64),
         first(rooms),
         call.given.number as u64,
-        count(call),
+        call.count(),
         written.len() as u64,
         kinds.len() as u64,
     ];

@@ -25,15 +25,11 @@ use std::io::{Result, Write};
 const NAMES: [&str; 3] = ["simplify_polyline", "simplify_polyline_3d", "simplify_data"];
 
 /// A drawn record has at most so many words.
-const LONG: usize = 140;
+pub const LONG: usize = 140;
 
 /// The argument of this name; nothing where there is none.
-fn argument<'a>(call: &'a Compared, names: &[&str]) -> &'a [u64] {
+pub fn argument<'a>(call: &'a Compared, names: &[&str]) -> &'a [u64] {
     call.arguments.iter().find(|(name, _)| names.contains(name)).map_or(&[], |(_, words)| words)
-}
-
-fn lent(call: &Compared, purpose: Purpose) -> Option<&Lent> {
-    call.given.lent.iter().find(|lent| lent.purpose == purpose)
 }
 
 /// The first kinds of lent bytes, a word each.
@@ -43,17 +39,22 @@ fn kinds(lent: &Lent, count: usize) -> Vec<u64> {
 
 fn record(call: &Compared) -> Vec<u64> {
     let function = NAMES.iter().position(|name| *name == call.function).expect("a function with a place");
+    record_of(call, function as u64, [2, 3, 9][function])
+}
+
+/// The record of a call under the function's number; an item that is written has so many numbers.
+pub fn record_of(call: &Compared, function: u64, width: usize) -> Vec<u64> {
     let (numbers, kinds_in) = (argument(call, &["points", "numbers"]), argument(call, &["kinds"]));
-    let answer = lent(call, Purpose::Answer).expect("an output");
+    let answer = call.lent(Purpose::Answer).expect("an output");
     let count = match call.given.number {
-        0 => lent(call, Purpose::Count).expect("a count").words()[0],
+        0 => call.lent(Purpose::Count).expect("a count").words()[0],
         _ => 0,
     };
-    let written = &answer.words()[..count as usize * [2, 3, 9][function]];
-    let kinds_out = lent(call, Purpose::Kinds).map_or(vec![], |lent| kinds(lent, count as usize));
+    let written = &answer.words()[..count as usize * width];
+    let kinds_out = call.lent(Purpose::Kinds).map_or(vec![], |lent| kinds(lent, count as usize));
     let kind_room = argument(call, &["rooms"]).first().copied().unwrap_or(0);
     let mut words = vec![
-        function as u64,
+        function,
         argument(call, &["tolerance"])[0],
         numbers.len() as u64,
         kinds_in.len() as u64,
@@ -71,13 +72,13 @@ fn record(call: &Compared) -> Vec<u64> {
 }
 
 /// Lines to these ends, one in so many a Move.
-fn lines(ends: &[f64], moves: usize) -> Commands {
+pub fn lines(ends: &[f64], moves: usize) -> Commands {
     let kinds = (0..ends.len() / 3).map(|i| (i % moves != 0) as u8).collect();
     let numbers = ends.chunks(3).flat_map(|p| [p[0], p[1], p[2], 0.0, 0.0, 0.0, 0.0, 0.0, 0.0]).collect();
     Commands { kinds, numbers }
 }
 
-fn full(c: &Commands) -> Rooms {
+pub fn full(c: &Commands) -> Rooms {
     Rooms { kinds: c.kinds.len(), numbers: c.numbers.len() }
 }
 
@@ -140,7 +141,7 @@ fn edges(draw: &mut Draw) -> Vec<Compared> {
     ]
 }
 
-fn write(words: &[u64], out: &mut impl Write) -> Result<()> {
+pub fn write(words: &[u64], out: &mut impl Write) -> Result<()> {
     words.iter().try_for_each(|word| out.write_all(&word.to_le_bytes()))
 }
 

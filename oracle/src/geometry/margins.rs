@@ -52,6 +52,8 @@ pub struct Walk<'a> {
     points: &'a [Point3D],
     tolerance: f64,
     pub commands: Vec<Command>,
+    /// How many steps of the points each command covers.
+    pub steps: Vec<usize>,
     pub margins: Margins,
     /// Which of `MARGINS` did not hold in some trial.
     pub missed: [bool; 5],
@@ -128,7 +130,14 @@ fn trial(points: &[Point3D], centre: Point, radius: f64, tolerance: f64) -> Tria
 impl<'a> Walk<'a> {
     /// The walk of the range from start to end, which lie inside the points.
     pub fn over(points: &'a [Point3D], tolerance: f64, start: usize, end: usize) -> Walk<'a> {
-        let mut walk = Walk { points, tolerance, commands: Vec::new(), margins: Margins::Untried, missed: [false; 5] };
+        let mut walk = Walk {
+            points,
+            tolerance,
+            commands: Vec::new(),
+            steps: Vec::new(),
+            margins: Margins::Untried,
+            missed: [false; 5],
+        };
         walk.range(start, end);
         walk
     }
@@ -169,6 +178,7 @@ impl<'a> Walk<'a> {
             let z = if is_arc_clockwise(&flat, centre) { -1.0 } else { 1.0 };
             let center_offset = Point3D::new(centre.x - a.x, centre.y - a.y, 0.0);
             self.commands.push(Command::Arc { end: b, center_offset, normal: Point3D::new(0.0, 0.0, z) });
+            self.steps.push(end - start);
         }
         trial.passes
     }
@@ -193,6 +203,7 @@ impl<'a> Walk<'a> {
         let (deviation, split) = fitting::get_polyline_line_deviation(self.points, start, end);
         if deviation < self.tolerance {
             self.commands.push(Command::Line { end: self.points[end] });
+            self.steps.push(end - start);
             return;
         }
         let closed = plane(self.points[start]).distance(plane(self.points[end])) < 1e-6;

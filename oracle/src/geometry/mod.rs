@@ -3,6 +3,8 @@
 //! A layer is a list of functions, each of which draws an input, calls both sides and says what each left. `frame` counts
 //! and compares. Another layer is another such list.
 pub mod arc;
+pub mod bench;
+pub mod bench_bezier;
 pub mod bench_fit;
 pub mod bench_laps;
 pub mod bench_simplify;
@@ -20,9 +22,11 @@ pub mod grid_simplify;
 pub mod laps;
 pub mod lent;
 pub mod list;
+pub mod list_course;
 pub mod list_fit;
 pub mod list_laps;
 pub mod list_simplify;
+pub mod listing;
 pub mod margins;
 pub mod shapes;
 pub mod simplify;

@@ -1,0 +1,116 @@
+//! A list of calls of `fit_arcs` and `optimize_path_from_array` and of what is expected of each, for a replay with no
+//! Rust. The records are laid out as those of thinning (`list_simplify.rs`); the function is 0 for `fit_arcs`, 1 for
+//! `optimize_path_from_array` that thins, 2 for one that fits. A fit is listed only where document 01's margins that are
+//! asked hold.
+use super::course::{arcs_of, draw_arcs, draw_optimized, most, optimized_of};
+use super::draw::Draw;
+use super::fit::Judged;
+use super::frame::Compared;
+use super::list_simplify::{LONG, argument, full, lines, record_of, write};
+use super::margins::Margins;
+use super::shapes::{raised, track, zigzag};
+use super::simplify::{Commands, Rooms};
+use crate::random::Random;
+use std::io::{Result, Write};
+
+fn record(call: &Compared) -> Vec<u64> {
+    let fitted = argument(call, &["use_fit_arcs"]).first().copied();
+    record_of(call, fitted.map_or(0, |fitted| 1 + fitted), 9)
+}
+
+/// A Move to the first place and Lines to the others, all in the plane.
+fn course(plane: &[f64]) -> Commands {
+    let solid: Vec<f64> = plane.chunks(2).flat_map(|p| [p[0], p[1], 0.0]).collect();
+    lines(&solid, plane.len())
+}
+
+/// With a command put at a place.
+fn with(mut c: Commands, at: usize, kind: u8, nine: [f64; 9]) -> Commands {
+    c.kinds.insert(at, kind);
+    c.numbers.splice(9 * at..9 * at, nine);
+    c
+}
+
+/// Both functions on a course, with room for the most and with room for one command less.
+fn calls_of(c: &Commands, tolerance: f64) -> Vec<Judged> {
+    let needed = most(c, tolerance).min(900.0) as usize;
+    let rooms = |count: usize| Rooms { kinds: count, numbers: 9 * count };
+    vec![
+        arcs_of(c, tolerance, rooms(needed)),
+        arcs_of(c, tolerance, rooms(needed.saturating_sub(1))),
+        optimized_of(c, tolerance, false, full(c)),
+        optimized_of(c, tolerance, true, full(c)),
+        optimized_of(c, tolerance, true, rooms(c.kinds.len().saturating_sub(1))),
+    ]
+}
+
+/// Courses at which a slip shows: document 01's worked cases, an Arc and a Bezier inside, a Move inside, a Bezier with all
+/// points equal, a point at the tolerance, no Move, nothing.
+fn corners() -> Vec<Commands> {
+    let bend = course(&[3.0, 4.0, 4.0, 3.0, 5.0, 0.0]);
+    let angle = course(&[0.0, 0.0, 10.0, 0.0, 10.0, 10.0]);
+    let wave = course(&[0.0, 0.0, 1.0, 0.5, 2.0, 0.0, 3.0, 0.5, 4.0, 0.0]);
+    let arc = [9.0, 1.0, 2.0, -3.0, -4.0, 0.0, 0.0, 0.0, 1.0];
+    let curve = [9.0, 1.0, 2.0, 4.0, 4.0, 0.0, 6.0, 5.0, 1.0];
+    let point = [4.0, 3.0, 0.0, 4.0, 3.0, 0.0, 4.0, 3.0, 0.0];
+    let stop = [7.0, 7.0, 7.0, 0.0, 0.0, 0.0, 0.0, 0.0, 0.0];
+    vec![
+        with(bend.clone(), 2, 2, arc),
+        with(bend.clone(), 2, 3, curve),
+        with(bend.clone(), 2, 3, point),
+        with(bend.clone(), 2, 0, stop),
+        with(with(wave.clone(), 3, 3, curve), 2, 2, arc),
+        Commands { kinds: vec![1; 3], numbers: bend.numbers.clone() },
+        Commands { kinds: Vec::new(), numbers: Vec::new() },
+        bend,
+        angle,
+        wave,
+    ]
+}
+
+/// The most commands, one more, the deepest recursion, and a bend of about 800 steps.
+fn edges(draw: &mut Draw) -> Vec<Judged> {
+    let long = track(draw, 801, 4.0, 1.0);
+    let (all, more) = (lines(&raised(&long[..1_600], draw), 90), lines(&raised(&long, draw), 90));
+    let bend = with(course(&[0.0, 0.0, 1.0, 0.0]), 1, 3, [100.0, 0.0, 0.0, 30.0, 0.0, 0.0, 60.0, 0.0, 0.0]);
+    let mut calls = vec![
+        arcs_of(&all, 2.0, full(&all)),
+        optimized_of(&all, 2.0, true, full(&all)),
+        arcs_of(&more, 2.0, full(&more)),
+        arcs_of(&course(&zigzag(200, 1.0)), 0.5, full(&all)),
+    ];
+    for tolerance in [400.0 / 798.0, 0.5, 400.0 / 799.0] {
+        calls.push(arcs_of(&bend, tolerance, full(&all)));
+    }
+    // 800 steps, and 801
+    let alone = Commands { kinds: vec![3], numbers: bend.numbers[9..18].to_vec() };
+    for tolerance in [0.5, 400.0 / 800.5] {
+        calls.push(arcs_of(&alone, tolerance, full(&all)));
+    }
+    // a command's numbers too many
+    let surplus = Commands { kinds: all.kinds[..3].to_vec(), numbers: all.numbers[..36].to_vec() };
+    calls.extend([arcs_of(&surplus, 2.0, full(&all)), optimized_of(&surplus, 2.0, true, full(&all))]);
+    calls
+}
+
+/// Writes `count` records: the corners, the edges, and then both functions in turn. A long one is drawn again.
+pub fn list(count: usize, seed: u64, out: &mut impl Write) -> Result<()> {
+    let mut draw = Draw::new(Random::new(seed));
+    let mut fixed = edges(&mut draw);
+    for c in corners() {
+        for tolerance in [0.5, 0.45, 0.3, 0.25, 0.0] {
+            fixed.extend(calls_of(&c, tolerance));
+        }
+    }
+    let held = |one: &Judged| one.stands.is_none_or(|stands| stands.margins != Margins::Outside);
+    let mut records: Vec<Vec<u64>> = fixed.iter().filter(|one| held(one)).map(|one| record(&one.call)).collect();
+    while records.len() < count {
+        let call = if records.len() % 2 == 0 { draw_arcs(&mut draw) } else { draw_optimized(&mut draw) };
+        let words = record(&call);
+        if words.len() <= LONG && !draw.labels().contains(&Margins::Outside.label()) {
+            records.push(words);
+        }
+    }
+    records.iter().take(count).try_for_each(|words| write(words, out))?;
+    out.flush()
+}
