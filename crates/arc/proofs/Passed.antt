@@ -6,9 +6,9 @@ use native.Mathlib.Omega.{arith}
 use borrow.Author.Tests.{eqb-false}
 use lib.ListN.{length}
 use lib.Ieee.{Float}
-use Rattle.types.specs.declared.types.Point.{Point}
-use Rattle.types.specs.Outcome.{refusal}
-use Rattle.types.proofs.Rows.{row-passed}
+use Rattle.geo.specs.declared.types.Point.{Point}
+use Rattle.geo.specs.Outcome.{refusal}
+use Rattle.geo.proofs.Rows.{row-passed}
 use Rattle.arc.specs.Direction.{directionRows}
 
 pub direction-passed : (s : List Float) (m : Point) → 0 ≡ refusal (directionRows s m) → 1 ≤ length s / 2

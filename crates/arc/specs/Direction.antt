@@ -5,13 +5,13 @@ use mathlib.Core.List.{List, [], _∷_}
 use lib.ListN.{length}
 use lib.Dec.{ltb, eqb}
 use lib.Ieee.{Float}
-use Rattle.number.specs.Ops.{_⊕_, _⊖_, _≺_, +0}
-use Rattle.types.specs.declared.types.Point.{Point}
-use Rattle.types.specs.Vector.{perpDot}
-use Rattle.types.specs.Walk.{fold}
-use Rattle.types.specs.Lent.{pairAt}
-use Rattle.types.specs.Domain.{coordinate, centre, numbersIn, whole}
-use Rattle.types.specs.Outcome.{Row, row, refusal, Outcome, refused, gives, unless}
+use Rattle.floats.specs.Ops.{_⊕_, _⊖_, _≺_, +0}
+use Rattle.geo.specs.declared.types.Point.{Point}
+use Rattle.geo.specs.Vector.{perpDot}
+use Rattle.geo.specs.Walk.{fold}
+use Rattle.geo.specs.Lent.{pairAt}
+use Rattle.geo.specs.Domain.{coordinate, centre, numbersIn, whole}
+use Rattle.geo.specs.Outcome.{Row, row, refusal, Outcome, refused, gives, unless}
 use Rattle.arc.specs.declared.arc.Direction.{Direction}
 use Rattle.arc.specs.declared.arc.Direction.the-variants.{Clockwise, Refused}
 

@@ -1,13 +1,13 @@
 // src/geo/shape/arc.rs: the part that is carried over.
-use types::domain::all_coordinates;
-use types::domain::is_centre;
-use types::lent::pair_at;
-use types::types::Point;
+use geo::domain::all_coordinates;
+use geo::domain::is_centre;
+use geo::lent::pair_at;
+use geo::types::Point;
 ghost use mathlib.Core.Path.{_≡_};
 ghost use Prim.Native.Nat.{_-_, _*_, _≤_};
 ghost use lib.ListN.{length};
-ghost use Rattle.types.specs.Lent.{pairAt};
-ghost use Rattle.types.specs.Outcome.{refusal};
+ghost use Rattle.geo.specs.Lent.{pairAt};
+ghost use Rattle.geo.specs.Outcome.{refusal};
 ghost use Rattle.arc.specs.Direction.{turnAt, crossSum, directionRows, directionCall, directionAnswer};
 
 pub enum Direction {

@@ -10,11 +10,11 @@ use borrow.Author.Tests.{lt-ltb, le-ltb, eq-eqb, ne-eqb}
 use lib.ListN.{length, getD, set, length-set}
 use lib.Seq.{getD-set-same, getD-set-other}
 use lib.Ieee.{Float, nan, lt}
-use Rattle.number.specs.Ops.{_⊕_, +0}
-use Rattle.types.specs.declared.types.Point.{Point}
-use Rattle.types.specs.Vector.{distance}
+use Rattle.floats.specs.Ops.{_⊕_, +0}
+use Rattle.geo.specs.declared.types.Point.{Point}
+use Rattle.geo.specs.Vector.{distance}
 use Rattle.bezier.specs.declared.bezier.FittedCubic.the-variants.{Curve, None}
-use Rattle.bezier.specs.FitCubic.{noLength, chordSum, Chords, sums, solved, straight, fitted}
+use Rattle.bezier.specs.FitCubic.{noLength, chordSum, Chords, cubicSums, cubicSolved, straight, cubicFitted}
 
 -- the lengths before index i are filled in, and `last` is the length up to the point before it
 pub record Filling (at : ℕ → Point) (n : ℕ) (l : List Float) (last : Float) (i : ℕ) : Type 0 where
@@ -62,24 +62,24 @@ module _ (at : ℕ → Point) (n : ℕ) where
 
 -- ---- the curve of n points
 module _ (at : ℕ → Point) (n : ℕ) where
-  pub fitted-none : n < 2 → None ≡ fitted at n
-  unfolding fitted
+  pub fitted-none : n < 2 → None ≡ cubicFitted at n
+  unfolding cubicFitted
   fitted-none h = rw (lt-ltb _ _ h)
 
-  pub fitted-two : 2 ≤ n → n ≡ 2 → Curve (straight (at 0) (at (n - 1))) ≡ fitted at n
-  unfolding fitted
+  pub fitted-two : 2 ≤ n → n ≡ 2 → Curve (straight (at 0) (at (n - 1))) ≡ cubicFitted at n
+  unfolding cubicFitted
   fitted-two h g = rw (le-ltb _ _ h, eq-eqb _ _ g)
 
   -- three points or more, of this length in all
   module _ (h : 2 ≤ n) (g : n ≡ 2 → ⊥) (total : Float) (e : total ≡ chordSum at (n - 1)) where
-    pub fitted-short : lt total noLength ≡ true → Curve (straight (at 0) (at (n - 1))) ≡ fitted at n
-    unfolding fitted
+    pub fitted-short : lt total noLength ≡ true → Curve (straight (at 0) (at (n - 1))) ≡ cubicFitted at n
+    unfolding cubicFitted
     fitted-short t =
         let u : lt (chordSum at (n - 1)) noLength ≡ true = ap (λ (x : Float). lt x noLength) (sym e) ∙ t in
         rw (le-ltb _ _ h, ne-eqb _ _ g, u)
 
-    pub fitted-solved : lt total noLength ≡ false → Curve (solved (at 0) (at (n - 1)) (sums at n)) ≡ fitted at n
-    unfolding fitted
+    pub fitted-solved : lt total noLength ≡ false → Curve (cubicSolved (at 0) (at (n - 1)) (cubicSums at n)) ≡ cubicFitted at n
+    unfolding cubicFitted
     fitted-solved t =
         let u : lt (chordSum at (n - 1)) noLength ≡ false = ap (λ (x : Float). lt x noLength) (sym e) ∙ t in
         rw (le-ltb _ _ h, ne-eqb _ _ g, u)

@@ -9,10 +9,10 @@ use lib.Dec.{T, lt→ltb}
 use lib.IntN.{ℤ, pos}
 use lib.Ieee.{Float, nan, inf, fin, up, down, lt, le, eq, isNan, ofBits, toUnsigned}
 use lib.Ieee.Fits.{down-pos}
-use Rattle.number.specs.Ops.{two}
-use Rattle.number.specs.Float.{maxOf}
-use Rattle.number.proofs.Order.{clash, lt-gap}
-use Rattle.number.proofs.Bounds.{or-le}
+use Rattle.floats.specs.Ops.{two}
+use Rattle.floats.specs.Float.{maxOf}
+use Rattle.floats.proofs.Order.{clash, lt-gap}
+use Rattle.floats.proofs.Bounds.{or-le}
 use Rattle.bezier.specs.Calls.{mostSteps}
 
 -- the greater of a number and 2 is above -1

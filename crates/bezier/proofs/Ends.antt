@@ -6,10 +6,10 @@ use native.Mathlib.Nat.{mul-add, mul-one}
 use native.Mathlib.Omega.{arith}
 use lib.ListN.{length}
 use lib.Seq.{sets, length-sets}
-use Rattle.types.specs.Walk.{listFrom}
-use Rattle.types.specs.Lent.{flat}
-use Rattle.types.proofs.Walk.{list-step, list-done}
-use Rattle.types.proofs.Stores.{sets-append}
+use Rattle.geo.specs.Walk.{listFrom}
+use Rattle.geo.specs.Lent.{flat}
+use Rattle.geo.proofs.Walk.{list-step, list-done}
+use Rattle.geo.proofs.Stores.{sets-append}
 
 module _ {A B : Type 0} (f : A → List B) (width : ℕ) (same : (x : A) → length (f x) ≡ width) where
   -- Where the loop stands that writes `items i` at place at + i, up to n items: what is left to write, written from here, gives the whole.

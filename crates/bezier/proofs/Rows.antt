@@ -6,14 +6,14 @@ use mathlib.Core.List.{_∷_}
 use native.Mathlib.Omega.{arith}
 use borrow.Author.Tests.{lt-ltb, le-ltb, eq-eqb, ne-eqb, ltb-false}
 use lib.Dec.{ltb, eqb}
-use Rattle.types.specs.declared.types.Point.{Point}
-use Rattle.types.specs.declared.types.Point3D.{Point3D}
+use Rattle.geo.specs.declared.types.Point.{Point}
+use Rattle.geo.specs.declared.types.Point3D.{Point3D}
 use lib.ListN.{length}
 use lib.Ieee.{Float, le, toUnsigned}
-use Rattle.number.specs.Ops.{_⊗_}
-use Rattle.types.specs.Outcome.{refusal, unless}
-use Rattle.types.proofs.Walk.{list-length}
-use Rattle.types.proofs.Rows.{row-fails, row-passes, row-passed, refusal-front, done}
+use Rattle.floats.specs.Ops.{_⊗_}
+use Rattle.geo.specs.Outcome.{refusal, unless}
+use Rattle.geo.proofs.Walk.{list-length}
+use Rattle.geo.proofs.Rows.{row-fails, row-passes, row-passed, refusal-front, done}
 use Rattle.bezier.specs.declared.bezier.Tolerance.{Tolerance}
 use Rattle.bezier.specs.Flatten.{flattened}
 use Rattle.bezier.specs.Linearize.{steps, stepsNeeded, paramSteps}

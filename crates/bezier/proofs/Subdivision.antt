@@ -8,10 +8,10 @@ use native.Mathlib.Omega.{arith}
 use lib.Pow.{pow-pos}
 use lib.ListN.{length, length-append}
 use lib.Ieee.{Float, le}
-use Rattle.number.specs.Ops.{_≼_, half}
-use Rattle.types.specs.declared.types.Point3D.{Point3D}
-use Rattle.types.specs.declared.types.CubicBezier.{CubicBezier}
-use Rattle.types.specs.Vector.{midpoint}
+use Rattle.floats.specs.Ops.{_≼_, half}
+use Rattle.geo.specs.declared.types.Point3D.{Point3D}
+use Rattle.geo.specs.declared.types.CubicBezier.{CubicBezier}
+use Rattle.geo.specs.Vector.{midpoint}
 use Rattle.bezier.specs.Curve.{leftPart, rightPart}
 use Rattle.bezier.specs.Flatten.{isFlat, subdivided, flatnessSq, flattened}
 

@@ -4,13 +4,14 @@ use mathlib.Core.Bool.{Bool, not, _&&_, _||_}
 use mathlib.Core.List.{List, [], _∷_, _++_}
 use lib.ListN.{length}
 use lib.Dec.{ltb, eqb}
-use lib.Ieee.{Float, binary64, ofBits}
-use Rattle.number.specs.Ops.{_≼_, _⊗_}
-use Rattle.types.specs.declared.types.Point.{Point}
-use Rattle.types.specs.declared.types.Point3D.{Point3D}
-use Rattle.types.specs.Outcome.{Row, row, refusal, Outcome, refused, gives, unless}
-use Rattle.types.specs.Lent.{pairAt}
-use Rattle.types.specs.Domain.{pointIn, point3In, parameter, tolerance, toleranceSq, coordinate, numbersIn, whole}
+use lib.Ieee.{Float}
+use Rattle.floats.specs.Limits.{eightHundred, hundredth}
+use Rattle.floats.specs.Ops.{_≼_, _⊗_}
+use Rattle.geo.specs.declared.types.Point.{Point}
+use Rattle.geo.specs.declared.types.Point3D.{Point3D}
+use Rattle.geo.specs.Outcome.{Row, row, refusal, Outcome, refused, gives, unless}
+use Rattle.geo.specs.Lent.{pairAt}
+use Rattle.geo.specs.Domain.{pointIn, point3In, parameter, tolerance, toleranceSq, coordinate, numbersIn, whole}
 use Rattle.bezier.specs.declared.bezier.BezierPoint.{BezierPoint}
 use Rattle.bezier.specs.declared.bezier.BezierPoint.the-variants as Point·
 use Rattle.bezier.specs.declared.bezier.BezierSplit.{BezierSplit}
@@ -25,7 +26,7 @@ use Rattle.bezier.specs.declared.bezier.Tolerance.the-variants.{Given, D
 use Rattle.bezier.specs.Curve.{pointOn, leftPart, rightPart}
 use Rattle.bezier.specs.Flatten.{isFlat, subdivided, flattened}
 use Rattle.bezier.specs.Linearize.{Step, steps, stepsNeeded, paramSteps}
-use Rattle.bezier.specs.FitCubic.{fitted}
+use Rattle.bezier.specs.FitCubic.{cubicFitted}
 
 -- all four points of a curve are in the domain
 abbrev pub curveIn : Point → Point → Point → Point → Bool
@@ -78,7 +79,7 @@ linearizeCall p0 c1 c2 p1 n room = unless (refusal (linearizeRows p0 c1 c2 p1 n 
 
 -- ---- linearize_bezier_from_params
 abbrev pub mostSteps : Float
-mostSteps = ofBits binary64 0x4089_0000_0000_0000
+mostSteps = eightHundred
 
 -- the rows before the steps are counted
 unfoldable pub paramFirstRows : Point3D → Point3D → Point3D → Point3D → Float → ℕ → List Row
@@ -121,7 +122,7 @@ adaptiveCall p0 c1 c2 p1 limit depth room =
 -- ---- linearize_bezier_segment: a tolerance is given, or 0.01; its depth is 10
 unfoldable pub toleranceOf : Tolerance → Float
 toleranceOf (Given t) = t
-toleranceOf Default = ofBits binary64 0x3f84_7ae1_47ae_147b
+toleranceOf Default = hundredth
 
 unfoldable pub segmentRows : Point3D → Point3D → Point3D → Point3D → Float → ℕ → List Row
 segmentRows p0 c1 c2 p1 t room =
@@ -137,17 +138,17 @@ segmentCall p0 c1 c2 p1 t room =
     unless (refusal (segmentRows p0 c1 c2 p1 (toleranceOf t) room)) (p0 ∷ flattened 10 (toleranceOf t ⊗ toleranceOf t) p0 c1 c2 p1)
 
 -- ---- fit_cubic_bezier
-unfoldable pub fitRows : List Float → List Row
-fitRows s =
+unfoldable pub cubicRows : List Float → List Row
+cubicRows s =
     row 1 (not (whole 2 (length s)))
     ∷ row 2 (ltb 2048 (length s / 2))
     ∷ row 5 (not (numbersIn coordinate s))
     ∷ []
 
-unfoldable pub fitCall : List Float → Outcome FittedCubic
-unfolding refusal unless fitRows fitted
-fitCall s = unless (refusal (fitRows s)) (fitted (pairAt s) (length s / 2))
+unfoldable pub cubicCall : List Float → Outcome FittedCubic
+unfolding refusal unless cubicRows cubicFitted
+cubicCall s = unless (refusal (cubicRows s)) (cubicFitted (pairAt s) (length s / 2))
 
-unfoldable pub fitAnswer : Outcome FittedCubic → FittedCubic
-fitAnswer (refused n) = Fit·.Refused n
-fitAnswer (gives c) = c
+unfoldable pub cubicAnswer : Outcome FittedCubic → FittedCubic
+cubicAnswer (refused n) = Fit·.Refused n
+cubicAnswer (gives c) = c

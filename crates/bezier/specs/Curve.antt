@@ -1,10 +1,10 @@
 -- A cubic curve: its point at a parameter, and its two parts there. Each operation in the Rust's order; powi(3) is a×(a×a). Definitions only.
 use lib.Ieee.{Float}
-use Rattle.number.specs.Ops.{_⊕_, _⊖_, _⊗_, one, three}
-use Rattle.types.specs.declared.types.Point.{Point}
-use Rattle.types.specs.declared.types.Point3D.{Point3D}
-use Rattle.types.specs.declared.types.CubicBezier.{CubicBezier}
-use Rattle.types.specs.Vector.{lerp}
+use Rattle.floats.specs.Ops.{_⊕_, _⊖_, _⊗_, one, three}
+use Rattle.geo.specs.declared.types.Point.{Point}
+use Rattle.geo.specs.declared.types.Point3D.{Point3D}
+use Rattle.geo.specs.declared.types.CubicBezier.{CubicBezier}
+use Rattle.geo.specs.Vector.{lerp}
 use Rattle.bezier.specs.declared.bezier.Weights.{Weights}
 
 abbrev pub square : Float → Float

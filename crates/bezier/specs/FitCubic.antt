@@ -4,13 +4,14 @@ use mathlib.Core.Path.{_≡_}
 use mathlib.Core.List.{List}
 use lib.Dec.{ltb, eqb}
 use lib.ListN.{getD}
-use lib.Ieee.{Float, nan, binary64, ofBits}
-use Rattle.number.specs.Ops.{_⊕_, _⊖_, _⊗_, _⊘_, _≺_, if_then_else_, +0, one, two, three}
-use Rattle.number.specs.Float.{absOf}
-use Rattle.types.specs.declared.types.Point.{Point}
-use Rattle.types.specs.declared.types.CubicBezier.{CubicBezier}
-use Rattle.types.specs.Vector.{distance, lerp}
-use Rattle.types.specs.Walk.{fold}
+use lib.Ieee.{Float, nan}
+use Rattle.floats.specs.Ops.{_⊕_, _⊖_, _⊗_, _⊘_, _≺_, if_then_else_, +0, one, two, three}
+use Rattle.floats.specs.Limits.{pico, atto}
+use Rattle.floats.specs.Float.{absOf}
+use Rattle.geo.specs.declared.types.Point.{Point}
+use Rattle.geo.specs.declared.types.CubicBezier.{CubicBezier}
+use Rattle.geo.specs.Vector.{distance, lerp}
+use Rattle.geo.specs.Walk.{fold}
 use Rattle.bezier.specs.declared.bezier.Sums.{Sums}
 use Rattle.bezier.specs.declared.bezier.FittedCubic.{FittedCubic}
 use Rattle.bezier.specs.declared.bezier.FittedCubic.the-variants.{Curve, None}
@@ -18,10 +19,10 @@ use Rattle.bezier.specs.Curve.{cube}
 
 -- a total length below 1e-12, and a determinant below 1e-18, give no system to solve
 abbrev pub noLength : Float
-noLength = ofBits binary64 0x3d71_9799_812d_ea11
+noLength = pico
 
-abbrev pub singular : Float
-singular = ofBits binary64 0x3c32_725d_d1d2_43ac
+abbrev pub noDeterminant : Float
+noDeterminant = atto
 
 -- the length of the polyline up to point i
 unfoldable pub chordSum : (ℕ → Point) → ℕ → Float
@@ -51,21 +52,21 @@ addPoint p0 p3 t q s =
       b2y = s .b2y ⊕ w2 ⊗ ry;
     }
 
-abbrev pub noSums : Sums
-noSums = record { a11 = +0; a12 = +0; a22 = +0; b1x = +0; b1y = +0; b2x = +0; b2y = +0 }
+abbrev pub noCubicSums : Sums
+noCubicSums = record { a11 = +0; a12 = +0; a22 = +0; b1x = +0; b1y = +0; b2x = +0; b2y = +0 }
 
 -- the sums over n points
-unfoldable pub sums : (ℕ → Point) → ℕ → Sums
+unfoldable pub cubicSums : (ℕ → Point) → ℕ → Sums
 unfolding fold addPoint chordSum
-sums at n = fold (λ j. addPoint (at 0) (at (n - 1)) (chordSum at j ⊘ chordSum at (n - 1)) (at j)) n 0 noSums
+cubicSums at n = fold (λ j. addPoint (at 0) (at (n - 1)) (chordSum at j ⊘ chordSum at (n - 1)) (at j)) n 0 noCubicSums
 
 -- the controls that solve the equations; evenly along the chord where the determinant is too small
-unfoldable pub solved : Point → Point → Sums → CubicBezier
+unfoldable pub cubicSolved : Point → Point → Sums → CubicBezier
 unfolding lerp absOf
-solved p0 p3 s =
+cubicSolved p0 p3 s =
     let det = s .a11 ⊗ s .a22 ⊖ s .a12 ⊗ s .a12 in
     let inv = one ⊘ det in
-    if absOf det ≺ singular
+    if absOf det ≺ noDeterminant
     then record { 0 = p0; 1 = lerp p0 p3 (one ⊘ three); 2 = lerp p0 p3 (two ⊘ three); 3 = p3 }
     else record {
       0 = p0;
@@ -79,10 +80,10 @@ abbrev pub straight : Point → Point → CubicBezier
 straight p0 p3 = record { 0 = p0; 1 = p0; 2 = p3; 3 = p3 }
 
 -- the curve of n points; none below 2
-unfoldable pub fitted : (ℕ → Point) → ℕ → FittedCubic
-unfolding sums solved chordSum
-fitted at n =
+unfoldable pub cubicFitted : (ℕ → Point) → ℕ → FittedCubic
+unfolding cubicSums cubicSolved chordSum
+cubicFitted at n =
     if ltb n 2 then None
     else if eqb n 2 then Curve (straight (at 0) (at (n - 1)))
     else if chordSum at (n - 1) ≺ noLength then Curve (straight (at 0) (at (n - 1)))
-    else Curve (solved (at 0) (at (n - 1)) (sums at n))
+    else Curve (cubicSolved (at 0) (at (n - 1)) (cubicSums at n))

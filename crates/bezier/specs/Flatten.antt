@@ -2,38 +2,39 @@
 use Prim.Native.Nat.{ℕ, zero, suc}
 use mathlib.Core.Bool.{Bool, _&&_}
 use mathlib.Core.List.{List, [], _∷_, _++_}
-use lib.Ieee.{Float, binary64, ofBits}
-use Rattle.number.specs.Ops.{_⊖_, _⊗_, _⊘_, _≺_, _≼_, if_then_else_, half}
-use Rattle.number.specs.Float.{maxOf}
-use Rattle.types.specs.declared.types.Point.{Point}
-use Rattle.types.specs.declared.types.Point3D.{Point3D}
-use Rattle.types.specs.declared.types.CubicBezier.{CubicBezier}
-use Rattle.types.specs.Vector.{lengthSq, perpDot, distanceSq, lengthSq3, midpoint}
+use lib.Ieee.{Float}
+use Rattle.floats.specs.Ops.{_⊖_, _⊗_, _⊘_, _≺_, _≼_, if_then_else_, half}
+use Rattle.floats.specs.Limits.{nano}
+use Rattle.floats.specs.Float.{maxOf}
+use Rattle.geo.specs.declared.types.Point.{Point}
+use Rattle.geo.specs.declared.types.Point3D.{Point3D}
+use Rattle.geo.specs.declared.types.CubicBezier.{CubicBezier}
+use Rattle.geo.specs.Vector.{lengthSq, perpDot, distanceSq, lengthSq3, midpoint}
 use Rattle.bezier.specs.declared.bezier.Chord.{Chord}
 use Rattle.bezier.specs.Curve.{square, leftPart, rightPart}
 
 -- a chord whose square is below 1e-9 counts as a point
-abbrev pub degenerate : Float
-degenerate = ofBits binary64 0x3e11_2e0b_e826_d695
+abbrev pub pointSq : Float
+pointSq = nano
 
 -- ---- in the plane
 
 -- the chord from p0 to p1
-unfoldable pub chordOf : Point → Point → Chord
-chordOf p0 p1 = record { start = p0; vx = p1 .x ⊖ p0 .x; vy = p1 .y ⊖ p0 .y; norm = lengthSq (p1 .x ⊖ p0 .x) (p1 .y ⊖ p0 .y) }
+unfoldable pub curveChord : Point → Point → Chord
+curveChord p0 p1 = record { start = p0; vx = p1 .x ⊖ p0 .x; vy = p1 .y ⊖ p0 .y; norm = lengthSq (p1 .x ⊖ p0 .x) (p1 .y ⊖ p0 .y) }
 
 -- the squared distance of c to the chord's endless line, or to its start where the chord is degenerate
 unfoldable pub offChord : Chord → Point → Float
 unfolding distanceSq
 offChord k c =
-    if k .norm ≺ degenerate
+    if k .norm ≺ pointSq
     then distanceSq c (k .start)
     else square (perpDot (k .vx) (k .vy) (c .x ⊖ k .start .x) (c .y ⊖ k .start .y)) ⊘ k .norm
 
 -- both controls are at most so far off the chord; limit is squared
 unfoldable pub isFlat : Point → Point → Point → Point → Float → Bool
-unfolding chordOf offChord
-isFlat p0 c1 c2 p1 limit = (offChord (chordOf p0 p1) c1 ≼ limit) && (offChord (chordOf p0 p1) c2 ≼ limit)
+unfolding curveChord offChord
+isFlat p0 c1 c2 p1 limit = (offChord (curveChord p0 p1) c1 ≼ limit) && (offChord (curveChord p0 p1) c2 ≼ limit)
 
 -- the ends of the parts, the left half's first
 unfoldable pub subdivided : ℕ → Float → CubicBezier → List Point
@@ -62,7 +63,7 @@ perpendicularSq p o v n = normSq (crossOf (minus p o) v) ⊘ n
 unfoldable pub flatnessSq : Point3D → Point3D → Point3D → Point3D → Float
 unfolding perpendicularSq maxOf
 flatnessSq a b c d =
-    if normSq (minus d a) ≺ degenerate
+    if normSq (minus d a) ≺ pointSq
     then maxOf (normSq (minus b a)) (normSq (minus c a))
     else maxOf (perpendicularSq b a (minus d a) (normSq (minus d a))) (perpendicularSq c a (minus d a) (normSq (minus d a)))
 

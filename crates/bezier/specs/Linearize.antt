@@ -3,12 +3,12 @@ use Prim.Native.Nat.{ℕ, _+_}
 use mathlib.Core.List.{List, _++_}
 use lib.IntN.{pos}
 use lib.Ieee.{Float, binary64, ofInt, toUnsigned}
-use Rattle.number.specs.Ops.{_⊕_, _⊗_, _⊘_, one, two, three}
-use Rattle.number.specs.Float.{ceilOf, maxOf}
-use Rattle.types.specs.declared.types.Point3D.{Point3D}
-use Rattle.types.specs.Vector.{distance3}
-use Rattle.types.specs.Walk.{listFrom}
-use Rattle.types.specs.Lent.{triple}
+use Rattle.floats.specs.Ops.{_⊕_, _⊗_, _⊘_, one, two, three}
+use Rattle.floats.specs.Float.{ceilOf, maxOf}
+use Rattle.geo.specs.declared.types.Point3D.{Point3D}
+use Rattle.geo.specs.Vector.{distance3}
+use Rattle.geo.specs.Walk.{listFrom}
+use Rattle.geo.specs.Lent.{triple}
 use Rattle.bezier.specs.Curve.{pointOn3}
 
 -- i of n

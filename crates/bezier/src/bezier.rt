@@ -1,23 +1,23 @@
 // src/geo/shape/bezier.rs: the part that is carried over.
-use number::float::abs;
-use number::float::ceil;
-use number::float::max;
-use types::domain::all_coordinates;
-use types::domain::is_within;
-use types::domain::point_in;
-use types::domain::point3_in;
-use types::lent::pair_at;
-use types::lent::put_pair;
-use types::lent::put_point;
-use types::point::get_distance;
-use types::point::get_distance_3d;
-use types::point::get_distance_squared;
-use types::point::interpolate;
-use types::point::midpoint_3d;
-use types::types::Answer;
-use types::types::CubicBezier;
-use types::types::Point;
-use types::types::Point3D;
+use floats::float::abs;
+use floats::float::ceil;
+use floats::float::max;
+use geo::domain::all_coordinates;
+use geo::domain::is_within;
+use geo::domain::point_in;
+use geo::domain::point3_in;
+use geo::lent::pair_at;
+use geo::lent::put_pair;
+use geo::lent::put_point;
+use geo::point::get_distance;
+use geo::point::get_distance_3d;
+use geo::point::get_distance_squared;
+use geo::point::interpolate;
+use geo::point::midpoint_3d;
+use geo::types::Answer;
+use geo::types::CubicBezier;
+use geo::types::Point;
+use geo::types::Point3D;
 ghost use mathlib.Core.Path.{_≡_};
 ghost use Prim.Native.Nat.{_+_, _-_, _*_, _^_, _≤_, _<_};
 ghost use mathlib.Core.Bool.{true, false};
@@ -26,14 +26,14 @@ ghost use lib.IntN.{pos};
 ghost use lib.Ieee.{nan, fin, lt, le, toUnsigned};
 ghost use lib.ListN.{length, getD};
 ghost use lib.Seq.{sets};
-ghost use Rattle.number.specs.Ops.{+0};
-ghost use Rattle.types.specs.Lent.{pairAt, pair, triple, flat};
-ghost use Rattle.types.specs.Outcome.{refusal, Wrote, Placed};
+ghost use Rattle.floats.specs.Ops.{+0};
+ghost use Rattle.geo.specs.Lent.{pairAt, pair, triple, flat};
+ghost use Rattle.geo.specs.Outcome.{refusal, Wrote, Placed};
 ghost use Rattle.bezier.specs.Curve.{weightsAt, mixed, pointOn, pointOn3, leftPart, rightPart};
-ghost use Rattle.bezier.specs.Flatten.{chordOf, offChord, isFlat, subdivided, minus, normSq, perpendicularSq, flatnessSq, flattened};
+ghost use Rattle.bezier.specs.Flatten.{curveChord, offChord, isFlat, subdivided, minus, normSq, perpendicularSq, flatnessSq, flattened};
 ghost use Rattle.bezier.specs.Linearize.{share, six, stepEnd, steps, firstThird, lastThird, stepsNeeded};
-ghost use Rattle.bezier.specs.FitCubic.{Chords, noSums, addPoint, sums, solved, fitted};
-ghost use Rattle.bezier.specs.Calls.{curveIn, curve3In, pointCall, pointAnswer, splitCall, splitAnswer, mostSteps, flatCall, flatAnswer, linearizeRows, linearizeCall, paramFirstRows, paramCall, adaptiveRows, adaptiveCall, toleranceOf, segmentRows, segmentCall, fitCall, fitAnswer};
+ghost use Rattle.bezier.specs.FitCubic.{Chords, noCubicSums, addPoint, cubicSums, cubicSolved, cubicFitted};
+ghost use Rattle.bezier.specs.Calls.{curveIn, curve3In, pointCall, pointAnswer, splitCall, splitAnswer, mostSteps, flatCall, flatAnswer, linearizeRows, linearizeCall, paramFirstRows, paramCall, adaptiveRows, adaptiveCall, toleranceOf, segmentRows, segmentCall, cubicCall, cubicAnswer};
 
 pub enum BezierPoint {
     At(Point),
@@ -62,7 +62,7 @@ pub enum Tolerance {
     Default,
 }
 
-// The sums of the normal equations.
+// The cubicSums of the normal equations.
 pub struct Sums {
     pub a11: f64,
     pub a12: f64,
@@ -420,7 +420,7 @@ impl Chord {
     pub const DEGENERATE: f64 = 1e-9;
 
     pub fn new(p0: Point, p1: Point) -> Self
-        ensures { λ r. ⌜ r ≡ chordOf p0 p1 ⌝ }
+        ensures { λ r. ⌜ r ≡ curveChord p0 p1 ⌝ }
     {
         let vx = p1.x - p0.x;
         let vy = p1.y - p0.y;
@@ -695,7 +695,7 @@ impl Sums {
     pub const SINGULAR: f64 = 1e-18;
 
     pub fn new() -> Self
-        ensures { λ r. ⌜ r ≡ noSums ⌝ }
+        ensures { λ r. ⌜ r ≡ noCubicSums ⌝ }
     {
         Self {
             a11: 0.0,
@@ -730,7 +730,7 @@ impl Sums {
 
     // The curve whose controls solve the equations.
     pub fn solve(self, p0: Point, p3: Point) -> CubicBezier
-        ensures { λ r. ⌜ r ≡ solved p0 p3 self ⌝ }
+        ensures { λ r. ⌜ r ≡ cubicSolved p0 p3 self ⌝ }
     {
         let det = self.a11 * self.a22 - self.a12 * self.a12;
         if abs(det) < Sums::SINGULAR {
@@ -764,11 +764,11 @@ fn sum_chords(points: &[f64], n: usize, chords: &mut [f64])
     }
 }
 
-// The sums over n points, at parameters by chord length.
+// The cubicSums over n points, at parameters by chord length.
 fn sum_up(points: &[f64], n: usize, chords: &[f64]) -> Sums
     requires { ⌜ (1 ≤ n) × (n ≤ length (now chords)) × (2 * n ≤ length (now points)) ⌝ }
     requires filled { ⌜ Chords (pairAt (now points)) n (now chords) ⌝ }
-    ensures { λ r. ⌜ r ≡ sums (pairAt (now (points .entry))) n ⌝ }
+    ensures { λ r. ⌜ r ≡ cubicSums (pairAt (now (points .entry))) n ⌝ }
 {
     let p0 = pair_at(points, 0);
     let p3 = pair_at(points, n - 1);
@@ -784,7 +784,7 @@ fn sum_up(points: &[f64], n: usize, chords: &[f64]) -> Sums
 // The curve of n points; none below 2.
 fn fit_cubic(points: &[f64], n: usize) -> FittedCubic
     requires { ⌜ (n ≤ 2048) × (2 * n ≤ length (now points)) ⌝ }
-    ensures { λ r. ⌜ r ≡ fitted (pairAt (now (points .entry))) n ⌝ }
+    ensures { λ r. ⌜ r ≡ cubicFitted (pairAt (now (points .entry))) n ⌝ }
 {
     if n < 2 {
         return FittedCubic::None;
@@ -805,7 +805,7 @@ fn fit_cubic(points: &[f64], n: usize) -> FittedCubic
 
 // Fits a cubic Bezier curve to points in the plane by least squares. Its ends are the first and the last point.
 pub fn fit_cubic_bezier(points: &[f64]) -> FittedCubic
-    ensures { λ r. ⌜ r ≡ fitAnswer (fitCall (now (points .entry))) ⌝ }
+    ensures { λ r. ⌜ r ≡ cubicAnswer (cubicCall (now (points .entry))) ⌝ }
 {
     if points.len() % 2 != 0 {
         return FittedCubic::Refused(1);

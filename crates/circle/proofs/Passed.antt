@@ -6,9 +6,9 @@ use mathlib.Core.List.{List, [], _∷_}
 use borrow.Author.Tests.{ltb-false}
 use lib.ListN.{length}
 use lib.Ieee.{Float}
-use Rattle.types.specs.Domain.{tolerance}
-use Rattle.types.specs.Outcome.{row, refusal}
-use Rattle.types.proofs.Rows.{row-fails, row-passes, row-passed, refusal-front, done}
+use Rattle.geo.specs.Domain.{tolerance}
+use Rattle.geo.specs.Outcome.{row, refusal}
+use Rattle.geo.proofs.Rows.{row-fails, row-passes, row-passed, refusal-front, done}
 use Rattle.circle.specs.Calls.{pointsRows, collinearRows}
 
 pub points-passed : (s : List Float) → 0 ≡ refusal (pointsRows s) → length s / 3 ≤ 2048

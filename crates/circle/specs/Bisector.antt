@@ -1,9 +1,10 @@
 -- A centre moved along a chord to the chord's bisector. Definitions only.
-use lib.Ieee.{Float, binary64, ofBits}
-use Rattle.number.specs.Ops.{_⊕_, _⊖_, _⊗_, _⊘_, _≺_, if_then_else_, two}
-use Rattle.types.specs.Vector.{dot}
-use Rattle.types.specs.declared.types.Point3D.{Point3D}
-use Rattle.types.specs.declared.types.Point.{Point}
+use lib.Ieee.{Float}
+use Rattle.floats.specs.Limits.{pico}
+use Rattle.floats.specs.Ops.{_⊕_, _⊖_, _⊗_, _⊘_, _≺_, if_then_else_, two}
+use Rattle.geo.specs.Vector.{dot}
+use Rattle.geo.specs.declared.types.Point3D.{Point3D}
+use Rattle.geo.specs.declared.types.Point.{Point}
 
 -- by the direction and its square
 unfoldable pub movedBy : Float → Float → Float → Point3D → Point3D → Point → Point
@@ -11,7 +12,7 @@ movedBy dx dy sq a b m =
     let vx = m .x ⊖ (a .x ⊕ b .x) ⊘ two in
     let vy = m .y ⊖ (a .y ⊕ b .y) ⊘ two in
     let k = dot vx vy dx dy ⊘ sq in
-    if sq ≺ ofBits binary64 0x3d71_9799_812d_ea11 then m else record { x = m .x ⊖ dx ⊗ k; y = m .y ⊖ dy ⊗ k }
+    if sq ≺ pico then m else record { x = m .x ⊖ dx ⊗ k; y = m .y ⊖ dy ⊗ k }
 
 unfoldable pub projected : Point3D → Point3D → Point → Point
 projected a b m =

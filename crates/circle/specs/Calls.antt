@@ -5,12 +5,12 @@ use mathlib.Core.List.{List, [], _∷_}
 use lib.ListN.{length}
 use lib.Dec.{ltb}
 use lib.Ieee.{Float}
-use Rattle.number.specs.Ops.{if_then_else_}
-use Rattle.types.specs.declared.types.Point.{Point}
-use Rattle.types.specs.declared.types.Point3D.{Point3D}
-use Rattle.types.specs.Lent.{pointAt}
-use Rattle.types.specs.Domain.{point3In, tolerance, coordinate, centre, numbersIn, whole}
-use Rattle.types.specs.Outcome.{Row, row, refusal, Outcome, refused, gives, unless}
+use Rattle.floats.specs.Ops.{if_then_else_}
+use Rattle.geo.specs.declared.types.Point.{Point}
+use Rattle.geo.specs.declared.types.Point3D.{Point3D}
+use Rattle.geo.specs.Lent.{pointAt}
+use Rattle.geo.specs.Domain.{point3In, tolerance, coordinate, centre, numbersIn, whole}
+use Rattle.geo.specs.Outcome.{Row, row, refusal, Outcome, refused, gives, unless}
 use Rattle.circle.specs.declared.circle.Collinear as answer
 use Rattle.circle.specs.declared.circle.CircleThrough as through
 use Rattle.circle.specs.declared.circle.FittedCircle as fitted

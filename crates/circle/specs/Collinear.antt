@@ -2,20 +2,17 @@
 use Prim.Native.Nat.{ℕ, _+_, _-_}
 use mathlib.Core.Bool.{Bool, true, not}
 use lib.Dec.{ltb}
-use lib.Ieee.{Float, binary64, ofBits}
-use Rattle.number.specs.Float.{absOf}
-use Rattle.number.specs.Ops.{_⊖_, _⊘_, _≺_, if_then_else_}
-use Rattle.types.specs.Vector.{perpDot, lengthOf}
-use Rattle.types.specs.declared.types.Point3D.{Point3D}
-use Rattle.types.specs.Domain.{everyFrom}
+use lib.Ieee.{Float}
+use Rattle.floats.specs.Limits.{nano}
+use Rattle.floats.specs.Float.{absOf}
+use Rattle.floats.specs.Ops.{_⊖_, _⊘_, _≺_, if_then_else_}
+use Rattle.geo.specs.Vector.{perpDot, lengthOf}
+use Rattle.geo.specs.declared.types.Point3D.{Point3D}
+use Rattle.geo.specs.Domain.{everyFrom}
 use Rattle.circle.specs.declared.circle.Chord.{Chord}
 
--- 1e-9
-abbrev pub nano : Float
-nano = ofBits binary64 0x3e11_2e0b_e826_d695
-
-unfoldable pub chordOf : Point3D → Point3D → Chord
-chordOf a b =
+unfoldable pub endsChord : Point3D → Point3D → Chord
+endsChord a b =
     let dx = b .x ⊖ a .x in
     let dy = b .y ⊖ a .y in
     record { a = a; dx = dx; dy = dy; len = lengthOf dx dy }
@@ -41,4 +38,4 @@ unfoldable pub collinearBy : Chord → Float → (ℕ → Point3D) → ℕ → �
 collinearBy c tol at lo hi = if c .len ≺ nano then allNear c tol at lo hi else allBeside c tol at lo hi
 
 unfoldable pub collinear : Float → (ℕ → Point3D) → ℕ → ℕ → Bool
-collinear tol at lo hi = if ltb (hi - lo) 2 then true else collinearBy (chordOf (at lo) (at hi)) tol at lo hi
+collinear tol at lo hi = if ltb (hi - lo) 2 then true else collinearBy (endsChord (at lo) (at hi)) tol at lo hi

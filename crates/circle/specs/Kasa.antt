@@ -3,14 +3,15 @@ use Prim.Native.Nat.{ℕ, _+_, _-_}
 use mathlib.Core.List.{List, [], _∷_}
 use lib.IntN.{pos}
 use lib.ListN.{getD}
-use lib.Ieee.{Float, nan, binary64, ofBits, ofInt}
-use Rattle.number.specs.Root.{rootOf}
-use Rattle.number.specs.Float.{absOf}
-use Rattle.number.specs.Ops.{_⊕_, _⊖_, _⊗_, _⊘_, _≺_, if_then_else_, +0, one, two}
-use Rattle.types.specs.declared.types.Point3D.{Point3D}
-use Rattle.types.specs.declared.types.Point.{Point}
+use lib.Ieee.{Float, nan, binary64, ofInt}
+use Rattle.floats.specs.Limits.{hundredth, tenthNano, femto}
+use Rattle.floats.specs.Root.{rootOf}
+use Rattle.floats.specs.Float.{absOf}
+use Rattle.floats.specs.Ops.{_⊕_, _⊖_, _⊗_, _⊘_, _≺_, if_then_else_, +0, one, two}
+use Rattle.geo.specs.declared.types.Point3D.{Point3D}
+use Rattle.geo.specs.declared.types.Point.{Point}
 use Rattle.circle.specs.declared.circle.Deviation.{Deviation}
-use Rattle.types.specs.Walk.{fold}
+use Rattle.geo.specs.Walk.{fold}
 use Rattle.circle.specs.Worst.{worst}
 use Rattle.circle.specs.declared.circle.Sums.{Sums}
 use Rattle.circle.specs.declared.circle.Axes.{Axes}
@@ -83,7 +84,7 @@ inverseTimes a k b =
 
 unfoldable pub solved : List (List Float) → Point3D → solution.Solution
 solved m b =
-    if absOf (detOf m) ≺ ofBits binary64 0x3cd2_03af_9ee7_5616 then solution.the-variants.None
+    if absOf (detOf m) ≺ femto then solution.the-variants.None
     else solution.the-variants.At (inverseTimes (axesOf m) (one ⊘ detOf m) b)
 
 -- ---- the circle
@@ -102,12 +103,12 @@ squaredRadius v = v .x ⊗ v .x ⊕ v .y ⊗ v .y ⊕ v .z
 unfoldable pub centered : solution.Solution → center.Center
 centered solution.the-variants.None = center.the-variants.None
 centered (solution.the-variants.At v) =
-    if squaredRadius v ≺ ofBits binary64 0x3ddb_7cdf_d9d7_bdbb then center.the-variants.None
+    if squaredRadius v ≺ tenthNano then center.the-variants.None
     else center.the-variants.At (record { x = v .x; y = v .y }) (squaredRadius v)
 
 unfoldable pub kasaCenter : (ℕ → Point3D) → ℕ → ℕ → center.Center
 kasaCenter at lo hi =
-    if collinear (ofBits binary64 0x3f84_7ae1_47ae_147b) at lo hi then center.the-variants.None
+    if collinear hundredth at lo hi then center.the-variants.None
     else let s = sumsOf at lo hi in centered (solved (matrixOf s (hi - lo + 1)) (sidesOf s))
 
 -- how far p is off the circle

@@ -1,14 +1,14 @@
 -- The circle through three points. Definitions only.
 use lib.Ieee.{Float, neg}
-use Rattle.number.specs.Float.{absOf}
-use Rattle.number.specs.Ops.{_⊕_, _⊖_, _⊗_, _⊘_, _≺_, if_then_else_, two}
-use Rattle.types.specs.Vector.{dot, perpDot, lengthOf}
-use Rattle.types.specs.declared.types.Point3D.{Point3D}
-use Rattle.types.specs.declared.types.Point.{Point}
+use Rattle.floats.specs.Float.{absOf}
+use Rattle.floats.specs.Ops.{_⊕_, _⊖_, _⊗_, _⊘_, _≺_, if_then_else_, two}
+use Rattle.geo.specs.Vector.{dot, perpDot, lengthOf}
+use Rattle.geo.specs.declared.types.Point3D.{Point3D}
+use Rattle.geo.specs.declared.types.Point.{Point}
 use Rattle.circle.specs.declared.circle.CenterThrough as center
 use Rattle.circle.specs.declared.circle.CircleThrough.{CircleThrough}
 use Rattle.circle.specs.declared.circle.CircleThrough.the-variants.{Around, None}
-use Rattle.circle.specs.Collinear.{nano}
+use Rattle.floats.specs.Limits.{nano}
 
 unfoldable pub areaOf : Point3D → Point3D → Point3D → Float
 areaOf a b c = a .x ⊗ (b .y ⊖ c .y) ⊕ b .x ⊗ (c .y ⊖ a .y) ⊕ c .x ⊗ (a .y ⊖ b .y)

@@ -1,8 +1,8 @@
 -- The greatest of some distances, and the index at which it first stands. Definitions only.
 use Prim.Native.Nat.{ℕ}
 use lib.Ieee.{Float}
-use Rattle.number.specs.Ops.{_≺_, if_then_else_}
-use Rattle.types.specs.Walk.{fold}
+use Rattle.floats.specs.Ops.{_≺_, if_then_else_}
+use Rattle.geo.specs.Walk.{fold}
 use Rattle.circle.specs.declared.circle.Deviation.{Deviation}
 
 -- d at index i, where it is above the greatest so far

@@ -1,22 +1,22 @@
 // src/geo/algo/fitting.rs: collinearity, both circle fits and the bisector projection. The inner functions take a range
 // of lent triples, from start to end.
-use number::float::abs;
-use number::root::sqrt;
-use types::domain::all_coordinates;
-use types::domain::is_centre;
-use types::domain::is_within;
-use types::domain::point3_in;
-use types::lent::point_at;
-use types::point::get_length;
-use types::types::Point;
-use types::types::Point3D;
+use floats::float::abs;
+use floats::root::sqrt;
+use geo::domain::all_coordinates;
+use geo::domain::is_centre;
+use geo::domain::is_within;
+use geo::domain::point3_in;
+use geo::lent::point_at;
+use geo::point::get_length;
+use geo::types::Point;
+use geo::types::Point3D;
 ghost use mathlib.Core.Path.{_≡_};
 ghost use Prim.Native.Nat.{_+_, _*_, _<_, _≤_};
 ghost use lib.ListN.{length};
-ghost use Rattle.types.specs.Lent.{pointAt};
-ghost use Rattle.types.specs.Outcome.{refusal};
+ghost use Rattle.geo.specs.Lent.{pointAt};
+ghost use Rattle.geo.specs.Outcome.{refusal};
 ghost use Rattle.circle.specs.Worst.{worse};
-ghost use Rattle.circle.specs.Collinear.{chordOf, nearTo, besideOf, allNear, allBeside, collinear};
+ghost use Rattle.circle.specs.Collinear.{endsChord, nearTo, besideOf, allNear, allBeside, collinear};
 ghost use Rattle.circle.specs.Three.{areaOf, turnOf, center3, radiusFrom, centerThree, throughThree};
 ghost use Rattle.circle.specs.Kasa.{noSums, plus, sumsOf, axesOf, cross3, dot3, scaled, detOf, solved, kasaCenter, errorOf, worstError, kasaCircle};
 ghost use Rattle.circle.specs.Bisector.{projected};
@@ -56,7 +56,7 @@ impl Chord {
     pub const DEGENERATE: f64 = 1e-12;
 
     pub fn new(a: Point3D, b: Point3D) -> Self
-        ensures { λ r. ⌜ r ≡ chordOf a b ⌝ }
+        ensures { λ r. ⌜ r ≡ endsChord a b ⌝ }
     {
         let dx = b.x - a.x;
         let dy = b.y - a.y;

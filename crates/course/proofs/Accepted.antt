@@ -7,18 +7,18 @@ use native.Mathlib.Omega.{arith}
 use borrow.Author.Tests.{ltb-false, eqb-true, not-false, lt-ltb, le-ltb}
 use lib.ListN.{length, length-append}
 use lib.Ieee.{Float}
-use Rattle.number.specs.Ops.{_≺_, +0}
-use Rattle.types.specs.declared.types.Point3D.{Point3D}
-use Rattle.types.specs.declared.types.Command.{Command}
-use Rattle.types.specs.declared.types.Command.the-variants.{Move}
-use Rattle.types.specs.declared.types.Answer.the-variants.{Written}
-use Rattle.types.specs.Outcome.{Row, refusal}
-use Rattle.types.specs.Commands.{WroteCommands}
-use Rattle.types.specs.Lent.{flat, numbersOf}
-use Rattle.types.proofs.Rows.{row-passes, row-passed, refusal-front}
-use Rattle.types.proofs.Tolerance.{tolerance-positive}
-use Rattle.types.proofs.Outcomes.{commands-given, nine}
-use Rattle.types.proofs.Flat.{flat-length}
+use Rattle.floats.specs.Ops.{_≺_, +0}
+use Rattle.geo.specs.declared.types.Point3D.{Point3D}
+use Rattle.geo.specs.declared.types.Command.{Command}
+use Rattle.geo.specs.declared.types.Command.the-variants.{Move}
+use Rattle.geo.specs.declared.types.Answer.the-variants.{Written}
+use Rattle.geo.specs.Outcome.{Row, refusal}
+use Rattle.geo.specs.Commands.{WroteCommands}
+use Rattle.geo.specs.Lent.{flat, numbersOf}
+use Rattle.geo.proofs.Rows.{row-passes, row-passed, refusal-front}
+use Rattle.geo.proofs.Tolerance.{tolerance-positive}
+use Rattle.geo.proofs.Outcomes.{commands-given, nine}
+use Rattle.geo.proofs.Flat.{flat-length}
 use Rattle.fitting.specs.Commands.{chainFit}
 use Rattle.fitting.specs.Written.{FitPlaced}
 use Rattle.course.specs.Parts.{closed, partsFrom, partFit, fitOf}

@@ -8,16 +8,16 @@ use native.Mathlib.Omega.{arith}
 use lib.ListN.{length, take, drop, set, length-map, length-drop}
 use lib.Seq.{sets, length-sets}
 use lib.Ieee.{Float}
-use Rattle.number.specs.Ops.{_≺_, +0}
-use Rattle.number.proofs.Order.{lt-or-ge}
-use Rattle.types.specs.declared.types.Point3D.{Point3D}
-use Rattle.types.specs.declared.types.Command.{Command}
-use Rattle.types.specs.declared.types.Command.the-variants.{Line}
-use Rattle.types.specs.Lent.{pointAt, triple, flat, kindOf, numbersOf}
-use Rattle.types.specs.Walk.{listFrom}
-use Rattle.types.proofs.Walk.{list-step, list-done, list-length}
-use Rattle.types.proofs.Stores.{sets-append}
-use Rattle.types.proofs.Outcomes.{nine}
+use Rattle.floats.specs.Ops.{_≺_, +0}
+use Rattle.floats.proofs.Order.{lt-or-ge}
+use Rattle.geo.specs.declared.types.Point3D.{Point3D}
+use Rattle.geo.specs.declared.types.Command.{Command}
+use Rattle.geo.specs.declared.types.Command.the-variants.{Line}
+use Rattle.geo.specs.Lent.{pointAt, triple, flat, kindOf, numbersOf}
+use Rattle.geo.specs.Walk.{listFrom}
+use Rattle.geo.proofs.Walk.{list-step, list-done, list-length}
+use Rattle.geo.proofs.Stores.{sets-append}
+use Rattle.geo.proofs.Outcomes.{nine}
 use Rattle.simplify.specs.Flags.{Copied}
 use Rattle.fitting.specs.Pieces.{piecesBy}
 use Rattle.fitting.specs.Commands.{fitIn, keptOf}

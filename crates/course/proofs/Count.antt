@@ -12,11 +12,11 @@ use lib.Ieee.{Float, nan, inf, fin, binary64, up, down, lt, le, eq, neg, isNan, 
 use lib.Ieee.Fits.{down-pos}
 use lib.Ieee.Nearest.{div-mono}
 use lib.Ieee.Order.{round-mono}
-use Rattle.number.specs.Ops.{two}
-use Rattle.number.specs.Float.{ceilOf, maxOf}
-use Rattle.number.proofs.Order.{clash, lt-or-ge}
-use Rattle.number.proofs.Bounds.{or-le}
-use Rattle.number.proofs.Unsigned.{Plus, round-plus}
+use Rattle.floats.specs.Ops.{two}
+use Rattle.floats.specs.Float.{ceilOf, maxOf}
+use Rattle.floats.proofs.Order.{clash, lt-or-ge}
+use Rattle.floats.proofs.Bounds.{or-le}
+use Rattle.floats.proofs.Unsigned.{Plus, round-plus}
 use Rattle.bezier.specs.Calls.{mostSteps}
 use Rattle.course.specs.Course.{cap}
 

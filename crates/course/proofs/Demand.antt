@@ -9,12 +9,12 @@ use borrow.Author.Tests.{lt-ltb, le-ltb, le-leb, lt-leb}
 use lib.ListN.{length}
 use lib.Dec.{eqb}
 use lib.Ieee.{Float}
-use Rattle.number.specs.Ops.{_⊗_, _≺_, +0}
-use Rattle.number.proofs.Order.{lt-or-ge}
-use Rattle.number.proofs.Unsigned.{square-not-negative}
-use Rattle.types.specs.declared.types.Point3D.{Point3D}
-use Rattle.types.specs.declared.types.Command.{Command}
-use Rattle.types.specs.Lent.{pointAt}
+use Rattle.floats.specs.Ops.{_⊗_, _≺_, +0}
+use Rattle.floats.proofs.Order.{lt-or-ge}
+use Rattle.floats.proofs.Unsigned.{square-not-negative}
+use Rattle.geo.specs.declared.types.Point3D.{Point3D}
+use Rattle.geo.specs.declared.types.Command.{Command}
+use Rattle.geo.specs.Lent.{pointAt}
 use Rattle.trial.specs.declared.trial.Trial.{Trial}
 use Rattle.trial.specs.declared.trial.Trial.the-variants.{Arc, None}
 use Rattle.trial.specs.Trial.{sharpAt, closedRange, orElse, tryArcs}

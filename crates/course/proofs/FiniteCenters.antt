@@ -10,22 +10,23 @@ use lib.IntN.{pos}
 use lib.Pow.{pow-add, pow-lt}
 use lib.Dec.{T, lit<}
 use lib.Ieee.{Float, nan, inf, fin, binary64, ofBits, ofInt, round, lt, neg}
-use Rattle.number.specs.Float.{absOf}
-use Rattle.number.specs.Root.{plain}
-use Rattle.number.specs.Ops.{_⊕_, _⊖_, _⊗_, _⊘_, +0, one, two}
-use Rattle.number.proofs.Order.{either}
-use Rattle.number.proofs.Bounds.{Within, Below, AtLeast, round-within, add-within, within-more, add-below, sub-below, mul-below, div-below, below-more, at-least-of-abs}
-use Rattle.number.proofs.root.Bounded.{square-plain, add-plain}
-use Rattle.types.specs.declared.types.Point.{Point}
-use Rattle.types.specs.declared.types.Point3D.{Point3D}
-use Rattle.types.specs.Vector.{dot}
-use Rattle.types.specs.Walk.{fold}
+use Rattle.floats.specs.Float.{absOf}
+use Rattle.floats.specs.Root.{plain}
+use Rattle.floats.specs.Ops.{_⊕_, _⊖_, _⊗_, _⊘_, +0, one, two}
+use Rattle.floats.proofs.Order.{either}
+use Rattle.floats.proofs.Bounds.{Within, Below, AtLeast, round-within, add-within, within-more, add-below, sub-below, mul-below, div-below, below-more, at-least-of-abs}
+use Rattle.floats.proofs.root.Bounded.{square-plain, add-plain}
+use Rattle.geo.specs.declared.types.Point.{Point}
+use Rattle.geo.specs.declared.types.Point3D.{Point3D}
+use Rattle.geo.specs.Vector.{dot}
+use Rattle.geo.specs.Walk.{fold}
 use Rattle.circle.specs.declared.circle.CircleThrough as through
 use Rattle.circle.specs.declared.circle.Center as center
 use Rattle.circle.specs.declared.circle.Solution as solution
 use Rattle.circle.specs.declared.circle.Sums.{Sums}
 use Rattle.circle.specs.declared.circle.Axes.{Axes}
-use Rattle.circle.specs.Collinear.{nano, collinear}
+use Rattle.floats.specs.Limits.{hundredth, nano, tenthNano, pico, femto}
+use Rattle.circle.specs.Collinear.{collinear}
 use Rattle.circle.specs.Three.{areaOf, squareOf, turnOf, center3, centerBy, centerThree, circleRound, throughThree}
 use Rattle.circle.specs.Kasa.{noSums, plus, sumsOf, axesOf, cross3, dot3, scaled, detOf, inverseTimes, solved, matrixOf, sidesOf, squaredRadius, centered, kasaCenter}
 use Rattle.circle.specs.Bisector.{movedBy, projected}
@@ -73,14 +74,6 @@ nano-least = omega arith
 nano-plain : T (plain nano)
 unfolding ofBits plain
 nano-plain = tt
-
--- 2 ^ -40 < 1e-12
-abbrev pico : Float
-pico = ofBits binary64 0x3d71_9799_812d_ea11
-
--- 2 ^ -50 < 1e-15
-abbrev femto : Float
-femto = ofBits binary64 0x3cd2_03af_9ee7_5616
 
 -- ---- the centre through three points
 apart : {x y : Float} → Below 27 x → Below 27 y → Below 28 (x ⊖ y)
@@ -281,7 +274,7 @@ centered-flat : (v : solution.Solution) → Solved v → Centered (centered v)
 unfolding centered
 centered-flat solution.the-variants.None h = tt
 centered-flat (solution.the-variants.At v) h =
-    ⊎-elim (λ g. rw g tt) (λ g. rw g (record { in-x = h .in-x; in-y = h .in-y })) (either (lt (squaredRadius v) (ofBits binary64 0x3ddb_7cdf_d9d7_bdbb)))
+    ⊎-elim (λ g. rw g tt) (λ g. rw g (record { in-x = h .in-x; in-y = h .in-y })) (either (lt (squaredRadius v) tenthNano))
 
 sums-summed : (at : ℕ → Point3D) (lo hi : ℕ) → lo ≤ hi → hi - lo < 2048 → ((j : ℕ) → lo ≤ j → j < hi + 1 → Placed 27 (at j)) → Summed (hi + 1 - lo) (sumsOf at lo hi)
 unfolding sumsOf
@@ -302,7 +295,7 @@ kasa-flat at lo hi o l each =
     (λ h. rw h
     (centered-flat (solved (matrixOf s (hi - lo + 1)) (sidesOf s))
     (solved-placed (matrixOf s (hi - lo + 1)) (sidesOf s) (matrix-rows n (hi - lo + 1) s (omega arith) (omega arith) S) (sides-placed n s (omega arith) S))))
-    (either (collinear (ofBits binary64 0x3f84_7ae1_47ae_147b) at lo hi))
+    (either (collinear hundredth at lo hi))
 
 -- ---- projected to the bisector
 pico-least : AtLeast 40 pico

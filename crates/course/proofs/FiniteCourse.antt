@@ -7,19 +7,19 @@ use native.Mathlib.Omega.{arith}
 use borrow.Author.Tests.{ltb-false, not-false}
 use lib.ListN.{length, drop, getD, length-append}
 use lib.Ieee.{Float, nan, toUnsigned}
-use Rattle.number.specs.Ops.{_⊗_, +0}
-use Rattle.number.proofs.Bounds.{below-more}
-use Rattle.types.specs.declared.types.Point3D.{Point3D}
-use Rattle.types.specs.declared.types.Command.{Command}
-use Rattle.types.specs.declared.types.Command.the-variants.{Move, Line, Arc, Bezier}
-use Rattle.types.specs.Lent.{pointAt, triple, flat, origin, endOf, numbersOf, commandAt, commandsFrom}
-use Rattle.types.proofs.Every.{every-at}
-use Rattle.types.specs.Domain.{coordinate, isFinite, numbersIn, point3In, finite3, commandIn, commandsIn}
-use Rattle.types.specs.Walk.{listFrom}
-use Rattle.types.specs.Outcome.{refusal, gives, unless}
-use Rattle.types.proofs.Rows.{row-passed}
-use Rattle.types.proofs.Walk.{list-length}
-use Rattle.types.proofs.Flat.{flat-length}
+use Rattle.floats.specs.Ops.{_⊗_, +0}
+use Rattle.floats.proofs.Bounds.{below-more}
+use Rattle.geo.specs.declared.types.Point3D.{Point3D}
+use Rattle.geo.specs.declared.types.Command.{Command}
+use Rattle.geo.specs.declared.types.Command.the-variants.{Move, Line, Arc, Bezier}
+use Rattle.geo.specs.Lent.{pointAt, triple, flat, origin, endOf, numbersOf, commandAt, commandsFrom}
+use Rattle.geo.proofs.Every.{every-at}
+use Rattle.geo.specs.Domain.{coordinate, isFinite, numbersIn, point3In, finite3, commandIn, commandsIn}
+use Rattle.geo.specs.Walk.{listFrom}
+use Rattle.geo.specs.Outcome.{refusal, gives, unless}
+use Rattle.geo.proofs.Rows.{row-passed}
+use Rattle.geo.proofs.Walk.{list-length}
+use Rattle.geo.proofs.Flat.{flat-length}
 use Rattle.bezier.specs.Linearize.{stepEnd, stepAt, steps, firstThird, lastThird, stepsNeeded, paramSteps}
 use Rattle.simplify.specs.Measure.{lineSq}
 use Rattle.simplify.specs.Simplify.{commandRows}
@@ -28,7 +28,8 @@ use Rattle.fitting.specs.Commands.{fitIn, keptOf, chainFit}
 use Rattle.fitting.specs.Calls.{fitRows, fitCall, primitivesCall}
 use Rattle.fitting.proofs.Accepted.{fit-accepted}
 use Rattle.course.specs.Parts.{Join, adds, ends, closed, carried, partsFrom, partFit, partMost, mostOf, fitOf}
-use Rattle.course.specs.Course.{quarter, joined, courseParts, courseFit, courseMost, lentCourse, inputRows, arcsRows, arcsCall, linesJoined, optimizedChain, optimized, optimizeCall, pathFlush, joinsBeziers, joinedBy, partsBy}
+use Rattle.floats.specs.Limits.{quarter}
+use Rattle.course.specs.Course.{joined, courseParts, courseFit, courseMost, lentCourse, inputRows, arcsRows, arcsCall, linesJoined, optimizedChain, optimized, optimizeCall, pathFlush, joinsBeziers, joinedBy, partsBy}
 use Rattle.course.specs.Finite.{AllFinite, FiniteNumbers, CommandsIn}
 use Rattle.course.proofs.Parts.{chain-counts}
 use Rattle.course.proofs.Accepted.{arcs-accepted}

@@ -9,16 +9,16 @@ use borrow.Author.Tests.{eqb-true}
 use lib.ListN.{length, getD}
 use lib.Dec.{eqb}
 use lib.Ieee.{Float, nan, inf, fin, lt}
-use Rattle.number.specs.Ops.{_⊖_, _⊗_, +0}
-use Rattle.number.proofs.Order.{either, lt-or-ge}
-use Rattle.number.proofs.Bounds.{Within, Below, sub-below, below-more, neg-below}
-use Rattle.number.proofs.Unsigned.{square-not-negative}
-use Rattle.types.specs.declared.types.Point.{Point}
-use Rattle.types.specs.declared.types.Point3D.{Point3D}
-use Rattle.types.specs.declared.types.Command.{Command}
-use Rattle.types.specs.Lent.{pointAt, triple, flat, origin, numbersOf}
-use Rattle.types.specs.Domain.{isFinite}
-use Rattle.types.proofs.Flat.{flat-length}
+use Rattle.floats.specs.Ops.{_⊖_, _⊗_, +0}
+use Rattle.floats.proofs.Order.{either, lt-or-ge}
+use Rattle.floats.proofs.Bounds.{Within, Below, sub-below, below-more, neg-below}
+use Rattle.floats.proofs.Unsigned.{square-not-negative}
+use Rattle.geo.specs.declared.types.Point.{Point}
+use Rattle.geo.specs.declared.types.Point3D.{Point3D}
+use Rattle.geo.specs.declared.types.Command.{Command}
+use Rattle.geo.specs.Lent.{pointAt, triple, flat, origin, numbersOf}
+use Rattle.geo.specs.Domain.{isFinite}
+use Rattle.geo.proofs.Flat.{flat-length}
 use Rattle.circle.specs.declared.circle.CircleThrough as through
 use Rattle.circle.specs.declared.circle.Center as center
 use Rattle.circle.specs.Three.{radiusFrom, throughThree}

@@ -9,13 +9,14 @@ use lib.Ieee.{Float, nan, inf, fin, binary64, up, down, unlike, round, div, ofBi
 use lib.Ieee.Fits.{down-pos}
 use lib.Ieee.Exact.{HasValue}
 use lib.Ieee.Back.{round-whole}
-use Rattle.number.specs.Ops.{_⊕_, _⊖_, _⊗_, _⊘_, one, two, three}
-use Rattle.number.proofs.Order.{clash}
-use Rattle.number.proofs.Bounds.{Within, Below, AtLeast, round-within, add-within, within-more, add-below, sub-below, mul-below, div-below, below-more, within-of-abs}
-use Rattle.types.specs.declared.types.Point3D.{Point3D}
-use Rattle.types.specs.Domain.{coordinate, million, point3In}
-use Rattle.types.specs.Lent.{triple, flat}
-use Rattle.types.specs.Walk.{listFrom}
+use Rattle.floats.specs.Ops.{_⊕_, _⊖_, _⊗_, _⊘_, one, two, three}
+use Rattle.floats.proofs.Order.{clash}
+use Rattle.floats.proofs.Bounds.{Within, Below, AtLeast, round-within, add-within, within-more, add-below, sub-below, mul-below, div-below, below-more, within-of-abs}
+use Rattle.geo.specs.declared.types.Point3D.{Point3D}
+use Rattle.floats.specs.Limits.{million}
+use Rattle.geo.specs.Domain.{coordinate, point3In}
+use Rattle.geo.specs.Lent.{triple, flat}
+use Rattle.geo.specs.Walk.{listFrom}
 use Rattle.bezier.specs.declared.bezier.Weights.{Weights}
 use Rattle.bezier.specs.Curve.{weightsAt, mixed, pointOn3}
 use Rattle.bezier.specs.Linearize.{share, stepEnd, stepAt, steps, firstThird, lastThird}

@@ -5,10 +5,10 @@ use mathlib.Core.List.{List, [], _∷_, _++_}
 use native.Mathlib.Omega.{arith}
 use lib.ListN.{length, length-append}
 use lib.Ieee.{Float}
-use Rattle.types.specs.declared.types.Point3D.{Point3D}
-use Rattle.types.specs.declared.types.Command.{Command}
-use Rattle.types.specs.Lent.{triple, flat, endOf}
-use Rattle.types.proofs.Flat.{flat-append, flat-one}
+use Rattle.geo.specs.declared.types.Point3D.{Point3D}
+use Rattle.geo.specs.declared.types.Command.{Command}
+use Rattle.geo.specs.Lent.{triple, flat, endOf}
+use Rattle.geo.proofs.Flat.{flat-append, flat-one}
 use Rattle.course.specs.Parts.{Part, chain, kept, Join, adds, ends, closed, carried, partsFrom, partFit, partMost, mostOf, fitOf}
 use Rattle.course.specs.Walks.{weightOf, weightsFrom}
 

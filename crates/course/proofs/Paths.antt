@@ -6,18 +6,18 @@ use mathlib.Core.List.{List, [], _∷_}
 use native.Mathlib.Omega.{arith}
 use lib.ListN.{length}
 use lib.Ieee.{Float}
-use Rattle.number.specs.Ops.{_≺_, +0}
-use Rattle.types.specs.declared.types.Point3D.{Point3D}
-use Rattle.types.specs.declared.types.Command.{Command}
-use Rattle.types.specs.declared.types.Command.the-variants.{Move, Line, Arc, Bezier}
-use Rattle.types.specs.declared.types.Answer.the-variants.{Written}
-use Rattle.types.specs.Outcome.{refusal}
-use Rattle.types.specs.Commands.{WroteCommands}
-use Rattle.types.specs.Lent.{triple, origin, endOf, numbersOf, commandsFrom}
-use Rattle.types.proofs.Outcomes.{commands-given, nine}
-use Rattle.types.proofs.Flat.{flat-length}
-use Rattle.types.proofs.Rows.{row-passed}
-use Rattle.types.proofs.Tolerance.{tolerance-positive}
+use Rattle.floats.specs.Ops.{_≺_, +0}
+use Rattle.geo.specs.declared.types.Point3D.{Point3D}
+use Rattle.geo.specs.declared.types.Command.{Command}
+use Rattle.geo.specs.declared.types.Command.the-variants.{Move, Line, Arc, Bezier}
+use Rattle.geo.specs.declared.types.Answer.the-variants.{Written}
+use Rattle.geo.specs.Outcome.{refusal}
+use Rattle.geo.specs.Commands.{WroteCommands}
+use Rattle.geo.specs.Lent.{triple, origin, endOf, numbersOf, commandsFrom}
+use Rattle.geo.proofs.Outcomes.{commands-given, nine}
+use Rattle.geo.proofs.Flat.{flat-length}
+use Rattle.geo.proofs.Rows.{row-passed}
+use Rattle.geo.proofs.Tolerance.{tolerance-positive}
 use Rattle.simplify.specs.Simplify.{commandRows}
 use Rattle.simplify.proofs.Accepted.{commands-accepted}
 use Rattle.fitting.specs.Written.{FitPlaced}

@@ -8,12 +8,12 @@ use native.Mathlib.Omega.{arith}
 use lib.ListN.{length, length-append}
 use lib.Seq.{length-sets}
 use lib.Ieee.{Float}
-use Rattle.number.specs.Ops.{_≺_, _⊗_, +0}
-use Rattle.number.proofs.Order.{lt-or-ge}
-use Rattle.types.specs.declared.types.Point3D.{Point3D}
-use Rattle.types.specs.declared.types.Command.{Command}
-use Rattle.types.specs.declared.types.Command.the-variants.{Move, Line, Arc, Bezier}
-use Rattle.types.specs.Lent.{pointAt, triple, flat, endOf, kindOf, numbersOf}
+use Rattle.floats.specs.Ops.{_≺_, _⊗_, +0}
+use Rattle.floats.proofs.Order.{lt-or-ge}
+use Rattle.geo.specs.declared.types.Point3D.{Point3D}
+use Rattle.geo.specs.declared.types.Command.{Command}
+use Rattle.geo.specs.declared.types.Command.the-variants.{Move, Line, Arc, Bezier}
+use Rattle.geo.specs.Lent.{pointAt, triple, flat, endOf, kindOf, numbersOf}
 use Rattle.bezier.specs.Linearize.{stepEnd, paramSteps}
 use Rattle.fitting.specs.Commands.{keptOf, chainFit}
 use Rattle.fitting.specs.Written.{FitPlaced}
@@ -23,7 +23,8 @@ use Rattle.course.specs.declared.course.Walk.{Walk}
 use Rattle.course.specs.Parts.{Join, adds, ends, closed, carried, partMost, mostOf}
 use Rattle.course.specs.declared.course.Flush.{Flush}
 use Rattle.course.specs.declared.course.Flush.the-variants.{Fitted, AsItStands, Lines}
-use Rattle.course.specs.Course.{quarter, joined, linesJoined, joinsBeziers, joinedBy}
+use Rattle.floats.specs.Limits.{quarter}
+use Rattle.course.specs.Course.{joined, linesJoined, joinsBeziers, joinedBy}
 use Rattle.course.specs.Walks.{underWay, Room, Stepped}
 use Rattle.course.proofs.Walking.{length-front}
 

@@ -7,18 +7,19 @@ use native.Mathlib.Omega.{arith}
 use lib.ListN.{length}
 use lib.IntN.{pos}
 use lib.Ieee.{Float, fin, lt, le, toUnsigned}
-use Rattle.number.specs.Ops.{_⊗_, _⊘_}
-use Rattle.types.specs.declared.types.Point3D.{Point3D}
-use Rattle.types.specs.declared.types.Command.{Command}
-use Rattle.types.specs.declared.types.Command.the-variants.{Move, Line, Arc, Bezier}
-use Rattle.types.specs.Lent.{triple, flat, origin, endOf, commandAt, commandsFrom}
-use Rattle.types.proofs.Flat.{flat-length}
+use Rattle.floats.specs.Ops.{_⊗_, _⊘_}
+use Rattle.geo.specs.declared.types.Point3D.{Point3D}
+use Rattle.geo.specs.declared.types.Command.{Command}
+use Rattle.geo.specs.declared.types.Command.the-variants.{Move, Line, Arc, Bezier}
+use Rattle.geo.specs.Lent.{triple, flat, origin, endOf, commandAt, commandsFrom}
+use Rattle.geo.proofs.Flat.{flat-length}
 use Rattle.bezier.specs.Linearize.{Step, stepEnd, steps, polygonLength, stepsNeeded, stepCount, paramSteps, firstThird, lastThird}
 use Rattle.bezier.specs.Calls.{mostSteps}
 use Rattle.bezier.proofs.Rows.{param-length}
 use Rattle.bezier.proofs.Count.{max-above}
 use Rattle.course.specs.Parts.{adds}
-use Rattle.course.specs.Course.{quarter, joined, courseParts, courseMost, cap}
+use Rattle.floats.specs.Limits.{quarter}
+use Rattle.course.specs.Course.{joined, courseParts, courseMost, cap}
 use Rattle.course.specs.Walks.{weightOf, weightsFrom}
 use Rattle.course.proofs.Count.{cap-few, cap-many, cap-next, many-steps}
 use Rattle.course.proofs.Parts.{Whole, most-by-weights}

@@ -7,12 +7,12 @@ use native.Mathlib.Omega.{arith}
 use lib.ListN.{length, take, drop, set, length-append, length-map, length-take, length-drop}
 use lib.Seq.{sets, sets-eq, length-sets}
 use lib.Ieee.{Float}
-use Rattle.types.specs.declared.types.Point3D.{Point3D}
-use Rattle.types.specs.declared.types.Command.{Command}
-use Rattle.types.specs.Lent.{triple, flat, endOf, kindOf, numbersOf, commandAt, commandsFrom}
-use Rattle.types.proofs.Flat.{sets-flat}
-use Rattle.types.proofs.Stores.{sets-append, take-front}
-use Rattle.types.proofs.Outcomes.{nine}
+use Rattle.geo.specs.declared.types.Point3D.{Point3D}
+use Rattle.geo.specs.declared.types.Command.{Command}
+use Rattle.geo.specs.Lent.{triple, flat, endOf, kindOf, numbersOf, commandAt, commandsFrom}
+use Rattle.geo.proofs.Flat.{sets-flat}
+use Rattle.geo.proofs.Stores.{sets-append, take-front}
+use Rattle.geo.proofs.Outcomes.{nine}
 use Rattle.fitting.specs.Written.{FitPlaced}
 use Rattle.fitting.proofs.Writing.{one-placed, both-placed}
 use Rattle.course.specs.declared.course.Walk.{Walk}

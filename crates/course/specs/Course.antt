@@ -4,14 +4,15 @@ use mathlib.Core.Bool.{Bool, true, false, not}
 use mathlib.Core.List.{List, [], _∷_, _++_, map}
 use lib.ListN.{length, drop}
 use lib.Dec.{ltb, eqb}
-use lib.Ieee.{Float, binary64, ofBits}
-use Rattle.number.specs.Ops.{_⊗_, if_then_else_}
-use Rattle.types.specs.declared.types.Point3D.{Point3D}
-use Rattle.types.specs.declared.types.Command.{Command}
-use Rattle.types.specs.declared.types.Command.the-variants.{Move, Line, Arc, Bezier}
-use Rattle.types.specs.Lent.{pointAt, triple, flat, origin, commandsFrom}
-use Rattle.types.specs.Domain.{whole, tolerance, commandsFormed, commandsIn}
-use Rattle.types.specs.Outcome.{Row, row, refusal, Outcome, unless}
+use lib.Ieee.{Float}
+use Rattle.floats.specs.Limits.{quarter}
+use Rattle.floats.specs.Ops.{_⊗_, if_then_else_}
+use Rattle.geo.specs.declared.types.Point3D.{Point3D}
+use Rattle.geo.specs.declared.types.Command.{Command}
+use Rattle.geo.specs.declared.types.Command.the-variants.{Move, Line, Arc, Bezier}
+use Rattle.geo.specs.Lent.{pointAt, triple, flat, origin, commandsFrom}
+use Rattle.geo.specs.Domain.{whole, tolerance, commandsFormed, commandsIn}
+use Rattle.geo.specs.Outcome.{Row, row, refusal, Outcome, unless}
 use Rattle.simplify.specs.Measure.{lineSq}
 use Rattle.simplify.specs.Simplify.{commandRows}
 use Rattle.bezier.specs.Linearize.{stepEnd, paramSteps}
@@ -21,9 +22,6 @@ use Rattle.course.specs.declared.course.Flush.the-variants.{Fitted, AsIt
 use Rattle.course.specs.Parts.{Part, Join, adds, ends, partsFrom, mostOf, fitOf}
 
 -- ---- fit_arcs: a Line adds its end to the chain, a Bezier the ends of its steps, linearised at a quarter of the tolerance from where the last command ended
-abbrev pub quarter : Float
-quarter = ofBits binary64 0x3fd0_0000_0000_0000
-
 unfoldable pub joined : Float → Point3D → Command → Join
 joined tol last (Move p) = ends
 joined tol last (Line p) = adds (triple p)

@@ -6,9 +6,9 @@ use mathlib.Core.List.{List, [], _∷_, _++_, map}
 use lib.ListN.{length}
 use lib.Dec.{ltb, leb, eqb}
 use lib.Ieee.{Float}
-use Rattle.number.specs.Ops.{_⊗_, _≺_, if_then_else_}
-use Rattle.types.specs.declared.types.Point3D.{Point3D}
-use Rattle.types.specs.Lent.{pointAt, triple, flat}
+use Rattle.floats.specs.Ops.{_⊗_, _≺_, if_then_else_}
+use Rattle.geo.specs.declared.types.Point3D.{Point3D}
+use Rattle.geo.specs.Lent.{pointAt, triple, flat}
 use Rattle.trial.specs.declared.trial.Trial.{Trial}
 use Rattle.trial.specs.declared.trial.Trial.the-variants.{None}
 use Rattle.trial.specs.Trial.{sharpAt, closedRange, trialThree, trialLeast}

@@ -3,9 +3,9 @@ use mathlib.Core.Path.{_≡_}
 use mathlib.Core.Bool.{true}
 use mathlib.Core.List.{List, [], _∷_}
 use lib.Ieee.{Float}
-use Rattle.types.specs.declared.types.Command.{Command}
-use Rattle.types.specs.Lent.{numbersOf}
-use Rattle.types.specs.Domain.{isFinite, commandIn}
+use Rattle.geo.specs.declared.types.Command.{Command}
+use Rattle.geo.specs.Lent.{numbersOf}
+use Rattle.geo.specs.Domain.{isFinite, commandIn}
 
 -- each number of a list is finite: no infinity, no NaN
 abbrev pub AllFinite : List Float → Type 0

@@ -5,9 +5,9 @@ use Prim.Native.Nat.{ℕ, _+_, _-_, _/_}
 use mathlib.Core.List.{List, [], _∷_, _++_}
 use lib.ListN.{length}
 use lib.Ieee.{Float}
-use Rattle.types.specs.declared.types.Point3D.{Point3D}
-use Rattle.types.specs.declared.types.Command.{Command}
-use Rattle.types.specs.Lent.{triple, flat, endOf}
+use Rattle.geo.specs.declared.types.Point3D.{Point3D}
+use Rattle.geo.specs.declared.types.Command.{Command}
+use Rattle.geo.specs.Lent.{triple, flat, endOf}
 
 -- a chain, as the triples of its points; or a command that is kept
 pub data Part : Type 0 where

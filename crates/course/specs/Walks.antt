@@ -5,9 +5,9 @@ use mathlib.Core.List.{List, [], _∷_, map}
 use lib.ListN.{length, take}
 use lib.Seq.{sets}
 use lib.Ieee.{Float}
-use Rattle.types.specs.declared.types.Point3D.{Point3D}
-use Rattle.types.specs.declared.types.Command.{Command}
-use Rattle.types.specs.Lent.{flat, endOf, kindOf, numbersOf}
+use Rattle.geo.specs.declared.types.Point3D.{Point3D}
+use Rattle.geo.specs.declared.types.Command.{Command}
+use Rattle.geo.specs.Lent.{flat, endOf, kindOf, numbersOf}
 use Rattle.course.specs.declared.course.Walk.{Walk}
 use Rattle.course.specs.Parts.{Join, adds, ends, closed, carried, mostOf, fitOf}
 

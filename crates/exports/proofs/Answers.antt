@@ -7,15 +7,15 @@ use native.Mathlib.Omega.{arith}
 use lib.Dec.{ltb, eqb}
 use lib.ListN.{length}
 use lib.Ieee.{Float, lt}
-use Rattle.types.specs.declared.types.Point.{Point}
-use Rattle.types.specs.declared.types.Point3D.{Point3D}
-use Rattle.types.specs.declared.types.CubicBezier.{CubicBezier}
-use Rattle.types.specs.declared.point.Midpoint.{Midpoint}
-use Rattle.types.specs.declared.point.Midpoint.the-variants as Midpoint·
-use Rattle.types.specs.Outcome.{row, refusal, Outcome, refused, gives, unless}
-use Rattle.types.specs.Midpoint.{midpointAnswer}
-use Rattle.types.specs.Domain.{point3In}
-use Rattle.types.specs.Lent.{pairAt, pointAt}
+use Rattle.geo.specs.declared.types.Point.{Point}
+use Rattle.geo.specs.declared.types.Point3D.{Point3D}
+use Rattle.geo.specs.declared.types.CubicBezier.{CubicBezier}
+use Rattle.geo.specs.declared.point.Midpoint.{Midpoint}
+use Rattle.geo.specs.declared.point.Midpoint.the-variants as Midpoint·
+use Rattle.geo.specs.Outcome.{row, refusal, Outcome, refused, gives, unless}
+use Rattle.geo.specs.Midpoint.{midpointAnswer}
+use Rattle.geo.specs.Domain.{point3In}
+use Rattle.geo.specs.Lent.{pairAt, pointAt}
 use Rattle.bezier.specs.declared.bezier.BezierPoint.{BezierPoint}
 use Rattle.bezier.specs.declared.bezier.BezierPoint.the-variants as Point·
 use Rattle.bezier.specs.declared.bezier.BezierSplit.{BezierSplit}
@@ -25,8 +25,8 @@ use Rattle.bezier.specs.declared.bezier.Flatness.{Flatness}
 use Rattle.bezier.specs.declared.bezier.Flatness.the-variants as Flat·
 use Rattle.bezier.specs.declared.bezier.FittedCubic.{FittedCubic}
 use Rattle.bezier.specs.declared.bezier.FittedCubic.the-variants as Fit·
-use Rattle.bezier.specs.Calls.{pointAnswer, splitAnswer, flatAnswer, fitRows, fitCall, fitAnswer}
-use Rattle.bezier.specs.FitCubic.{noLength, chordSum, straight, sums, solved, fitted}
+use Rattle.bezier.specs.Calls.{pointAnswer, splitAnswer, flatAnswer, cubicRows, cubicCall, cubicAnswer}
+use Rattle.bezier.specs.FitCubic.{noLength, chordSum, straight, cubicSums, cubicSolved, cubicFitted}
 use Rattle.arc.specs.declared.arc.Direction.{Direction}
 use Rattle.arc.specs.declared.arc.Direction.the-variants as Direction·
 use Rattle.arc.specs.Direction.{directionAnswer}
@@ -110,19 +110,19 @@ direction-refused (refused m) r n e h = cc
 direction-refused (gives q) r n e h = absurd (let z : _≡_ {A = ℕ} 0 1 = cc in omega arith)
 
 -- ---- fit_cubic_bezier, whose accepted answer is a curve or none, and never a refusal
-pub fit-gives : (o : Outcome FittedCubic) (r : FittedCubic) (q : CubicBezier) → r ≡ fitAnswer o → r ≡ Fit·.Curve q → o ≡ gives (Fit·.Curve q)
-unfolding fitAnswer
+pub fit-gives : (o : Outcome FittedCubic) (r : FittedCubic) (q : CubicBezier) → r ≡ cubicAnswer o → r ≡ Fit·.Curve q → o ≡ gives (Fit·.Curve q)
+unfolding cubicAnswer
 fit-gives (refused n) r q e h = absurd (let z : _≡_ {A = ℕ} 0 1 = cc in omega arith)
 fit-gives (gives c) r q e h = cc
 
-pub fit-none : (o : Outcome FittedCubic) (r : FittedCubic) → r ≡ fitAnswer o → r ≡ Fit·.None → o ≡ gives Fit·.None
-unfolding fitAnswer
+pub fit-none : (o : Outcome FittedCubic) (r : FittedCubic) → r ≡ cubicAnswer o → r ≡ Fit·.None → o ≡ gives Fit·.None
+unfolding cubicAnswer
 fit-none (refused n) r e h = absurd (let z : _≡_ {A = ℕ} 0 1 = cc in omega arith)
 fit-none (gives c) r e h = cc
 
-never : (at : ℕ → Point) (n k : ℕ) → fitted at n ≡ Fit·.Refused k → ⊥
-unfolding fitted
-never at n k h = go (ltb n 2) (eqb n 2) (lt (chordSum at (n - 1)) noLength) (straight (at 0) (at (n - 1))) (straight (at 0) (at (n - 1))) (solved (at 0) (at (n - 1)) (sums at n)) h
+never : (at : ℕ → Point) (n k : ℕ) → cubicFitted at n ≡ Fit·.Refused k → ⊥
+unfolding cubicFitted
+never at n k h = go (ltb n 2) (eqb n 2) (lt (chordSum at (n - 1)) noLength) (straight (at 0) (at (n - 1))) (straight (at 0) (at (n - 1))) (cubicSolved (at 0) (at (n - 1)) (cubicSums at n)) h
   where
     go : (a b d : Bool) (x y z : CubicBezier) → cond a Fit·.None (cond b (Fit·.Curve x) (cond d (Fit·.Curve y) (Fit·.Curve z))) ≡ Fit·.Refused k → ⊥
     go true b d x y z h = let w : _≡_ {A = ℕ} 0 1 = cc in omega arith
@@ -130,11 +130,11 @@ never at n k h = go (ltb n 2) (eqb n 2) (lt (chordSum at (n - 1)) noLength) (str
     go false false true x y z h = let w : _≡_ {A = ℕ} 0 1 = cc in omega arith
     go false false false x y z h = let w : _≡_ {A = ℕ} 0 1 = cc in omega arith
 
-pub fit-refused : (s : List Float) (r : FittedCubic) (n : ℕ) → r ≡ fitAnswer (fitCall s) → r ≡ Fit·.Refused n → fitCall s ≡ refused n
-unfolding fitCall fitAnswer unless
-fit-refused s r n e h = go (refusal (fitRows s)) (fitted (pairAt s) (length s / 2)) (never (pairAt s) (length s / 2) n) e
+pub fit-refused : (s : List Float) (r : FittedCubic) (n : ℕ) → r ≡ cubicAnswer (cubicCall s) → r ≡ Fit·.Refused n → cubicCall s ≡ refused n
+unfolding cubicCall cubicAnswer unless
+fit-refused s r n e h = go (refusal (cubicRows s)) (cubicFitted (pairAt s) (length s / 2)) (never (pairAt s) (length s / 2) n) e
   where
-    go : (k : ℕ) (c : FittedCubic) → (c ≡ Fit·.Refused n → ⊥) → r ≡ fitAnswer (unless k c) → unless k c ≡ refused n
+    go : (k : ℕ) (c : FittedCubic) → (c ≡ Fit·.Refused n → ⊥) → r ≡ cubicAnswer (unless k c) → unless k c ≡ refused n
     go zero c f e = absurd (f (sym e ∙ h))
     go (suc k) c f e = cc
 

@@ -4,10 +4,10 @@ use mathlib.Core.Path.{_≡_, ap, _∙_}
 use mathlib.Core.List.{List}
 use lib.Seq.{sets}
 use lib.Ieee.{Float}
-use Rattle.types.specs.declared.types.Answer.{Answer}
-use Rattle.types.specs.declared.types.Command.{Command}
-use Rattle.types.specs.Outcome.{Outcome, refused, gives, answer, Wrote}
-use Rattle.types.specs.Commands.{WroteCommands}
+use Rattle.geo.specs.declared.types.Answer.{Answer}
+use Rattle.geo.specs.declared.types.Command.{Command}
+use Rattle.geo.specs.Outcome.{Outcome, refused, gives, answer, Wrote}
+use Rattle.geo.specs.Commands.{WroteCommands}
 use Rattle.exports.specs.Plain.{numberOf, laid, told, refusedBy, countOr, Gave, Told, Handed, Listed, ListedCommands}
 
 module _ {A : Type 0} (lay : A → List Float) (o : Outcome A) (out : List Float) where

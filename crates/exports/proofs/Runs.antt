@@ -5,7 +5,7 @@ use mathlib.Core.List.{List, _++_}
 use native.Mathlib.Omega.{arith}
 use lib.ListN.{length, length-append}
 use lib.Seq.{sets}
-use Rattle.types.proofs.Stores.{sets-append}
+use Rattle.geo.proofs.Stores.{sets-append}
 
 module _ {A : Type 0} (l : List A) (i : ℕ) where
   -- two runs of n

@@ -6,14 +6,14 @@ use mathlib.Core.List.{List, [], _++_, map}
 use lib.ListN.{length}
 use lib.Seq.{sets}
 use lib.Ieee.{Float}
-use Rattle.types.specs.declared.types.Point.{Point}
-use Rattle.types.specs.declared.types.Point3D.{Point3D}
-use Rattle.types.specs.declared.types.CubicBezier.{CubicBezier}
-use Rattle.types.specs.declared.types.Answer.{Answer}
-use Rattle.types.specs.declared.types.Answer.the-variants as Answer·
-use Rattle.types.specs.declared.types.Command.{Command}
-use Rattle.types.specs.Lent.{pair, triple, flat, kindOf, numbersOf}
-use Rattle.types.specs.Outcome.{Outcome, refused, gives, left}
+use Rattle.geo.specs.declared.types.Point.{Point}
+use Rattle.geo.specs.declared.types.Point3D.{Point3D}
+use Rattle.geo.specs.declared.types.CubicBezier.{CubicBezier}
+use Rattle.geo.specs.declared.types.Answer.{Answer}
+use Rattle.geo.specs.declared.types.Answer.the-variants as Answer·
+use Rattle.geo.specs.declared.types.Command.{Command}
+use Rattle.geo.specs.Lent.{pair, triple, flat, kindOf, numbersOf}
+use Rattle.geo.specs.Outcome.{Outcome, refused, gives, left}
 use Rattle.bezier.specs.declared.bezier.Halves.{Halves}
 use Rattle.bezier.specs.declared.bezier.Tolerance.{Tolerance}
 use Rattle.bezier.specs.declared.bezier.Tolerance.the-variants.{Given, Default}

@@ -1,6 +1,6 @@
 // The direction of an arc.
 use arc::arc::Direction;
-use types::types::Point;
+use geo::types::Point;
 ghost use Rattle.arc.specs.Direction.{directionCall};
 ghost use Rattle.exports.specs.Plain.{point, Told};
 

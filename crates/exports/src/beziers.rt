@@ -5,17 +5,17 @@ use bezier::bezier::BezierSplit;
 use bezier::bezier::FittedCubic;
 use bezier::bezier::Flatness;
 use bezier::bezier::Tolerance;
-use types::lent::put_pair;
-use types::types::CubicBezier;
-use types::types::Point;
-use types::types::Point3D;
+use geo::lent::put_pair;
+use geo::types::CubicBezier;
+use geo::types::Point;
+use geo::types::Point3D;
 ghost use mathlib.Core.Path.{_≡_};
 ghost use Prim.Native.Nat.{_+_, _<_};
 ghost use lib.ListN.{length};
 ghost use lib.Seq.{sets};
-ghost use Rattle.types.specs.Lent.{pair, triple, flat};
+ghost use Rattle.geo.specs.Lent.{pair, triple, flat};
 ghost use Rattle.bezier.specs.Linearize.{six};
-ghost use Rattle.bezier.specs.Calls.{pointCall, splitCall, flatCall, linearizeCall, paramCall, adaptiveCall, segmentCall, fitCall};
+ghost use Rattle.bezier.specs.Calls.{pointCall, splitCall, flatCall, linearizeCall, paramCall, adaptiveCall, segmentCall, cubicCall};
 ghost use Rattle.exports.specs.Plain.{point, point3, eight, sixteen, isCurve, curveNumbers, toleranceBy, Gave, Told, Listed};
 
 // The point at t of a curve in the plane.
@@ -300,8 +300,8 @@ pub extern "C" fn rt_fit_cubic_bezier(
     found: &mut bool,
     answer: &mut [f64; 8],
 ) -> u32
-    ensures found { λ r. ⌜ Told isCurve (fitCall (now (points .entry))) (now (found .entry)) (now (found .exit)) r ⌝ }
-    ensures answer { λ r. ⌜ Gave curveNumbers (fitCall (now (points .entry))) (now (answer .entry)) (now (answer .exit)) r ⌝ }
+    ensures found { λ r. ⌜ Told isCurve (cubicCall (now (points .entry))) (now (found .entry)) (now (found .exit)) r ⌝ }
+    ensures answer { λ r. ⌜ Gave curveNumbers (cubicCall (now (points .entry))) (now (answer .entry)) (now (answer .exit)) r ⌝ }
 {
     let a = bezier::bezier::fit_cubic_bezier(points);
     match a {

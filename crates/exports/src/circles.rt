@@ -4,11 +4,11 @@ use circle::circle::CircleThrough;
 use circle::circle::Collinear;
 use circle::circle::FittedCircle;
 use circle::circle::Projected;
-use types::lent::put_pair;
-use types::lent::put_point;
-use types::types::Point;
-use types::types::Point3D;
-ghost use Rattle.types.specs.Lent.{pair};
+use geo::lent::put_pair;
+use geo::lent::put_point;
+use geo::types::Point;
+use geo::types::Point3D;
+ghost use Rattle.geo.specs.Lent.{pair};
 ghost use Rattle.circle.specs.Calls.{collinearCall, throughCall, fittedCall, projectedCall};
 ghost use Rattle.exports.specs.Plain.{point, point3, isThrough, throughNumbers, isCircle, circleNumbers, Gave, Told};
 

@@ -1,5 +1,5 @@
 // Answers that are a count or a refusal.
-use types::types::Answer;
+use geo::types::Answer;
 ghost use Rattle.exports.specs.Plain.{Handed};
 
 // Hands an answer on: the count to `count`, or the refusal's number back.

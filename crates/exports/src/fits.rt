@@ -2,7 +2,7 @@
 use crate::counts::hand_on;
 use fitting::fitting::ArcDeviation;
 use fitting::fitting::LineDeviation;
-use types::types::Point;
+use geo::types::Point;
 ghost use lib.ListN.{length};
 ghost use Rattle.fitting.specs.Calls.{lineCall, arcCall, fitCall, primitivesCall};
 ghost use Rattle.exports.specs.Plain.{point, Told, ListedCommands};

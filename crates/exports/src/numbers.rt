@@ -1,14 +1,14 @@
 // The helpers on `f64`.
 ghost use mathlib.Core.Path.{_≡_};
-ghost use Rattle.number.specs.Root.{rootOf};
-ghost use Rattle.number.specs.Float.{absOf, ceilOf, maxOf, clampOf};
+ghost use Rattle.floats.specs.Root.{rootOf};
+ghost use Rattle.floats.specs.Float.{absOf, ceilOf, maxOf, clampOf};
 
 // The square root of any x.
 #[no_mangle]
 pub extern "C" fn rt_sqrt(x: f64) -> f64
     ensures { λ r. ⌜ r ≡ rootOf x ⌝ }
 {
-    number::root::sqrt(x)
+    floats::root::sqrt(x)
 }
 
 // The least whole number that is not below x.
@@ -16,7 +16,7 @@ pub extern "C" fn rt_sqrt(x: f64) -> f64
 pub extern "C" fn rt_ceil(x: f64) -> f64
     ensures { λ r. ⌜ r ≡ ceilOf x ⌝ }
 {
-    number::float::ceil(x)
+    floats::float::ceil(x)
 }
 
 // x without its sign.
@@ -24,7 +24,7 @@ pub extern "C" fn rt_ceil(x: f64) -> f64
 pub extern "C" fn rt_abs(x: f64) -> f64
     ensures { λ r. ⌜ r ≡ absOf x ⌝ }
 {
-    number::float::abs(x)
+    floats::float::abs(x)
 }
 
 // The greater of a and b.
@@ -32,7 +32,7 @@ pub extern "C" fn rt_abs(x: f64) -> f64
 pub extern "C" fn rt_max(a: f64, b: f64) -> f64
     ensures { λ r. ⌜ r ≡ maxOf a b ⌝ }
 {
-    number::float::max(a, b)
+    floats::float::max(a, b)
 }
 
 // x, kept within least..most.
@@ -40,5 +40,5 @@ pub extern "C" fn rt_max(a: f64, b: f64) -> f64
 pub extern "C" fn rt_clamp(x: f64, least: f64, most: f64) -> f64
     ensures { λ r. ⌜ r ≡ clampOf x least most ⌝ }
 {
-    number::float::clamp(x, least, most)
+    floats::float::clamp(x, least, most)
 }

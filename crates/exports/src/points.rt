@@ -1,9 +1,9 @@
 // The midpoint.
-use types::lent::put_point;
-use types::point::Midpoint;
-use types::types::Point3D;
-ghost use Rattle.types.specs.Lent.{triple};
-ghost use Rattle.types.specs.Midpoint.{midpointCall};
+use geo::lent::put_point;
+use geo::point::Midpoint;
+use geo::types::Point3D;
+ghost use Rattle.geo.specs.Lent.{triple};
+ghost use Rattle.geo.specs.Midpoint.{midpointCall};
 ghost use Rattle.exports.specs.Plain.{point3, Gave};
 
 // The midpoint of two points.
@@ -29,7 +29,7 @@ pub extern "C" fn rt_get_midpoint_3d(
         y: by,
         z: bz,
     };
-    let m = types::point::get_midpoint_3d(a, b);
+    let m = geo::point::get_midpoint_3d(a, b);
     match m {
         Midpoint::At(p) => {
             put_point(answer, 0, p);

@@ -1,7 +1,7 @@
 // Thinning: a list of points or of commands, and which of them stand for the rest within a tolerance.
 use crate::counts::hand_on;
 ghost use lib.ListN.{length};
-ghost use Rattle.types.specs.Lent.{pair, triple, flat};
+ghost use Rattle.geo.specs.Lent.{pair, triple, flat};
 ghost use Rattle.simplify.specs.Simplify.{simplifyPolyline, simplifyPolyline3d, simplifyData};
 ghost use Rattle.exports.specs.Plain.{Listed, ListedCommands};
 

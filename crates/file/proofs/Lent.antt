@@ -7,15 +7,15 @@ use native.Mathlib.Omega.{arith}
 use lib.ListN.{length, getD, take, drop, length-map}
 use lib.Seq.{sets, getD-drop, drop-drop, drop-at, take-at}
 use lib.Ieee.{Float, nan}
-use Rattle.types.specs.declared.types.Point3D.{Point3D}
-use Rattle.types.specs.declared.types.Command.{Command}
-use Rattle.types.specs.declared.types.Command.the-variants.{Move, Line, Arc, Bezier}
-use Rattle.types.specs.Lent.{flat, kindOf, numbersOf, pointAt, commandOf, commandAt, commandsFrom}
-use Rattle.types.specs.Walk.{listFrom}
+use Rattle.geo.specs.declared.types.Point3D.{Point3D}
+use Rattle.geo.specs.declared.types.Command.{Command}
+use Rattle.geo.specs.declared.types.Command.the-variants.{Move, Line, Arc, Bezier}
+use Rattle.geo.specs.Lent.{flat, kindOf, numbersOf, pointAt, commandOf, commandAt, commandsFrom}
+use Rattle.geo.specs.Walk.{listFrom}
 use Rattle.file.specs.Command.{laid, enc, lentBytes, lentLap}
-use Rattle.types.proofs.Outcomes.{nine}
-use Rattle.types.proofs.Flat.{flat-length}
-use Rattle.types.proofs.Stores.{sets-front}
+use Rattle.geo.proofs.Outcomes.{nine}
+use Rattle.geo.proofs.Flat.{flat-length}
+use Rattle.geo.proofs.Stores.{sets-front}
 
 -- the j-th of three points
 pointIn : List Float → ℕ → Point3D

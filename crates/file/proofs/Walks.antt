@@ -6,9 +6,9 @@ use native.Mathlib.Omega.{arith}
 use lib.ListN.{length, set, take, drop, length-set}
 use lib.Seq.{sets, length-sets}
 use lib.Ieee.{Float}
-use Rattle.types.specs.declared.types.Command.{Command}
-use Rattle.types.specs.Lent.{flat, kindOf, numbersOf, commandAt, commandsFrom}
-use Rattle.types.proofs.Outcomes.{nine}
+use Rattle.geo.specs.declared.types.Command.{Command}
+use Rattle.geo.specs.Lent.{flat, kindOf, numbersOf, commandAt, commandsFrom}
+use Rattle.geo.proofs.Outcomes.{nine}
 use Rattle.file.specs.Command.{decoded, enc, commandsAt}
 use Rattle.file.proofs.Stores.{behind, length-enc}
 

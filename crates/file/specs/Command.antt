@@ -5,11 +5,11 @@ use mathlib.Core.List.{List, [], _∷_, _++_}
 use lib.ListN.{length, getD, take, drop}
 use lib.Dec.{T}
 use lib.Ieee.{Float, nan, binary64, fits}
-use Rattle.types.specs.declared.types.Point3D.{Point3D}
-use Rattle.types.specs.declared.types.Command.{Command}
-use Rattle.types.specs.Walk.{listFrom}
-use Rattle.types.specs.Lent.{flat, triple, pointAt, kindOf, numbersOf, commandOf}
-use Rattle.types.specs.Domain.{formed}
+use Rattle.geo.specs.declared.types.Point3D.{Point3D}
+use Rattle.geo.specs.declared.types.Command.{Command}
+use Rattle.geo.specs.Walk.{listFrom}
+use Rattle.geo.specs.Lent.{flat, triple, pointAt, kindOf, numbersOf, commandOf}
+use Rattle.geo.specs.Domain.{formed}
 use Rattle.file.specs.Bytes.{f64Bytes, numberAt}
 
 -- ---- reading

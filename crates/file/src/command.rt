@@ -1,18 +1,18 @@
 // The 73 bytes of a command: its kind, and its nine numbers.
 use crate::bytes::number_at;
 use crate::bytes::put_f64;
-use types::domain::is_formed;
-use types::lent::command_at;
-use types::lent::make_command;
-use types::lent::put_command;
-use types::types::Command;
-use types::types::Point3D;
+use geo::domain::is_formed;
+use geo::lent::command_at;
+use geo::lent::make_command;
+use geo::lent::put_command;
+use geo::types::Command;
+use geo::types::Point3D;
 ghost use mathlib.Core.Path.{_≡_};
 ghost use mathlib.Core.List.{map};
 ghost use Prim.Native.Nat.{_+_, _*_, _≤_};
 ghost use lib.ListN.{length};
 ghost use lib.Seq.{sets};
-ghost use Rattle.types.specs.Lent.{flat, triple, kindOf, numbersOf, commandsFrom};
+ghost use Rattle.geo.specs.Lent.{flat, triple, kindOf, numbersOf, commandsFrom};
 ghost use Rattle.file.specs.Bytes.{f64Bytes};
 ghost use Rattle.file.specs.Command.{pointFrom, decoded, wellFormed, laid, enc, commandsAt};
 

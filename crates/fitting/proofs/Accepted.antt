@@ -9,19 +9,19 @@ use borrow.Author.Tests.{ltb-true, ltb-false, lt-ltb, le-ltb, le-leb, lt-leb, no
 use lib.ListN.{length}
 use lib.Dec.{ltb, leb}
 use lib.Ieee.{Float, below}
-use Rattle.number.specs.Ops.{_≺_, +0}
-use Rattle.number.proofs.Order.{lt-or-ge}
-use Rattle.types.specs.declared.types.Point.{Point}
-use Rattle.types.specs.declared.types.Command.{Command}
-use Rattle.types.specs.declared.types.Answer.{Answer}
-use Rattle.types.specs.declared.types.Answer.the-variants.{Written}
-use Rattle.types.specs.Commands.{WroteCommands}
-use Rattle.types.specs.Lent.{pointAt, flat, numbersOf}
-use Rattle.types.specs.Outcome.{Row, refusal, unless}
-use Rattle.types.proofs.Tolerance.{tolerance-positive}
-use Rattle.types.proofs.Rows.{row-passes, row-passed, refusal-front, unless-refused, unless-gives}
-use Rattle.types.proofs.Outcomes.{commands-given, nine}
-use Rattle.types.proofs.Flat.{flat-length}
+use Rattle.floats.specs.Ops.{_≺_, +0}
+use Rattle.floats.proofs.Order.{lt-or-ge}
+use Rattle.geo.specs.declared.types.Point.{Point}
+use Rattle.geo.specs.declared.types.Command.{Command}
+use Rattle.geo.specs.declared.types.Answer.{Answer}
+use Rattle.geo.specs.declared.types.Answer.the-variants.{Written}
+use Rattle.geo.specs.Commands.{WroteCommands}
+use Rattle.geo.specs.Lent.{pointAt, flat, numbersOf}
+use Rattle.geo.specs.Outcome.{Row, refusal, unless}
+use Rattle.geo.proofs.Tolerance.{tolerance-positive}
+use Rattle.geo.proofs.Rows.{row-passes, row-passed, refusal-front, unless-refused, unless-gives}
+use Rattle.geo.proofs.Outcomes.{commands-given, nine}
+use Rattle.geo.proofs.Flat.{flat-length}
 use Rattle.simplify.specs.Measure.{lineSq}
 use Rattle.circle.specs.declared.circle.Deviation.{Deviation}
 use Rattle.circle.specs.Calls.{pointsRows}

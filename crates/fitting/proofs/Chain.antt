@@ -6,11 +6,11 @@ use native.Mathlib.Omega.{arith}
 use lib.ListN.{length, take, drop, length-append, length-map}
 use lib.Seq.{length-sets}
 use lib.Ieee.{Float}
-use Rattle.number.specs.Ops.{_⊗_}
-use Rattle.number.proofs.Unsigned.{square-not-negative}
-use Rattle.types.specs.Lent.{pointAt, triple, flat}
-use Rattle.types.proofs.Stores.{sets-front, take-front}
-use Rattle.types.proofs.Flat.{flat-length}
+use Rattle.floats.specs.Ops.{_⊗_}
+use Rattle.floats.proofs.Unsigned.{square-not-negative}
+use Rattle.geo.specs.Lent.{pointAt, triple, flat}
+use Rattle.geo.proofs.Stores.{sets-front, take-front}
+use Rattle.geo.proofs.Flat.{flat-length}
 use Rattle.simplify.specs.Measure.{lineSq}
 use Rattle.simplify.specs.Thin.{keptIn, thinned, thinnedPoints}
 use Rattle.simplify.specs.Flags.{Copied}

@@ -5,10 +5,10 @@ use mathlib.Core.Bool.{Bool, true, false}
 use mathlib.Core.List.{[], _∷_, _++_, map, map-append}
 use lib.ListN.{length, length-map}
 use lib.Ieee.{Float, lt}
-use Rattle.number.specs.Ops.{_≺_, +0}
-use Rattle.types.specs.declared.types.Point.{Point}
-use Rattle.types.specs.declared.types.Point3D.{Point3D}
-use Rattle.types.specs.declared.types.Command.the-variants.{Line}
+use Rattle.floats.specs.Ops.{_≺_, +0}
+use Rattle.geo.specs.declared.types.Point.{Point}
+use Rattle.geo.specs.declared.types.Point3D.{Point3D}
+use Rattle.geo.specs.declared.types.Command.the-variants.{Line}
 use Rattle.circle.specs.declared.circle.Deviation.{Deviation}
 use Rattle.trial.specs.declared.trial.Trial.{Trial}
 use Rattle.trial.specs.declared.trial.Trial.the-variants.{Arc, None}

@@ -7,11 +7,11 @@ use mathlib.Core.List.{List, [], _∷_, _++_}
 use native.Mathlib.Omega.{arith}
 use lib.ListN.{length, length-append}
 use lib.Ieee.{Float, lt, ofBits}
-use Rattle.number.specs.Ops.{_≺_, +0}
-use Rattle.number.specs.Root.{rootOf}
-use Rattle.number.proofs.Order.{either, clash}
-use Rattle.types.specs.declared.types.Point.{Point}
-use Rattle.types.specs.declared.types.Point3D.{Point3D}
+use Rattle.floats.specs.Ops.{_≺_, +0}
+use Rattle.floats.specs.Root.{rootOf}
+use Rattle.floats.proofs.Order.{either, clash}
+use Rattle.geo.specs.declared.types.Point.{Point}
+use Rattle.geo.specs.declared.types.Point3D.{Point3D}
 use Rattle.circle.specs.declared.circle.Deviation.{Deviation}
 use Rattle.trial.specs.declared.trial.Trial.{Trial}
 use Rattle.trial.specs.declared.trial.Trial.the-variants.{Arc, None}

@@ -6,11 +6,11 @@ use native.Mathlib.Omega.{arith}
 use lib.ListN.{length, set, length-append, length-map}
 use lib.Seq.{sets}
 use lib.Ieee.{Float}
-use Rattle.types.specs.declared.types.Command.{Command}
-use Rattle.types.specs.Lent.{flat, kindOf, numbersOf}
-use Rattle.types.proofs.Stores.{sets-append}
-use Rattle.types.proofs.Flat.{flat-one, sets-flat}
-use Rattle.types.proofs.Outcomes.{nine}
+use Rattle.geo.specs.declared.types.Command.{Command}
+use Rattle.geo.specs.Lent.{flat, kindOf, numbersOf}
+use Rattle.geo.proofs.Stores.{sets-append}
+use Rattle.geo.proofs.Flat.{flat-one, sets-flat}
+use Rattle.geo.proofs.Outcomes.{nine}
 use Rattle.fitting.specs.Written.{FitPlaced}
 
 pub one-placed : (c : Command) (cs : List Command) (at : ℕ) (ks ks′ : List ℕ) (ns ns′ : List Float) → cs ≡ c ∷ [] → ks′ ≡ set ks at (kindOf c)

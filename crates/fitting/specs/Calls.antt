@@ -5,11 +5,11 @@ use mathlib.Core.List.{List, [], _∷_, _++_}
 use lib.ListN.{length}
 use lib.Dec.{ltb}
 use lib.Ieee.{Float}
-use Rattle.types.specs.declared.types.Point.{Point}
-use Rattle.types.specs.declared.types.Command.{Command}
-use Rattle.types.specs.Lent.{pointAt}
-use Rattle.types.specs.Domain.{tolerance, radius, centre, whole}
-use Rattle.types.specs.Outcome.{Row, row, refusal, Outcome, refused, gives, unless}
+use Rattle.geo.specs.declared.types.Point.{Point}
+use Rattle.geo.specs.declared.types.Command.{Command}
+use Rattle.geo.specs.Lent.{pointAt}
+use Rattle.geo.specs.Domain.{tolerance, radius, centre, whole}
+use Rattle.geo.specs.Outcome.{Row, row, refusal, Outcome, refused, gives, unless}
 use Rattle.simplify.specs.Measure.{lineSq}
 use Rattle.circle.specs.declared.circle.Deviation.{Deviation}
 use Rattle.circle.specs.Calls.{pointsRows}

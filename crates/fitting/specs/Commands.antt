@@ -4,11 +4,11 @@ use mathlib.Core.Bool.{Bool, true, false}
 use mathlib.Core.List.{List, map}
 use lib.ListN.{length}
 use lib.Ieee.{Float, neg}
-use Rattle.number.specs.Ops.{_⊖_, _⊗_, +0, one}
-use Rattle.types.specs.declared.types.Point3D.{Point3D}
-use Rattle.types.specs.declared.types.Command.{Command}
-use Rattle.types.specs.declared.types.Command.the-variants.{Line, Arc}
-use Rattle.types.specs.Lent.{pointAt, triple, flat}
+use Rattle.floats.specs.Ops.{_⊖_, _⊗_, +0, one}
+use Rattle.geo.specs.declared.types.Point3D.{Point3D}
+use Rattle.geo.specs.declared.types.Command.{Command}
+use Rattle.geo.specs.declared.types.Command.the-variants.{Line, Arc}
+use Rattle.geo.specs.Lent.{pointAt, triple, flat}
 use Rattle.simplify.specs.Measure.{Measure, lineSq}
 use Rattle.simplify.specs.Thin.{thinnedPoints}
 use Rattle.fitting.specs.Pieces.{Shape, line, arc, Piece, piecesIn}

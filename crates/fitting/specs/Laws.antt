@@ -4,8 +4,8 @@ use mathlib.Core.Path.{_≡_}
 use mathlib.Core.Bool.{true, false}
 use mathlib.Core.List.{List, [], _∷_}
 use lib.Ieee.{Float}
-use Rattle.number.specs.Ops.{_≺_}
-use Rattle.types.specs.declared.types.Point3D.{Point3D}
+use Rattle.floats.specs.Ops.{_≺_}
+use Rattle.geo.specs.declared.types.Point3D.{Point3D}
 use Rattle.circle.specs.Three.{radiusFrom}
 use Rattle.trial.specs.declared.trial.Trial.the-variants.{None}
 use Rattle.trial.specs.Deviation.{arcDeviation}

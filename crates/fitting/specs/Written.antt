@@ -5,8 +5,8 @@ use mathlib.Core.Path.{_≡_}
 use lib.ListN.{length}
 use lib.Seq.{sets}
 use lib.Ieee.{Float}
-use Rattle.types.specs.declared.types.Command.{Command}
-use Rattle.types.specs.Lent.{flat, kindOf, numbersOf}
+use Rattle.geo.specs.declared.types.Command.{Command}
+use Rattle.geo.specs.Lent.{flat, kindOf, numbersOf}
 
 -- the commands cs, n in number, written from place `at` on
 pub record FitPlaced (cs : List Command) (at n : ℕ) (ks ks′ : List ℕ) (ns ns′ : List Float) : Type 0 where

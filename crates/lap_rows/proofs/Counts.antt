@@ -6,8 +6,8 @@ use mathlib.Core.List.{List, [], _∷_, map}
 use native.Mathlib.Omega.{arith}
 use lib.ListN.{length}
 use lib.Ieee.{Float}
-use Rattle.number.specs.Ops.{_≺_, +0}
-use Rattle.types.specs.declared.types.Command.{Command}
+use Rattle.floats.specs.Ops.{_≺_, +0}
+use Rattle.geo.specs.declared.types.Command.{Command}
 use Rattle.file.specs.Command.{decoded}
 use Rattle.fitting.proofs.Chain.{kept-few}
 use Rattle.course.specs.Parts.{Part, chain, kept, partMost}

@@ -6,7 +6,7 @@ use mathlib.Core.List.{List, [], _∷_, _++_}
 use native.Mathlib.Omega.{arith}
 use borrow.Author.Tests.{lt-ltb, le-ltb}
 use lib.ListN.{length}
-use Rattle.number.proofs.Order.{lt-or-ge}
+use Rattle.floats.proofs.Order.{lt-or-ge}
 use Rattle.lap_rows.specs.Listing.{digitsBy, decimal}
 
 -- a digit alone, and one behind others

@@ -7,20 +7,20 @@ use mathlib.Core.List.{List, [], _∷_, _++_, map}
 use native.Mathlib.Omega.{arith}
 use lib.ListN.{length, getD}
 use lib.Ieee.{Float}
-use Rattle.number.proofs.Order.{lt-or-ge}
-use Rattle.types.specs.declared.types.Command.{Command}
-use Rattle.types.specs.Domain.{tolerance}
-use Rattle.types.specs.Outcome.{refusal}
-use Rattle.types.specs.Lent.{kindOf}
-use Rattle.types.proofs.Rows.{refusal-front, unless-gives}
-use Rattle.types.proofs.Tolerance.{tolerance-positive}
+use Rattle.floats.proofs.Order.{lt-or-ge}
+use Rattle.geo.specs.declared.types.Command.{Command}
+use Rattle.geo.specs.Domain.{tolerance}
+use Rattle.geo.specs.Outcome.{refusal}
+use Rattle.geo.specs.Lent.{kindOf}
+use Rattle.geo.proofs.Rows.{refusal-front, unless-gives}
+use Rattle.geo.proofs.Tolerance.{tolerance-positive}
 use Rattle.file.specs.Command.{decoded, enc}
 use Rattle.course.specs.Course.{courseFit}
 use Rattle.listing.specs.Rows.{chainRows, partRows, rowsOf, courseRows}
 use Rattle.listing.proofs.Laws.{course-kinds, course-steps}
 use Rattle.laps.specs.File.{lapCount, lapsOf}
-use Rattle.laps.specs.Fit.{mostOf, sizeOf}
-use Rattle.laps.specs.Calls.{fileRows, fitRows}
+use Rattle.laps.specs.Fit.{lapsMost, fileSize}
+use Rattle.laps.specs.Calls.{fileRows, fileFitRows}
 use Rattle.laps.specs.Demand.{lapAt}
 use Rattle.laps.proofs.Walks.{not-big}
 use Rattle.laps.proofs.Rows.{FilePassed, file-passed, fit-6, fit-sizes, size-8, size-0}
@@ -80,24 +80,24 @@ unfolding decimal
 no-zero-in-front n h e = let w = first-digit (suc n) n (omega arith) h .above in omega arith
 
 -- ---- refusals
-module _ (s : List ℕ) (tol : Float) (room room′ : ℕ) (h : mostText 800 ≤ room) (k : sizeOf 64 800 ≤ room′) where
-  alike-passed : FilePassed s → refusal (textRows s tol room) ≡ refusal (fitRows s tol room′)
+module _ (s : List ℕ) (tol : Float) (room room′ : ℕ) (h : mostText 800 ≤ room) (k : fileSize 64 800 ≤ room′) where
+  alike-passed : FilePassed s → refusal (textRows s tol room) ≡ refusal (fileFitRows s tol room′)
   alike-passed p = either (tolerance tol) refl
     where
-      sized : not (tolerance tol) ≡ false → refusal (textRows s tol room) ≡ refusal (fitRows s tol room′)
+      sized : not (tolerance tol) ≡ false → refusal (textRows s tol room) ≡ refusal (fileFitRows s tol room′)
       sized t =
           let l = not-big s (p .small) .1 in
           ⊎-elim
-          (λ few. text-0 s tol room p t (omega arith) (omega arith) ∙ sym (fit-sizes s tol room′ p t ∙ size-0 (lapCount s) (mostOf tol (lapsOf s)) room′ (omega arith) (omega arith)))
-          (λ many. text-8 s tol room p t (omega arith) ∙ sym (fit-sizes s tol room′ p t ∙ size-8 (lapCount s) (mostOf tol (lapsOf s)) room′ (omega arith)))
-          (lt-or-ge (mostOf tol (lapsOf s)) 801)
+          (λ few. text-0 s tol room p t (omega arith) (omega arith) ∙ sym (fit-sizes s tol room′ p t ∙ size-0 (lapCount s) (lapsMost tol (lapsOf s)) room′ (omega arith) (omega arith)))
+          (λ many. text-8 s tol room p t (omega arith) ∙ sym (fit-sizes s tol room′ p t ∙ size-8 (lapCount s) (lapsMost tol (lapsOf s)) room′ (omega arith)))
+          (lt-or-ge (lapsMost tol (lapsOf s)) 801)
 
-      either : (t : Bool) → tolerance tol ≡ t → refusal (textRows s tol room) ≡ refusal (fitRows s tol room′)
+      either : (t : Bool) → tolerance tol ≡ t → refusal (textRows s tol room) ≡ refusal (fileFitRows s tol room′)
       either true e = sized (ap not e)
       either false e = text-6 s tol room p (ap not e) ∙ sym (fit-6 s tol room′ p (ap not e))
 
-  alike : (n : ℕ) → refusal (fileRows s) ≡ n → refusal (textRows s tol room) ≡ refusal (fitRows s tol room′)
-  unfolding textRows fitRows
+  alike : (n : ℕ) → refusal (fileRows s) ≡ n → refusal (textRows s tol room) ≡ refusal (fileFitRows s tol room′)
+  unfolding textRows fileFitRows
   alike zero e = alike-passed (file-passed s 0 (sym e) refl)
   alike (suc n) e = sym (refusal-front (fileRows s) _ (omega arith)) ∙ refusal-front (fileRows s) _ (omega arith)
 

@@ -7,12 +7,12 @@ use native.Mathlib.Omega.{arith}
 use lib.ListN.{length, drop}
 use lib.Seq.{sets, length-sets}
 use lib.Ieee.{Float}
-use Rattle.number.specs.Ops.{_≺_, +0}
-use Rattle.types.proofs.Stores.{sets-front}
-use Rattle.types.specs.Walk.{listFrom}
+use Rattle.floats.specs.Ops.{_≺_, +0}
+use Rattle.geo.proofs.Stores.{sets-front}
+use Rattle.geo.specs.Walk.{listFrom}
 use Rattle.file.specs.Command.{commandsAt}
 use Rattle.laps.specs.File.{lapCount, countAt, lapsAt, lapsOf, tableOk}
-use Rattle.laps.specs.Fit.{mostLap, mostOf}
+use Rattle.laps.specs.Fit.{mostLap, lapsMost}
 use Rattle.laps.proofs.Here.{Here, Step, step, start-at, all-laps}
 use Rattle.laps.proofs.Lap.{mosts-step}
 use Rattle.laps.proofs.Turns.{laps-cons, laps-nil}
@@ -24,8 +24,8 @@ use Rattle.lap_rows.proofs.Counts.{text-few}
 pub record Listing (tol : Float) (s : List ℕ) (l : ℕ) (out₀ out : List ℕ) (at to j : ℕ) : Type 0 where
   pub inside : j ≤ l
   pub here : Here s j at l
-  pub few : mostOf tol (lapsAt s j at (l - j)) ≤ 800
-  pub room : to + 9 * mostOf tol (lapsAt s j at (l - j)) ≤ length out₀
+  pub few : lapsMost tol (lapsAt s j at (l - j)) ≤ 800
+  pub room : to + 9 * lapsMost tol (lapsAt s j at (l - j)) ≤ length out₀
   pub going : Writing out₀ out 15 to (lapsText tol (j + 1) (lapsAt s j at (l - j))) (lapsText tol 1 (lapsOf s))
 
 -- what a turn has: n commands from `at` on, and room for their text
@@ -35,7 +35,7 @@ pub record Turn (tol : Float) (s : List ℕ) (l : ℕ) (out : List ℕ) (at to j
   pub room : to + 9 * mostLap tol (commandsAt s at n) ≤ length out
 
 module _ (tol : Float) (s : List ℕ) (l : ℕ) (out₀ : List ℕ) where
-  pub laps-start : (to : ℕ) → to ≡ 15 → l ≡ lapCount s → tableOk s ≡ true → mostOf tol (lapsOf s) ≤ 800 → mostText (mostOf tol (lapsOf s)) ≤ length out₀
+  pub laps-start : (to : ℕ) → to ≡ 15 → l ≡ lapCount s → tableOk s ≡ true → lapsMost tol (lapsOf s) ≤ 800 → mostText (lapsMost tol (lapsOf s)) ≤ length out₀
       → Listing tol s l out₀ out₀ (8 + 8 * l) to 0
   laps-start to f e t h k =
       let a = all-laps s l e in

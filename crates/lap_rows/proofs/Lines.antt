@@ -4,10 +4,10 @@ use mathlib.Core.Path.{_≡_, refl, ap, _∙_, subst}
 use mathlib.Core.List.{List, [], _∷_, _++_}
 use native.Mathlib.Omega.{arith}
 use lib.ListN.{length, getD, drop}
-use Rattle.types.specs.Lent.{flat}
-use Rattle.types.specs.Walk.{listFrom}
-use Rattle.types.proofs.Stores.{sets-front}
-use Rattle.types.proofs.Walk.{list-step, list-done}
+use Rattle.geo.specs.Lent.{flat}
+use Rattle.geo.specs.Walk.{listFrom}
+use Rattle.geo.proofs.Stores.{sets-front}
+use Rattle.geo.proofs.Walk.{list-step, list-done}
 use Rattle.listing.specs.Rows.{Row, kindsOf, stepsIn, RowsPlaced}
 use Rattle.listing.proofs.Writing.{kinds-length, steps-length}
 use Rattle.lap_rows.specs.Listing.{rowText, rowsText, TextPut, rowAt, rowsFrom, Short}

@@ -5,8 +5,8 @@ use mathlib.Core.List.{List, [], _∷_, _++_}
 use native.Mathlib.Omega.{arith}
 use lib.ListN.{length, set, length-append}
 use lib.Seq.{sets, length-sets}
-use Rattle.types.specs.Lent.{flat}
-use Rattle.types.proofs.Stores.{sets-append}
+use Rattle.geo.specs.Lent.{flat}
+use Rattle.geo.proofs.Stores.{sets-append}
 use Rattle.listing.specs.Rows.{Row, letterOf}
 use Rattle.lap_rows.specs.Listing.{decimal, comma, newline, rowText, rowsText, TextPut, listed, Short}
 use Rattle.lap_rows.proofs.Decimal.{below-100, below-1000}

@@ -4,16 +4,16 @@ use mathlib.Core.Path.{_≡_}
 use mathlib.Core.List.{List, [], _∷_, map}
 use lib.ListN.{getD}
 use lib.Ieee.{Float}
-use Rattle.types.specs.Outcome.{refusal, gives}
-use Rattle.types.specs.Lent.{flat}
+use Rattle.geo.specs.Outcome.{refusal, gives}
+use Rattle.geo.specs.Lent.{flat}
 use Rattle.file.specs.Command.{decoded}
 use Rattle.course.specs.Parts.{chain}
 use Rattle.course.specs.Course.{courseParts}
 use Rattle.course.specs.Demand.{chainPieces}
 use Rattle.listing.specs.Rows.{pieceRow, partRows, kindsOf, stepsIn, total, chainsSteps}
 use Rattle.laps.specs.File.{lapCount, lapsOf}
-use Rattle.laps.specs.Fit.{sizeOf}
-use Rattle.laps.specs.Calls.{fitRows, fitFile}
+use Rattle.laps.specs.Fit.{fileSize}
+use Rattle.laps.specs.Calls.{fileFitRows, fitFile}
 use Rattle.laps.specs.Demand.{lapAt}
 use Rattle.lap_rows.specs.Listing.{decimal, lapRows, listText, mostText, textRows, listFile}
 
@@ -35,7 +35,7 @@ NoZeroInFront = (n : ℕ) → 1 ≤ n → getD (decimal n) 0 0 ≡ 48 → ⊥
 -- With room for the text of 800 rows, and for a fitted file of 64 laps and 800 commands (58,920 bytes), the listing is refused exactly where the fit is, by the same row.
 abbrev pub RefusedAlike : Type 0
 RefusedAlike =
-    (s : List ℕ) (tol : Float) (room room′ : ℕ) → mostText 800 ≤ room → sizeOf 64 800 ≤ room′ → refusal (textRows s tol room) ≡ refusal (fitRows s tol room′)
+    (s : List ℕ) (tol : Float) (room room′ : ℕ) → mostText 800 ≤ room → fileSize 64 800 ≤ room′ → refusal (textRows s tol room) ≡ refusal (fileFitRows s tol room′)
 
 -- Each file that the fit accepts is listed.
 abbrev pub EachIsListed : Type 0

@@ -10,16 +10,16 @@ use lib.ListN.{length, getD}
 use lib.Seq.{sets}
 use lib.Dec.{ltb}
 use lib.Ieee.{Float}
-use Rattle.number.specs.Ops.{if_then_else_}
-use Rattle.types.specs.Domain.{tolerance}
-use Rattle.types.specs.Lent.{flat}
-use Rattle.types.specs.Outcome as table
-use Rattle.types.specs.Outcome.{row, refusal, Outcome, unless}
-use Rattle.types.specs.Walk.{listFrom}
+use Rattle.floats.specs.Ops.{if_then_else_}
+use Rattle.geo.specs.Domain.{tolerance}
+use Rattle.geo.specs.Lent.{flat}
+use Rattle.geo.specs.Outcome as table
+use Rattle.geo.specs.Outcome.{row, refusal, Outcome, unless}
+use Rattle.geo.specs.Walk.{listFrom}
 use Rattle.file.specs.Command.{decoded}
 use Rattle.listing.specs.Rows.{Row, letterOf, courseRows}
 use Rattle.laps.specs.File.{Lap, lapsOf}
-use Rattle.laps.specs.Fit.{mostOf}
+use Rattle.laps.specs.Fit.{lapsMost}
 use Rattle.laps.specs.Calls.{fileRows}
 
 -- ---- text
@@ -74,7 +74,7 @@ mostText most = 15 + 9 * most
 
 unfoldable pub textRows : List ℕ → Float → ℕ → List table.Row
 textRows s tol room =
-    fileRows s ++ (row 6 (not (tolerance tol)) ∷ row 8 (ltb 800 (mostOf tol (lapsOf s))) ∷ row 9 (ltb room (mostText (mostOf tol (lapsOf s)))) ∷ [])
+    fileRows s ++ (row 6 (not (tolerance tol)) ∷ row 8 (ltb 800 (lapsMost tol (lapsOf s))) ∷ row 9 (ltb room (mostText (lapsMost tol (lapsOf s)))) ∷ [])
 
 unfoldable pub listFile : List ℕ → Float → ℕ → Outcome (List ℕ)
 listFile s tol room = unless (refusal (textRows s tol room)) (listText tol (lapsOf s))

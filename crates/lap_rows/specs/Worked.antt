@@ -2,12 +2,13 @@
 use Prim.Native.Nat.{ℕ}
 use mathlib.Core.Path.{_≡_}
 use mathlib.Core.List.{List, [], _∷_, map}
-use Rattle.types.specs.declared.types.Command.{Command}
-use Rattle.types.specs.declared.types.Command.the-variants.{Move, Line}
-use Rattle.types.specs.Outcome.{gives}
+use Rattle.geo.specs.declared.types.Command.{Command}
+use Rattle.geo.specs.declared.types.Command.the-variants.{Move, Line}
+use Rattle.geo.specs.Outcome.{gives}
 use Rattle.file.specs.Command.{enc}
 use Rattle.laps.specs.File.{encode}
-use Rattle.laps.specs.Worked.{share, point}
+use Rattle.floats.specs.Limits.{fraction}
+use Rattle.laps.specs.Worked.{point}
 use Rattle.lap_rows.specs.Listing.{ascii, listFile}
 
 -- "as one lap of a Move and two Lines"
@@ -19,4 +20,4 @@ angle-file = encode (map enc angle ∷ [])
 
 -- its listing at 0.5, as document 01 prints it, to an output with room for three rows: 15 bytes and nine a row
 abbrev pub RightAngle : Type 0
-RightAngle = listFile angle-file (share 1 2) 42 ≡ gives (ascii "lap,kind,steps\n1,M,0\n1,L,1\n1,L,1\n")
+RightAngle = listFile angle-file (fraction 1 2) 42 ≡ gives (ascii "lap,kind,steps\n1,M,0\n1,L,1\n1,L,1\n")

@@ -1,24 +1,24 @@
 // The listing of a recorded file as text: a line for each row of `listing`, for the commands of each lap.
 use file::command::read_commands;
+use geo::domain::is_within;
+use geo::types::Answer;
 use laps::fit::most_of;
 use laps::lap_file::check_file;
 use laps::lap_file::count_at;
 use laps::lap_file::lap_count;
 use listing::listing::letter;
 use listing::listing::list_course;
-use types::domain::is_within;
-use types::types::Answer;
 ghost use mathlib.Core.Path.{_≡_};
 ghost use mathlib.Core.Bool.{true};
 ghost use mathlib.Core.List.{List, _++_};
 ghost use Prim.Native.Nat.{ℕ, _+_, _*_, _<_, _≤_};
 ghost use lib.ListN.{length, drop};
-ghost use Rattle.number.specs.Ops.{_≺_, +0};
-ghost use Rattle.types.specs.Outcome.{refusal, Wrote};
+ghost use Rattle.floats.specs.Ops.{_≺_, +0};
+ghost use Rattle.geo.specs.Outcome.{refusal, Wrote};
 ghost use Rattle.file.specs.Command.{commandsAt};
 ghost use Rattle.listing.specs.Rows.{RowsPlaced};
 ghost use Rattle.laps.specs.File.{lapCount, lapsOf, tableOk};
-ghost use Rattle.laps.specs.Fit.{mostLap, mostOf};
+ghost use Rattle.laps.specs.Fit.{mostLap, lapsMost};
 ghost use Rattle.lap_rows.specs.Listing.{decimal, rowText, rowsText, lapRows, lapText, listText, mostText, textRows, listFile, TextPut, listed, rowsFrom, Short};
 
 // Writes a number's decimal digits from `at` on, and answers where they end.
@@ -131,7 +131,7 @@ fn put_lap(
 // Writes the listing's text, its first line first, and answers how many bytes it has. The arrays stand here and not in
 // `put_lap`, which would fill them for each lap.
 fn list_laps(s: &[u8], tolerance: f64, out: &mut [u8]) -> usize
-    requires { ⌜ ((+0 ≺ tolerance) ≡ true) × (8 ≤ length (now s)) × (tableOk (now s) ≡ true) × (lapCount (now s) ≤ 64) × (mostOf tolerance (lapsOf (now s)) ≤ 800) × (mostText (mostOf tolerance (lapsOf (now s))) ≤ length (now out)) ⌝ }
+    requires { ⌜ ((+0 ≺ tolerance) ≡ true) × (8 ≤ length (now s)) × (tableOk (now s) ≡ true) × (lapCount (now s) ≤ 64) × (lapsMost tolerance (lapsOf (now s)) ≤ 800) × (mostText (lapsMost tolerance (lapsOf (now s))) ≤ length (now out)) ⌝ }
     ensures { λ r. ⌜ (r ≡ length (listText tolerance (lapsOf (now (s .entry))))) × (now (out .exit) ≡ listText tolerance (lapsOf (now (s .entry))) ++ drop (length (listText tolerance (lapsOf (now (s .entry))))) (now (out .entry))) ⌝ }
 {
     let mut kinds = [0u8; 800];

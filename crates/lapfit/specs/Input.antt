@@ -3,8 +3,8 @@ use Prim.Native.Nat.{ℕ}
 use mathlib.Core.List.{List}
 use lib.ListN.{length, drop}
 use lib.Dec.{ltb}
-use Rattle.number.specs.Ops.{if_then_else_}
-use Rattle.types.specs.Outcome.{Outcome, refused}
+use Rattle.floats.specs.Ops.{if_then_else_}
+use Rattle.geo.specs.Outcome.{Outcome, refused}
 use Rattle.file.specs.Bytes.{numberAt}
 use Rattle.lap_rows.specs.Listing.{listFile}
 

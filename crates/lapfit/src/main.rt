@@ -1,15 +1,15 @@
 // Reads eight bytes of tolerance, then a lap file, from standard input. A refusal prints one line. An accepted file prints
 // the listing of its fit: lap, kind letter and steps of each command that the fit writes.
 use file::bytes::number_at;
+use geo::types::Answer;
 use lap_rows::lap_rows::list_file;
 use libc::STDIN_FILENO;
 use libc::STDOUT_FILENO;
-use types::types::Answer;
 ghost use mathlib.Core.Path.{_≡_};
 ghost use mathlib.Core.List.{List};
 ghost use Prim.Native.Nat.{ℕ};
 ghost use lib.ListN.{length};
-ghost use Rattle.types.specs.Outcome.{Wrote};
+ghost use Rattle.geo.specs.Outcome.{Wrote};
 ghost use Rattle.lapfit.specs.Input.{listInput};
 
 // Lists the file behind the tolerance, to the front of out.

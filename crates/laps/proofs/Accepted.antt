@@ -6,12 +6,12 @@ use mathlib.Core.List.{List, map}
 use native.Mathlib.Omega.{arith}
 use lib.ListN.{length, length-map}
 use lib.Ieee.{Float}
-use Rattle.types.specs.Outcome.{gives, unless, refusal}
-use Rattle.types.proofs.Tolerance.{tolerance-positive}
+use Rattle.geo.specs.Outcome.{gives, unless, refusal}
+use Rattle.geo.proofs.Tolerance.{tolerance-positive}
 use Rattle.laps.specs.File.{Lap, lapCount, lapsOf, encode, tableOk}
-use Rattle.laps.specs.Fit.{fitLap, mostOf}
-use Rattle.laps.specs.Calls.{fitRows, fitFile}
-use Rattle.laps.specs.Demand.{Wholes}
+use Rattle.laps.specs.Fit.{fitLap, lapsMost}
+use Rattle.laps.specs.Calls.{fileFitRows, fitFile}
+use Rattle.laps.specs.Demand.{AllFull}
 use Rattle.laps.proofs.Walks.{not-big}
 use Rattle.laps.proofs.Rows.{FitPassed, fit-passed}
 use Rattle.laps.proofs.Whole.{wholes-fit, length-encode}
@@ -31,7 +31,7 @@ pub record Accepted (s : List ℕ) (tol : Float) (room : ℕ) (f : List ℕ) : T
 
 pub accepted : (s : List ℕ) (tol : Float) (room : ℕ) (f : List ℕ) → fitFile s tol room ≡ gives f → Accepted s tol room f
 unfolding fitFile
-accepted s tol room f e = let a = unless-given (refusal (fitRows s tol room)) _ f e in record { passed = fit-passed s tol room (a .0); bytes = a .1 }
+accepted s tol room f e = let a = unless-given (refusal (fileFitRows s tol room)) _ f e in record { passed = fit-passed s tol room (a .0); bytes = a .1 }
 
 -- the fitted file, read back
 pub record Fitted (s : List ℕ) (tol : Float) (f : List ℕ) : Type 0 where
@@ -49,8 +49,8 @@ fitted s tol room f a =
     let b = not-big s (p .file .small) in
     let n : length ls ≡ lapCount s = length-map (lapsOf s) (fitLap tol) ∙ length-laps-of s in
     let t = total-most tol pos (lapsOf s) in
-    let few : mostOf tol (lapsOf s) ≤ 800 = p .few in
-    let w : Wholes ls = wholes-fit tol (lapsOf s) in
+    let few : lapsMost tol (lapsOf s) ≤ 800 = p .few in
+    let w : AllFull ls = wholes-fit tol (lapsOf s) in
     let e = length-encode ls w in
     rw (← a .bytes)
     (record {

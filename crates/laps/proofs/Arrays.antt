@@ -7,9 +7,9 @@ use native.Mathlib.Omega.{arith}
 use lib.ListN.{length, take, length-map, length-take}
 use lib.Seq.{sets, length-sets}
 use lib.Ieee.{Float}
-use Rattle.number.specs.Ops.{_≺_, +0}
-use Rattle.types.specs.declared.types.Command.{Command}
-use Rattle.types.specs.Lent.{flat, kindOf, numbersOf, commandsFrom}
+use Rattle.floats.specs.Ops.{_≺_, +0}
+use Rattle.geo.specs.declared.types.Command.{Command}
+use Rattle.geo.specs.Lent.{flat, kindOf, numbersOf, commandsFrom}
 use Rattle.file.specs.Command.{commandsAt, decoded, enc}
 use Rattle.file.proofs.Lent.{back-part, back-front}
 use Rattle.fitting.specs.Written.{FitPlaced}

@@ -9,10 +9,10 @@ use borrow.Author.Tests.{eqb-true}
 use lib.ListN.{length, getD, take, drop, take-append-drop, drop-of-length-le}
 use lib.Seq.{drop-cons, drop-drop, take-add}
 use lib.Dec.{eqb}
-use Rattle.number.proofs.Order.{and-left, and-right}
+use Rattle.floats.proofs.Order.{and-left, and-right}
 use Rattle.records.specs.Words.{halfAt}
 use Rattle.file.specs.Bytes.{u32Bytes}
-use Rattle.laps.specs.File.{lapCount, offsetAt, countAt, lapsAt, lapsOf, table, bodies, mark, encode, marked, walk, tableOk}
+use Rattle.laps.specs.File.{lapCount, offsetAt, countAt, lapsAt, lapsOf, table, bodies, mark, encode, hasMark, walk, tableOk}
 use Rattle.laps.specs.Demand.{Bytes}
 use Rattle.laps.proofs.Here.{Here, step, start, cond-false}
 use Rattle.laps.proofs.Lap.{length-commands}
@@ -56,8 +56,8 @@ unfolding lapCount
 laps-unread s b h = unread s 4 b (omega arith)
 
 -- the mark
-mark-is : (s : List ℕ) → marked s ≡ true → 8 ≤ length s → take 4 s ≡ mark
-unfolding marked
+mark-is : (s : List ℕ) → hasMark s ≡ true → 8 ≤ length s → take 4 s ≡ mark
+unfolding hasMark
 mark-is s e h =
     let c = and-left (eqb (getD s 0 0) 0x4c && eqb (getD s 1 0) 0x41 && eqb (getD s 2 0) 0x50) _ e in
     let b = and-left (eqb (getD s 0 0) 0x4c && eqb (getD s 1 0) 0x41) _ c in
@@ -100,7 +100,7 @@ joined m u t b s n e f g h = rw (e, f, g, h, ← take-add 4 4 s, ← take-add 8 
 pub canonical : (s : List ℕ) → Bytes s → 8 ≤ length s → tableOk s ≡ true → encode (lapsOf s) ≡ s
 unfolding encode
 canonical s b h t =
-    let g : marked s ≡ true = unfold tableOk in cond-false (marked s) _ t .0 in
+    let g : hasMark s ≡ true = unfold tableOk in cond-false (hasMark s) _ t .0 in
     let x = mark-is s g h in
     let y : u32Bytes (lapCount s) ≡ take 4 (drop 4 s) = laps-unread s b h in
     let z : table (8 + 8 * lapCount s) (lapsOf s) ≡ take (8 * lapCount s) (drop 8 s) = unfold lapsOf in table-from s 0 (8 + 8 * lapCount s) (lapCount s) (lapCount s) b (omega arith) (start s t) in

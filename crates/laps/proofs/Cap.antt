@@ -3,7 +3,7 @@ use Prim.Native.Nat.{ℕ, _+_, _≤_, _<_}
 use mathlib.Core.Path.{_≡_, ap, _∙_}
 use mathlib.Core.Logic.{⊎-elim}
 use native.Mathlib.Omega.{arith}
-use Rattle.number.proofs.Order.{lt-or-ge}
+use Rattle.floats.proofs.Order.{lt-or-ge}
 use Rattle.course.specs.Course.{cap}
 use Rattle.course.proofs.Count.{cap-few, cap-many, cap-most, cap-left, cap-passed, cap-over}
 

@@ -7,19 +7,19 @@ use native.Mathlib.Omega.{arith}
 use borrow.Author.Tests.{eq-eqb, ne-eqb, le-ltb}
 use lib.ListN.{length, getD}
 use lib.Ieee.{Float}
-use Rattle.number.specs.Ops.{_≺_, +0}
-use Rattle.types.specs.Outcome.{gives, refusal}
-use Rattle.types.specs.Lent.{flat, kindOf, numbersOf}
-use Rattle.types.proofs.Rows.{unless-gives}
-use Rattle.types.proofs.Tolerance.{tolerance-positive}
+use Rattle.floats.specs.Ops.{_≺_, +0}
+use Rattle.geo.specs.Outcome.{gives, refusal}
+use Rattle.geo.specs.Lent.{flat, kindOf, numbersOf}
+use Rattle.geo.proofs.Rows.{unless-gives}
+use Rattle.geo.proofs.Tolerance.{tolerance-positive}
 use Rattle.file.specs.Command.{decoded, enc, lentLap}
 use Rattle.file.proofs.Lent.{lent-commands, lent-length}
 use Rattle.course.specs.Course.{courseFit}
 use Rattle.course.proofs.Demand.{course-fitted}
 use Rattle.laps.specs.File.{Lap, lapCount, lapsOf, encode, short, big, tableOk, lapOk, lapsOk}
-use Rattle.laps.specs.Fit.{fitLap, mostOf, fitNew, swap, mostNew}
+use Rattle.laps.specs.Fit.{fitLap, lapsMost, fitNew, swap, mostNew}
 use Rattle.laps.specs.Calls.{row1, row2, row3, row4, row5, row7, replaceRows, replaceLap}
-use Rattle.laps.specs.Demand.{lapAt, courseWith, Wholes, total, Canonical, ReadBack, OneCourse, LapsAreFitted, ChainsOfLaps, Fresh, ReplacedIsFresh, OthersStay, NewIsFitted, LentAsCommands, CommandsReplaced}
+use Rattle.laps.specs.Demand.{lapAt, courseWith, AllFull, commandCount, Canonical, ReadBack, OneCourse, LapsAreFitted, ChainsOfLaps, Fresh, ReplacedIsFresh, OthersStay, NewIsFitted, LentAsCommands, CommandsReplaced}
 use Rattle.laps.proofs.Walks.{not-big}
 use Rattle.laps.proofs.Rows.{FilePassed, NewPassed, new-sizes, size-0}
 use Rattle.laps.proofs.Whole.{whole-lent, length-encode}
@@ -71,7 +71,7 @@ course-laps : (s : List ℕ) (k : ℕ) (ks : List ℕ) (ns : List Float) → tab
 unfolding courseWith
 course-laps s k ks ns t h g =
     let ls : List Lap = swap k (lentLap ks ns) 1 (lapsOf s) in
-    let w : Wholes ls = wholes-swap k (lentLap ks ns) 1 (lapsOf s) (whole-lent ks ns) (wholes-of s t) in
+    let w : AllFull ls = wholes-swap k (lentLap ks ns) 1 (lapsOf s) (whole-lent ks ns) (wholes-of s t) in
     let n : length ls ≡ lapCount s = length-swap k (lentLap ks ns) 1 (lapsOf s) ∙ length-laps-of s in
     let e = length-encode ls w in
     (laps-encode ls w (omega arith) (omega arith), lap-count-encode ls w (omega arith) ∙ n)
@@ -113,7 +113,7 @@ module _ (s f : List ℕ) (tol : Float) (k : ℕ) (ks : List ℕ) (ns : List Flo
 
   few-new : length ks ≤ 800
   few-new =
-      let a = subst (λ (ls : List Lap). total ls ≤ 800) (read .0) (few-commands (courseWith s k ks ns) (new .passed .file .table)) in
+      let a = subst (λ (ls : List Lap). commandCount ls ≤ 800) (read .0) (few-commands (courseWith s k ks ns) (new .passed .file .table)) in
       let i = inside in
       let j = w .first in
       let b = new-in-total k (lentLap ks ns) 1 (lapsOf s) j (omega arith) in
@@ -150,7 +150,7 @@ module _ (s f : List ℕ) (tol : Float) (k : ℕ) (ks : List ℕ) (ns : List Flo
   passed = record { p1 = passes-1; p2 = passes-2; p3 = passes-3; p4 = passes-4; p5 = passes-5; p6 = old .passed .within; p7 = passes-7 }
 
   -- ---- its most is no more than the fresh fit's
-  most-of-both : mostNew tol ks ns k f ≤ mostOf tol (lapsOf (courseWith s k ks ns))
+  most-of-both : mostNew tol ks ns k f ≤ lapsMost tol (lapsOf (courseWith s k ks ns))
   unfolding mostNew
   most-of-both =
       let i = inside in

@@ -5,11 +5,11 @@ use mathlib.Core.List.{List, [], _∷_, _++_}
 use native.Mathlib.Omega.{arith}
 use lib.ListN.{length, drop, length-append}
 use lib.Seq.{sets, length-sets}
-use Rattle.types.proofs.Stores.{sets-append, sets-front}
+use Rattle.geo.proofs.Stores.{sets-append, sets-front}
 use Rattle.file.specs.Bytes.{u32Bytes}
 use Rattle.laps.specs.File.{Lap, body, table, bodies, mark, encode}
 use Rattle.laps.proofs.Sets.{sets-past}
-use Rattle.laps.specs.Demand.{Wholes, total}
+use Rattle.laps.specs.Demand.{AllFull, commandCount}
 use Rattle.laps.proofs.Whole.{length-body, length-table, length-encode}
 
 -- the stores of the laps from entry j on, the first body at `to`
@@ -18,7 +18,7 @@ stores out j to [] = out
 stores out j to (l ∷ ls) = stores (sets (sets out to (body l)) (8 + 8 * j) (u32Bytes to ++ u32Bytes (length l))) (j + 1) (to + 73 * length l) ls
 
 -- these are the table and then the bodies
-stored : (ls : List Lap) (out : List ℕ) (j to : ℕ) → Wholes ls → 8 + 8 * (j + length ls) ≤ to
+stored : (ls : List Lap) (out : List ℕ) (j to : ℕ) → AllFull ls → 8 + 8 * (j + length ls) ≤ to
     → stores out j to ls ≡ sets (sets out (8 + 8 * j) (table to ls)) to (bodies ls)
 unfolding stores table bodies
 stored [] out j to w h = refl
@@ -39,16 +39,16 @@ stored (l ∷ ls) out j to w h =
 pub record Going (out₀ out : List ℕ) (l j to : ℕ) (ls all : List Lap) : Type 0 where
   pub same : length out ≡ length out₀
   pub after : 8 + 8 * l ≤ to
-  pub room : to + 73 * total ls ≤ length out₀
+  pub room : to + 73 * commandCount ls ≤ length out₀
   pub work : stores out j to ls ≡ stores out₀ 0 (8 + 8 * l) all
-  pub size : to + 73 * total ls ≡ 8 + 8 * l + 73 * total all
+  pub size : to + 73 * commandCount ls ≡ 8 + 8 * l + 73 * commandCount all
 
-pub begin : (out : List ℕ) (l : ℕ) (all : List Lap) → 8 + 8 * l + 73 * total all ≤ length out → Going out out l 0 (8 + 8 * l) all all
+pub begin : (out : List ℕ) (l : ℕ) (all : List Lap) → 8 + 8 * l + 73 * commandCount all ≤ length out → Going out out l 0 (8 + 8 * l) all all
 begin out l all h = record { same = refl; after = omega arith; room = h; work = refl; size = refl }
 
 pub turn : (out₀ out out₁ out₂ : List ℕ) (l j to n : ℕ) (x : Lap) (ls all : List Lap) → Going out₀ out l j to (x ∷ ls) all
     → n ≡ length x → out₁ ≡ sets out to (body x) → out₂ ≡ sets out₁ (8 + 8 * j) (u32Bytes to ++ u32Bytes n) → Going out₀ out₂ l (j + 1) (to + 73 * n) ls all
-unfolding stores total
+unfolding stores commandCount
 turn out₀ out out₁ out₂ l j to n x ls all g e a b =
     rw (b, a, e)
     (record {
@@ -60,7 +60,7 @@ turn out₀ out out₁ out₂ l j to n x ls all g e a b =
     })
 
 -- a head, then the table and the bodies
-whole : (out : List ℕ) (all : List Lap) → Wholes all → stores (sets out 0 (mark ++ u32Bytes (length all))) 0 (8 + 8 * length all) all ≡ sets out 0 (encode all)
+whole : (out : List ℕ) (all : List Lap) → AllFull all → stores (sets out 0 (mark ++ u32Bytes (length all))) 0 (8 + 8 * length all) all ≡ sets out 0 (encode all)
 unfolding encode u32Bytes
 whole out all w =
     let t : List ℕ = table (8 + 8 * length all) all in
@@ -70,9 +70,9 @@ whole out all w =
     ∙ sym (sets-append (mark ++ u32Bytes (length all) ++ t) (bodies all) out 0)
 
 -- all is written, behind a head
-pub done : (out₀ out out′ : List ℕ) (l j to : ℕ) (all : List Lap) → Going out out′ l j to [] all → l ≡ length all → Wholes all → out ≡ sets out₀ 0 (mark ++ u32Bytes l)
+pub done : (out₀ out out′ : List ℕ) (l j to : ℕ) (all : List Lap) → Going out out′ l j to [] all → l ≡ length all → AllFull all → out ≡ sets out₀ 0 (mark ++ u32Bytes l)
     → (to ≡ length (encode all)) × (out′ ≡ encode all ++ drop (length (encode all)) out₀)
-unfolding stores total
+unfolding stores commandCount
 done out₀ out out′ l j to all g e w h =
     let f = length-encode all w in
     let z : to ≡ length (encode all) = omega (arith, f, e) in

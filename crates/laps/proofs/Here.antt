@@ -8,7 +8,7 @@ use native.Mathlib.Omega.{arith}
 use borrow.Author.Tests.{eqb-true, eqb-false, ltb-false}
 use lib.ListN.{length}
 use lib.Dec.{T, eqb, ltb}
-use Rattle.laps.specs.File.{lapCount, offsetAt, countAt, lapsAt, lapsOf, marked, walk, tableOk}
+use Rattle.laps.specs.File.{lapCount, offsetAt, countAt, lapsAt, lapsOf, hasMark, walk, tableOk}
 use Rattle.laps.proofs.Walks.{walk-step}
 
 -- taking a chain of tests apart
@@ -37,7 +37,7 @@ pub record Next (s : List ℕ) (j at l : ℕ) : Type 0 where
 pub start : (s : List ℕ) → tableOk s ≡ true → Here s 0 (8 + 8 * lapCount s) (lapCount s)
 unfolding tableOk
 start s e =
-    let a = cond-false (marked s) _ e in
+    let a = cond-false (hasMark s) _ e in
     let b = cond-not (ltb (length s) (8 + 8 * lapCount s)) _ (a .1) in
     record { total = 0; passes = rw sub-zero (b .1); few = omega arith; table = ltb-false (length s) (8 + 8 * lapCount s) (b .0); past = omega arith }
 

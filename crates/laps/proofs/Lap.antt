@@ -8,17 +8,17 @@ use borrow.Author.Tests.{eqb-true}
 use lib.ListN.{length, getD, take, drop, length-map}
 use lib.Dec.{eqb}
 use lib.Ieee.{Float}
-use Rattle.number.specs.Ops.{_≺_, +0}
-use Rattle.number.proofs.Order.{and-left}
-use Rattle.types.specs.declared.types.Point3D.{Point3D}
-use Rattle.types.specs.declared.types.Command.{Command}
-use Rattle.types.specs.declared.types.Command.the-variants.{Move}
-use Rattle.types.specs.Lent.{origin, endOf, commandOf}
+use Rattle.floats.specs.Ops.{_≺_, +0}
+use Rattle.floats.proofs.Order.{and-left}
+use Rattle.geo.specs.declared.types.Point3D.{Point3D}
+use Rattle.geo.specs.declared.types.Command.{Command}
+use Rattle.geo.specs.declared.types.Command.the-variants.{Move}
+use Rattle.geo.specs.Lent.{origin, endOf, commandOf}
 use Rattle.file.specs.Command.{commandsAt, decoded, enc, pointFrom}
 use Rattle.course.specs.Course.{joined, courseFit, courseMost, lentCourse}
 use Rattle.course.specs.Walks.{weightOf, weightsFrom}
 use Rattle.laps.specs.File.{Lap, lapsAt, countAt, placed, formOk, holds, lapOk}
-use Rattle.laps.specs.Fit.{fitLap, mostLap, mostOf, fitNew}
+use Rattle.laps.specs.Fit.{fitLap, mostLap, lapsMost, fitNew}
 use Rattle.laps.proofs.Here.{cond-false}
 use Rattle.course.proofs.Accepted.{course-few, course-some}
 use Rattle.course.proofs.Steps.{most-of-commands}
@@ -54,12 +54,12 @@ fit-some tol (c ∷ l) h e =
 
 -- ---- the laps of a file, one by one
 pub mosts-step : (tol : Float) (s : List ℕ) (j at l n : ℕ) → j < l → n ≡ countAt s j
-    → mostOf tol (lapsAt s j at (l - j)) ≡ mostLap tol (commandsAt s at n) + mostOf tol (lapsAt s (j + 1) (at + 73 * n) (l - (j + 1)))
-unfolding mostOf lapsAt
+    → lapsMost tol (lapsAt s j at (l - j)) ≡ mostLap tol (commandsAt s at n) + lapsMost tol (lapsAt s (j + 1) (at + 73 * n) (l - (j + 1)))
+unfolding lapsMost lapsAt
 mosts-step tol s j at l n h e = let z : l - j ≡ suc (l - (j + 1)) = omega arith in rw (z, e)
 
-pub mosts-end : (tol : Float) (s : List ℕ) (j at l : ℕ) → l ≤ j → mostOf tol (lapsAt s j at (l - j)) ≡ 0
-unfolding mostOf lapsAt
+pub mosts-end : (tol : Float) (s : List ℕ) (j at l : ℕ) → l ≤ j → lapsMost tol (lapsAt s j at (l - j)) ≡ 0
+unfolding lapsMost lapsAt
 mosts-end tol s j at l h = let z : l - j ≡ zero = omega arith in rw z
 
 -- ---- the commands of a lap, one by one

@@ -8,12 +8,12 @@ use borrow.Author.Tests.{ne-eqb}
 use lib.ListN.{length, getD}
 use lib.Dec.{eqb}
 use lib.Ieee.{Float}
-use Rattle.number.proofs.Order.{and-left, and-right}
-use Rattle.types.specs.declared.types.Command.{Command}
-use Rattle.types.specs.Walk.{listFrom}
-use Rattle.types.specs.Lent.{pointAt, commandAt, commandsFrom}
-use Rattle.types.specs.Domain.{everyFrom, formed, commandsFormed, commandIn, commandsIn}
-use Rattle.types.proofs.Walk.{list-length}
+use Rattle.floats.proofs.Order.{and-left, and-right}
+use Rattle.geo.specs.declared.types.Command.{Command}
+use Rattle.geo.specs.Walk.{listFrom}
+use Rattle.geo.specs.Lent.{pointAt, commandAt, commandsFrom}
+use Rattle.geo.specs.Domain.{everyFrom, formed, commandsFormed, commandIn, commandsIn}
+use Rattle.geo.proofs.Walk.{list-length}
 use Rattle.file.specs.Command.{decoded, wellFormed, laid, enc, lentBytes, lentLap, Held, HeldPoint}
 use Rattle.file.proofs.RoundTrip.{decoded-laid, formed-laid}
 use Rattle.course.specs.Course.{courseFit, courseMost, lentCourse}

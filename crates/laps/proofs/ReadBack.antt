@@ -11,14 +11,14 @@ use Rattle.records.specs.Words.{halfAt}
 use Rattle.file.specs.Bytes.{u32Bytes}
 use Rattle.file.specs.Command.{commandsAt}
 use Rattle.file.proofs.RoundTrip.{half-back}
-use Rattle.laps.specs.File.{Lap, lapCount, offsetAt, countAt, lapsAt, lapsOf, body, table, bodies, encode, marked, walk, tableOk}
-use Rattle.laps.specs.Demand.{Whole, Wholes, total}
+use Rattle.laps.specs.File.{Lap, lapCount, offsetAt, countAt, lapsAt, lapsOf, body, table, bodies, encode, hasMark, walk, tableOk}
+use Rattle.laps.specs.Demand.{EachFull, AllFull, commandCount}
 use Rattle.laps.proofs.Whole.{length-body, length-table, length-encode}
 
 read-u32 : (s : List ℕ) (at n : ℕ) (r : List ℕ) → drop at s ≡ u32Bytes n ++ r → n < 4294967296 → halfAt s at ≡ n
 read-u32 s at n r e h = let q : n % 4294967296 ≡ n = omega arith in half-back s at n r e ∙ q
 
-commands-back : (l : Lap) (s : List ℕ) (at : ℕ) (r : List ℕ) → drop at s ≡ body l ++ r → Whole l → commandsAt s at (length l) ≡ l
+commands-back : (l : Lap) (s : List ℕ) (at : ℕ) (r : List ℕ) → drop at s ≡ body l ++ r → EachFull l → commandsAt s at (length l) ≡ l
 unfolding commandsAt body
 commands-back [] s at r e w = refl
 commands-back (c ∷ l) s at r e w =
@@ -36,7 +36,7 @@ record Entry (s : List ℕ) (j at : ℕ) (l : Lap) (ls : List Lap) (q r : List �
   rest : drop (at + 73 * length l) s ≡ bodies ls ++ r
 
 entry : (s : List ℕ) (j at : ℕ) (l : Lap) (ls : List Lap) (q r : List ℕ) → drop (8 + 8 * j) s ≡ table at (l ∷ ls) ++ q → drop at s ≡ bodies (l ∷ ls) ++ r
-    → Whole l → length l < 4294967296 → Entry s j at l ls q r
+    → EachFull l → length l < 4294967296 → Entry s j at l ls q r
 unfolding table bodies u32Bytes offsetAt countAt
 entry s j at l ls q r e f w h =
     let t : List ℕ = table (at + 73 * length l) ls in
@@ -53,9 +53,9 @@ entry s j at l ls q r e f w h =
       rest = sym (drop-drop (73 * length l) at s) ∙ ap (drop (73 * length l)) g ∙ drop-at (body l) (bodies ls ++ r) (73 * length l) m;
     }
 
-laps-from : (ls : List Lap) (s : List ℕ) (j at : ℕ) (q r : List ℕ) → drop (8 + 8 * j) s ≡ table at ls ++ q → drop at s ≡ bodies ls ++ r → Wholes ls → total ls < 4294967296
+laps-from : (ls : List Lap) (s : List ℕ) (j at : ℕ) (q r : List ℕ) → drop (8 + 8 * j) s ≡ table at ls ++ q → drop at s ≡ bodies ls ++ r → AllFull ls → commandCount ls < 4294967296
     → lapsAt s j at (length ls) ≡ ls
-unfolding lapsAt total
+unfolding lapsAt commandCount
 laps-from [] s j at q r e f w h = refl
 laps-from (l ∷ ls) s j at q r e f w h =
     let x = entry s j at l ls q r e f (w .0) (omega arith) in
@@ -65,9 +65,9 @@ abbrev pub Somes : List Lap → Type 0
 Somes [] = Unit
 Somes (l ∷ ls) = (0 < length l) × Somes ls
 
-walk-from : (ls : List Lap) (s : List ℕ) (j at t : ℕ) (q r : List ℕ) → drop (8 + 8 * j) s ≡ table at ls ++ q → drop at s ≡ bodies ls ++ r → Wholes ls → Somes ls
-    → t + total ls ≤ 800 → at + 73 * total ls ≡ length s → at + 73 * total ls < 4294967296 → walk s j at t (length ls) ≡ true
-unfolding walk total
+walk-from : (ls : List Lap) (s : List ℕ) (j at t : ℕ) (q r : List ℕ) → drop (8 + 8 * j) s ≡ table at ls ++ q → drop at s ≡ bodies ls ++ r → AllFull ls → Somes ls
+    → t + commandCount ls ≤ 800 → at + 73 * commandCount ls ≡ length s → at + 73 * commandCount ls < 4294967296 → walk s j at t (length ls) ≡ true
+unfolding walk commandCount
 walk-from [] s j at t q r e f w m h k i = eq-eqb at (length s) (omega arith)
 walk-from (l ∷ ls) s j at t q r e f w m h k i =
     let x = entry s j at l ls q r e f (w .0) (omega arith) in
@@ -76,7 +76,7 @@ walk-from (l ∷ ls) s j at t q r e f w m h k i =
     (walk-from ls s (j + 1) (at + 73 * length l) (t + length l) q r (x .entries) (x .rest) (w .1) (m .1) (omega arith) (omega arith) (omega arith))
 
 -- ---- the whole file
-module _ (ls : List Lap) (w : Wholes ls) (few : length ls < 4294967296) where
+module _ (ls : List Lap) (w : AllFull ls) (few : length ls < 4294967296) where
   count-encode : halfAt (encode ls) 4 ≡ length ls
   unfolding encode u32Bytes
   count-encode = read-u32 (encode ls) 4 (length ls) (table (8 + 8 * length ls) ls ++ bodies ls) refl few
@@ -94,15 +94,15 @@ module _ (ls : List Lap) (w : Wholes ls) (few : length ls < 4294967296) where
       sym (drop-drop (8 * length ls) 8 (encode ls)) ∙ ap (drop (8 * length ls)) entries-encode
       ∙ drop-at (table (8 + 8 * length ls) ls) (bodies ls) (8 * length ls) (length-table (8 + 8 * length ls) ls) ∙ sym (append-nil (bodies ls))
 
-  pub laps-encode : total ls < 4294967296 → lapsOf (encode ls) ≡ ls
+  pub laps-encode : commandCount ls < 4294967296 → lapsOf (encode ls) ≡ ls
   unfolding lapsOf
   laps-encode h = rw lap-count-encode (laps-from ls (encode ls) 0 (8 + 8 * length ls) (bodies ls) [] entries-encode bodies-encode w h)
 
-  mark-encode : marked (encode ls) ≡ true
-  unfolding marked encode
+  mark-encode : hasMark (encode ls) ≡ true
+  unfolding hasMark encode
   mark-encode = refl
 
-  pub table-encode : length ls ≤ 64 → total ls ≤ 800 → Somes ls → tableOk (encode ls) ≡ true
+  pub table-encode : length ls ≤ 64 → commandCount ls ≤ 800 → Somes ls → tableOk (encode ls) ≡ true
   unfolding tableOk
   table-encode h k m =
       let n = length-encode ls w in

@@ -8,10 +8,10 @@ use borrow.Author.Tests.{ne-eqb, eqb-true, eqb-false, ltb-false}
 use lib.ListN.{length, getD}
 use lib.Dec.{eqb, ltb}
 use lib.Ieee.{Float}
-use Rattle.number.specs.Ops.{_≺_, +0}
+use Rattle.floats.specs.Ops.{_≺_, +0}
 use Rattle.laps.specs.File.{Lap, lapCount, offsetAt, countAt, lapsAt, lapsOf, walk, tableOk, lapOk, lapsOk}
-use Rattle.laps.specs.Fit.{fitLap, mostLap, mostOf, chosen, otherOf, swap, others}
-use Rattle.laps.specs.Demand.{total}
+use Rattle.laps.specs.Fit.{fitLap, mostLap, lapsMost, chosen, otherOf, swap, others}
+use Rattle.laps.specs.Demand.{commandCount}
 use Rattle.laps.proofs.Here.{Here, step, start, cond-false, cond-not}
 use Rattle.laps.proofs.Lap.{fit-most, fit-some, length-commands}
 use Rattle.laps.proofs.ReadBack.{Somes}
@@ -85,21 +85,21 @@ somes-fit tol (l ∷ ls) e h = let a = cond-false (lapOk 4 true l) (lapsOk 4 ls)
 
 -- ---- the most of a replacement is no more than that of a fresh fit
 module _ (tol : Float) (pos : (+0 ≺ tol) ≡ true) where
-  others-past : (k j : ℕ) (ls : List Lap) → k < j → others k j (map (fitLap tol) ls) ≤ mostOf tol ls
-  unfolding others mostOf otherOf
+  others-past : (k j : ℕ) (ls : List Lap) → k < j → others k j (map (fitLap tol) ls) ≤ lapsMost tol ls
+  unfolding others lapsMost otherOf
   others-past k j [] h = omega arith
   others-past k j (l ∷ ls) h =
       let a = others-past k (j + 1) ls (omega arith) in
       let b = fit-most tol pos l in
       rw (ne-eqb j k (λ e. omega arith)) (omega (arith, a, b))
 
-  pub most-swap : (k : ℕ) (new : Lap) (j : ℕ) (ls : List Lap) → j ≤ k → k < j + length ls → mostLap tol new + others k j (map (fitLap tol) ls) ≤ mostOf tol (swap k new j ls)
-  unfolding others mostOf otherOf swap
+  pub most-swap : (k : ℕ) (new : Lap) (j : ℕ) (ls : List Lap) → j ≤ k → k < j + length ls → mostLap tol new + others k j (map (fitLap tol) ls) ≤ lapsMost tol (swap k new j ls)
+  unfolding others lapsMost otherOf swap
   most-swap k new j [] h i = absurd (omega arith)
   most-swap k new j (l ∷ ls) h i = either (eqb j k) refl (λ e. most-swap k new (j + 1) ls (omega (arith, e)) (omega arith))
     where
-      either : (t : Bool) → eqb j k ≡ t → ((j ≡ k → ⊥) → mostLap tol new + others k (j + 1) (map (fitLap tol) ls) ≤ mostOf tol (swap k new (j + 1) ls))
-          → mostLap tol new + (cond (eqb j k) 0 (length (fitLap tol l)) + others k (j + 1) (map (fitLap tol) ls)) ≤ mostLap tol (chosen k j new l) + mostOf tol (swap k new (j + 1) ls)
+      either : (t : Bool) → eqb j k ≡ t → ((j ≡ k → ⊥) → mostLap tol new + others k (j + 1) (map (fitLap tol) ls) ≤ lapsMost tol (swap k new (j + 1) ls))
+          → mostLap tol new + (cond (eqb j k) 0 (length (fitLap tol l)) + others k (j + 1) (map (fitLap tol) ls)) ≤ mostLap tol (chosen k j new l) + lapsMost tol (swap k new (j + 1) ls)
       either true q rec =
           let e = eqb-true j k q in
           let a = others-past k (j + 1) ls (omega (arith, e)) in
@@ -127,18 +127,18 @@ swap-there k new j (l ∷ ls) h i = either (eqb j k) refl (λ e. swap-there k ne
     either false q rec = let e = eqb-false j k q in let z : k - j ≡ suc (k - (j + 1)) = omega (arith, e) in rw z (rec e)
 
 -- ---- the new lap has no more commands than all laps together
-pub new-in-total : (k : ℕ) (new : Lap) (j : ℕ) (ls : List Lap) → j ≤ k → k < j + length ls → length new ≤ total (swap k new j ls)
-unfolding swap total
+pub new-in-total : (k : ℕ) (new : Lap) (j : ℕ) (ls : List Lap) → j ≤ k → k < j + length ls → length new ≤ commandCount (swap k new j ls)
+unfolding swap commandCount
 new-in-total k new j [] h i = absurd (omega arith)
 new-in-total k new j (l ∷ ls) h i = either (eqb j k) refl (λ e. new-in-total k new (j + 1) ls (omega (arith, e)) (omega arith))
   where
-    either : (t : Bool) → eqb j k ≡ t → ((j ≡ k → ⊥) → length new ≤ total (swap k new (j + 1) ls)) → length new ≤ length (chosen k j new l) + total (swap k new (j + 1) ls)
+    either : (t : Bool) → eqb j k ≡ t → ((j ≡ k → ⊥) → length new ≤ commandCount (swap k new (j + 1) ls)) → length new ≤ length (chosen k j new l) + commandCount (swap k new (j + 1) ls)
     either true q rec = rw (chosen-new k j new l (eqb-true j k q)) (omega arith)
     either false q rec = let a = rec (eqb-false j k q) in omega arith
 
 -- a right table has at most 800 commands
-walked : (s : List ℕ) (j at t n : ℕ) → t ≤ 800 → walk s j at t n ≡ true → t + total (lapsAt s j at n) ≤ 800
-unfolding walk lapsAt total
+walked : (s : List ℕ) (j at t n : ℕ) → t ≤ 800 → walk s j at t n ≡ true → t + commandCount (lapsAt s j at n) ≤ 800
+unfolding walk lapsAt commandCount
 walked s j at t zero h e = omega arith
 walked s j at t (suc n) h e =
     let a = cond-false (eqb (offsetAt s j) at) _ e in
@@ -148,7 +148,7 @@ walked s j at t (suc n) h e =
     let r = walked s (j + 1) (at + 73 * countAt s j) (t + countAt s j) n m (d .1) in
     let l = length-commands s at (countAt s j) in omega arith
 
-pub few-commands : (s : List ℕ) → tableOk s ≡ true → total (lapsOf s) ≤ 800
+pub few-commands : (s : List ℕ) → tableOk s ≡ true → commandCount (lapsOf s) ≤ 800
 unfolding lapsOf
 few-commands s h =
     let w = start s h in

@@ -8,14 +8,14 @@ use borrow.Author.Tests.{eq-eqb, ne-eqb, eqb-true, eqb-false, not-false, lt-ltb,
 use lib.ListN.{length, drop}
 use lib.Dec.{T, eqb, ltb}
 use lib.Ieee.{Float}
-use Rattle.types.specs.declared.types.Answer.the-variants.{Written}
-use Rattle.types.specs.Outcome.{Row, refusal, unless, answer, left, Wrote}
-use Rattle.types.specs.Domain.{tolerance}
-use Rattle.types.proofs.Rows.{row-fails, row-passes, row-passed, refusal-front, done, unless-gives}
+use Rattle.geo.specs.declared.types.Answer.the-variants.{Written}
+use Rattle.geo.specs.Outcome.{Row, refusal, unless, answer, left, Wrote}
+use Rattle.geo.specs.Domain.{tolerance}
+use Rattle.geo.proofs.Rows.{row-fails, row-passes, row-passed, refusal-front, done, unless-gives}
 use Rattle.laps.specs.File.{lapCount, lapsOf, short, big, tableOk, lapsOk}
 use Rattle.course.specs.Course.{courseMost, lentCourse, cap}
-use Rattle.laps.specs.Fit.{mostOf, others, mostNew, sizeOf}
-use Rattle.laps.specs.Calls.{fileRows, sizeRows, fitRows, row1, row2, row3, row4, row5, row7, newRows, replaceRows}
+use Rattle.laps.specs.Fit.{lapsMost, others, mostNew, fileSize}
+use Rattle.laps.specs.Calls.{fileRows, sizeRows, fileFitRows, row1, row2, row3, row4, row5, row7, newRows, replaceRows}
 use Rattle.laps.proofs.Walks.{not-short, not-big}
 use Rattle.laps.proofs.Cap.{told-more, told-below}
 
@@ -73,43 +73,43 @@ module _ (laps most room : ℕ) where
   unfolding sizeRows
   size-8 h = row-fails 8 _ _ (lt-ltb 800 most h)
 
-  pub size-9 : most ≤ 800 → room < sizeOf laps most → refusal (sizeRows laps most room) ≡ 9
+  pub size-9 : most ≤ 800 → room < fileSize laps most → refusal (sizeRows laps most room) ≡ 9
   unfolding sizeRows
-  size-9 h k = row-passes 8 _ _ (le-ltb 800 most h) ∙ row-fails 9 _ _ (lt-ltb room (sizeOf laps most) k)
+  size-9 h k = row-passes 8 _ _ (le-ltb 800 most h) ∙ row-fails 9 _ _ (lt-ltb room (fileSize laps most) k)
 
-  pub size-0 : most ≤ 800 → sizeOf laps most ≤ room → refusal (sizeRows laps most room) ≡ 0
+  pub size-0 : most ≤ 800 → fileSize laps most ≤ room → refusal (sizeRows laps most room) ≡ 0
   unfolding sizeRows
-  size-0 h k = row-passes 8 _ _ (le-ltb 800 most h) ∙ row-passes 9 _ _ (le-ltb room (sizeOf laps most) k) ∙ done
+  size-0 h k = row-passes 8 _ _ (le-ltb 800 most h) ∙ row-passes 9 _ _ (le-ltb room (fileSize laps most) k) ∙ done
 
-  pub sized : 0 ≡ refusal (sizeRows laps most room) → (most ≤ 800) × (sizeOf laps most ≤ room)
+  pub sized : 0 ≡ refusal (sizeRows laps most room) → (most ≤ 800) × (fileSize laps most ≤ room)
   unfolding sizeRows
   sized e =
       let a = row-passed 7 (ltb 800 most) _ e in
-      let b = row-passed 8 (ltb room (sizeOf laps most)) _ (a .1) in
-      (ltb-false 800 most (a .0), ltb-false room (sizeOf laps most) (b .0))
+      let b = row-passed 8 (ltb room (fileSize laps most)) _ (a .1) in
+      (ltb-false 800 most (a .0), ltb-false room (fileSize laps most) (b .0))
 
 -- ---- the fit of a file
 pub record FitPassed (s : List ℕ) (tol : Float) (room : ℕ) : Type 0 where
   pub file : FilePassed s
   pub within : tolerance tol ≡ true
-  pub few : mostOf tol (lapsOf s) ≤ 800
-  pub space : sizeOf (lapCount s) (mostOf tol (lapsOf s)) ≤ room
+  pub few : lapsMost tol (lapsOf s) ≤ 800
+  pub space : fileSize (lapCount s) (lapsMost tol (lapsOf s)) ≤ room
 
-pub fit-passed : (s : List ℕ) (tol : Float) (room : ℕ) → 0 ≡ refusal (fitRows s tol room) → FitPassed s tol room
-unfolding fitRows
+pub fit-passed : (s : List ℕ) (tol : Float) (room : ℕ) → 0 ≡ refusal (fileFitRows s tol room) → FitPassed s tol room
+unfolding fileFitRows
 fit-passed s tol room e =
     let a = file-passed-with s _ e in
     let b = row-passed 5 (not (tolerance tol)) _ (a .1) in
-    let c = sized (lapCount s) (mostOf tol (lapsOf s)) room (b .1) in
+    let c = sized (lapCount s) (lapsMost tol (lapsOf s)) room (b .1) in
     record { file = a .0; within = not-false _ (b .0); few = c .0; space = c .1 }
 
 module _ (s : List ℕ) (tol : Float) (room : ℕ) (p : FilePassed s) where
-  pub fit-6 : not (tolerance tol) ≡ true → refusal (fitRows s tol room) ≡ 6
-  unfolding fitRows
+  pub fit-6 : not (tolerance tol) ≡ true → refusal (fileFitRows s tol room) ≡ 6
+  unfolding fileFitRows
   fit-6 h = behind-file s _ p ∙ row-fails 6 _ _ h
 
-  pub fit-sizes : not (tolerance tol) ≡ false → refusal (fitRows s tol room) ≡ refusal (sizeRows (lapCount s) (mostOf tol (lapsOf s)) room)
-  unfolding fitRows
+  pub fit-sizes : not (tolerance tol) ≡ false → refusal (fileFitRows s tol room) ≡ refusal (sizeRows (lapCount s) (lapsMost tol (lapsOf s)) room)
+  unfolding fileFitRows
   fit-sizes h = behind-file s _ p ∙ row-passes 6 _ _ h
 
 -- ---- the replacement of a lap: what each passed row tells
@@ -176,7 +176,7 @@ module _ (s f : List ℕ) (k : ℕ) (ks : List ℕ) (ns : List Float) (tol : Flo
   new-sizes room p = behind-new _ p
 
   pub replace-passed : (room : ℕ) → 0 ≡ refusal (replaceRows s f k ks ns tol room)
-      → NewPassed s f k ks ns tol × (mostNew tol ks ns k f ≤ 800) × (sizeOf (lapCount f) (mostNew tol ks ns k f) ≤ room)
+      → NewPassed s f k ks ns tol × (mostNew tol ks ns k f ≤ 800) × (fileSize (lapCount f) (mostNew tol ks ns k f) ≤ room)
   unfolding replaceRows
   replace-passed room e =
       let a = new-passed-with _ e in

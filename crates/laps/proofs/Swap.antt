@@ -10,15 +10,15 @@ use lib.ListN.{length, drop}
 use lib.Seq.{sets}
 use lib.Dec.{eqb}
 use lib.Ieee.{Float}
-use Rattle.number.specs.Ops.{_≺_, +0}
+use Rattle.floats.specs.Ops.{_≺_, +0}
 use Rattle.file.specs.Bytes.{u32Bytes}
 use Rattle.file.specs.Command.{commandsAt}
 use Rattle.course.specs.Course.{courseMost, lentCourse}
 use Rattle.laps.specs.File.{Lap, lapCount, countAt, lapsAt, lapsOf, tableOk, mark, encode}
-use Rattle.laps.specs.Fit.{fitNew, chosen, otherOf, swap, others, mostNew, sizeOf}
+use Rattle.laps.specs.Fit.{fitNew, chosen, otherOf, swap, others, mostNew, fileSize}
 use Rattle.laps.proofs.Here.{Here, step, start, start-at, all-laps}
 use Rattle.laps.proofs.Lap.{new-most, length-commands}
-use Rattle.laps.specs.Demand.{Whole, Wholes, total}
+use Rattle.laps.specs.Demand.{EachFull, AllFull, commandCount}
 use Rattle.laps.proofs.Whole.{whole-commands}
 use Rattle.laps.proofs.Going.{Going, begin, done}
 use Rattle.laps.proofs.Turns.{laps-cons, laps-nil, length-laps-of}
@@ -76,50 +76,50 @@ length-swap k new j [] = refl
 length-swap k new j (l ∷ ls) = ap suc (length-swap k new (j + 1) ls)
 
 -- lap numbers only grow, so that at most one is k
-past-k : (k : ℕ) (new : Lap) (j : ℕ) (ls : List Lap) → k < j → total (swap k new j ls) ≡ others k j ls
-unfolding swap others total otherOf chosen
+past-k : (k : ℕ) (new : Lap) (j : ℕ) (ls : List Lap) → k < j → commandCount (swap k new j ls) ≡ others k j ls
+unfolding swap others commandCount otherOf chosen
 past-k k new j [] h = refl
 past-k k new j (l ∷ ls) h = let z = past-k k new (j + 1) ls (omega arith) in rw (ne-eqb j k (λ e. omega arith), z)
 
-other-or : (k : ℕ) (new : Lap) (j : ℕ) (ls : List Lap) (t : Bool) → eqb j k ≡ t → total (swap k new (j + 1) ls) ≤ length new + others k (j + 1) ls → (l : Lap)
-    → (j ≡ k → total (swap k new (j + 1) ls) ≡ others k (j + 1) ls) → total (chosen k j new l ∷ swap k new (j + 1) ls) ≤ length new + (otherOf k j (length l) + others k (j + 1) ls)
-unfolding total otherOf chosen
+other-or : (k : ℕ) (new : Lap) (j : ℕ) (ls : List Lap) (t : Bool) → eqb j k ≡ t → commandCount (swap k new (j + 1) ls) ≤ length new + others k (j + 1) ls → (l : Lap)
+    → (j ≡ k → commandCount (swap k new (j + 1) ls) ≡ others k (j + 1) ls) → commandCount (chosen k j new l ∷ swap k new (j + 1) ls) ≤ length new + (otherOf k j (length l) + others k (j + 1) ls)
+unfolding commandCount otherOf chosen
 other-or k new j ls true e h l p = let q = p (eqb-true j k e) in rw e (omega (arith, q))
 other-or k new j ls false e h l p = rw e (omega arith)
 
-pub total-swap : (k : ℕ) (new : Lap) (j : ℕ) (ls : List Lap) → total (swap k new j ls) ≤ length new + others k j ls
+pub total-swap : (k : ℕ) (new : Lap) (j : ℕ) (ls : List Lap) → commandCount (swap k new j ls) ≤ length new + others k j ls
 unfolding swap others
-total-swap k new j [] = unfold total in omega arith
+total-swap k new j [] = unfold commandCount in omega arith
 total-swap k new j (l ∷ ls) = other-or k new j ls (eqb j k) refl (total-swap k new (j + 1) ls) l (λ e. past-k k new (j + 1) ls (omega arith))
 
 -- ---- laps whose commands are whole
-wholes-from : (s : List ℕ) (j at l n : ℕ) → n ≡ l - j → Here s j at l → Wholes (lapsAt s j at n)
+wholes-from : (s : List ℕ) (j at l n : ℕ) → n ≡ l - j → Here s j at l → AllFull (lapsAt s j at n)
 unfolding lapsAt
 wholes-from s j at l zero e h = tt
 wholes-from s j at l (suc n) e h =
     let w = step s j at l (countAt s j) refl h (omega arith) in
     (whole-commands s at (countAt s j) (w .fits), wholes-from s (j + 1) (at + 73 * countAt s j) l n (omega arith) (w .then))
 
-pub wholes-of : (s : List ℕ) → tableOk s ≡ true → Wholes (lapsOf s)
+pub wholes-of : (s : List ℕ) → tableOk s ≡ true → AllFull (lapsOf s)
 unfolding lapsOf
 wholes-of s h = wholes-from s 0 (8 + 8 * lapCount s) (lapCount s) (lapCount s) (omega arith) (start s h)
 
-whole-chosen : (k j : ℕ) (new l : Lap) → Whole new → Whole l → Whole (chosen k j new l)
+whole-chosen : (k j : ℕ) (new l : Lap) → EachFull new → EachFull l → EachFull (chosen k j new l)
 unfolding chosen
 whole-chosen k j new l a b = either (eqb j k)
   where
-    either : (t : Bool) → Whole (cond t new l)
+    either : (t : Bool) → EachFull (cond t new l)
     either true = a
     either false = b
 
-pub wholes-swap : (k : ℕ) (new : Lap) (j : ℕ) (ls : List Lap) → Whole new → Wholes ls → Wholes (swap k new j ls)
+pub wholes-swap : (k : ℕ) (new : Lap) (j : ℕ) (ls : List Lap) → EachFull new → AllFull ls → AllFull (swap k new j ls)
 unfolding swap
 wholes-swap k new j [] a w = tt
 wholes-swap k new j (l ∷ ls) a w = (whole-chosen k j new l a (w .0), wholes-swap k new (j + 1) ls a (w .1))
 
 -- ---- the loop: `new` is the new lap's fit
 module _ (s : List ℕ) (new : Lap) (k : ℕ) where
-  pub swap-done : (out₀ out out′ : List ℕ) (l j at to : ℕ) → Whole new → l ≡ lapCount s → l ≤ j → tableOk s ≡ true → out ≡ sets out₀ 0 (mark ++ u32Bytes l)
+  pub swap-done : (out₀ out out′ : List ℕ) (l j at to : ℕ) → EachFull new → l ≡ lapCount s → l ≤ j → tableOk s ≡ true → out ≡ sets out₀ 0 (mark ++ u32Bytes l)
       → Going out out′ l j to (swap k new (j + 1) (lapsAt s j at (l - j))) (swap k new 1 (lapsOf s))
       → (to ≡ length (encode (swap k new 1 (lapsOf s)))) × (out′ ≡ encode (swap k new 1 (lapsOf s)) ++ drop (length (encode (swap k new 1 (lapsOf s)))) out₀)
   unfolding swap
@@ -133,7 +133,7 @@ module _ (s : List ℕ) (new : Lap) (k : ℕ) where
   swap-turn out₀ out l j at to n all h e g = rw (swap-cons s k new j at l n h e) at g
 
 pub swap-begin : (tol : Float) → (+0 ≺ tol) ≡ true → (s ks : List ℕ) (ns : List Float) (k : ℕ) (out : List ℕ) (l : ℕ) → l ≡ lapCount s
-    → sizeOf l (mostNew tol ks ns k s) ≤ length out
+    → fileSize l (mostNew tol ks ns k s) ≤ length out
     → Going out out l 0 (8 + 8 * l) (swap k (fitNew tol ks ns) (0 + 1) (lapsAt s 0 (8 + 8 * l) (l - 0))) (swap k (fitNew tol ks ns) 1 (lapsOf s))
 unfolding mostNew
 swap-begin tol pos s ks ns k out l e h =
@@ -152,6 +152,6 @@ room-new k j to room new l e h = rw (chosen-new k j new l e) at h
 pub room-old : (k j to room n : ℕ) (new l : Lap) → (j ≡ k → ⊥) → length l ≡ n → to + 73 * length (chosen k j new l) ≤ room → to + 73 * n ≤ room
 room-old k j to room n new l e c h = let g : to + 73 * length l ≤ room = rw (chosen-old k j new l e) at h in omega arith
 
-pub few-swap : (tol : Float) → (+0 ≺ tol) ≡ true → (ks : List ℕ) (ns : List Float) (k : ℕ) (s : List ℕ) → mostNew tol ks ns k s ≤ 800 → total (swap k (fitNew tol ks ns) 1 (lapsOf s)) ≤ 800
+pub few-swap : (tol : Float) → (+0 ≺ tol) ≡ true → (ks : List ℕ) (ns : List Float) (k : ℕ) (s : List ℕ) → mostNew tol ks ns k s ≤ 800 → commandCount (swap k (fitNew tol ks ns) 1 (lapsOf s)) ≤ 800
 unfolding mostNew
 few-swap tol pos ks ns k s h = let a = total-swap k (fitNew tol ks ns) 1 (lapsOf s) in let b = new-most tol pos ks ns in omega (arith, a, b)

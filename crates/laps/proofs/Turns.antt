@@ -7,14 +7,14 @@ use native.Mathlib.Omega.{arith}
 use lib.ListN.{length, drop, length-map}
 use lib.Seq.{sets}
 use lib.Ieee.{Float}
-use Rattle.number.specs.Ops.{_≺_, +0}
+use Rattle.floats.specs.Ops.{_≺_, +0}
 use Rattle.file.specs.Bytes.{u32Bytes}
 use Rattle.file.specs.Command.{commandsAt}
 use Rattle.laps.specs.File.{Lap, lapCount, countAt, lapsAt, lapsOf, mark, encode}
-use Rattle.laps.specs.Fit.{fitLap, mostOf, sizeOf}
+use Rattle.laps.specs.Fit.{fitLap, lapsMost, fileSize}
 use Rattle.laps.proofs.Here.{all-laps}
 use Rattle.laps.proofs.Lap.{fit-most}
-use Rattle.laps.specs.Demand.{total}
+use Rattle.laps.specs.Demand.{commandCount}
 use Rattle.laps.proofs.Whole.{wholes-fit}
 use Rattle.laps.proofs.Going.{Going, begin, done}
 
@@ -36,21 +36,21 @@ unfolding lapsOf
 length-laps-of s = length-laps s 0 (8 + 8 * lapCount s) (lapCount s)
 
 pub fits-next : (out₀ out : List ℕ) (l j to : ℕ) (x : Lap) (ls all : List Lap) → Going out₀ out l j to (x ∷ ls) all → to + 73 * length x ≤ length out
-unfolding total
+unfolding commandCount
 fits-next out₀ out l j to x ls all g = omega arith
 
 -- where a lap of n commands ends, of at most 800 in all
-pub ends-by : (out₀ out : List ℕ) (l j to n : ℕ) (x : Lap) (ls all : List Lap) → Going out₀ out l j to (x ∷ ls) all → n ≡ length x → total all ≤ 800 → to + 73 * n ≤ 8 + 8 * l + 58400
-unfolding total
+pub ends-by : (out₀ out : List ℕ) (l j to n : ℕ) (x : Lap) (ls all : List Lap) → Going out₀ out l j to (x ∷ ls) all → n ≡ length x → commandCount all ≤ 800 → to + 73 * n ≤ 8 + 8 * l + 58400
+unfolding commandCount
 ends-by out₀ out l j to n x ls all g e h = omega arith
 
 module _ (tol : Float) (pos : (+0 ≺ tol) ≡ true) where
-  pub total-most : (ls : List Lap) → total (map (fitLap tol) ls) ≤ mostOf tol ls
-  unfolding total mostOf
+  pub total-most : (ls : List Lap) → commandCount (map (fitLap tol) ls) ≤ lapsMost tol ls
+  unfolding commandCount lapsMost
   total-most [] = omega arith
   total-most (l ∷ ls) = let h = total-most ls in let k = fit-most tol pos l in omega (arith, h, k)
 
-  pub fit-begin : (s out : List ℕ) (l : ℕ) → l ≡ lapCount s → sizeOf l (mostOf tol (lapsOf s)) ≤ length out
+  pub fit-begin : (s out : List ℕ) (l : ℕ) → l ≡ lapCount s → fileSize l (lapsMost tol (lapsOf s)) ≤ length out
       → Going out out l 0 (8 + 8 * l) (map (fitLap tol) (lapsAt s 0 (8 + 8 * l) (l - 0))) (map (fitLap tol) (lapsOf s))
   fit-begin s out l e h = rw (all-laps s l e) (begin out l (map (fitLap tol) (lapsOf s)) (let k = total-most (lapsOf s) in omega (arith, k)))
 

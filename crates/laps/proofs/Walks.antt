@@ -8,7 +8,7 @@ use borrow.Author.Tests.{eq-eqb, ne-eqb, lt-ltb, le-ltb, ltb-false}
 use lib.ListN.{length, take, drop}
 use lib.Dec.{T, eqb, ltb}
 use Rattle.file.specs.Command.{commandsAt}
-use Rattle.laps.specs.File.{lapCount, offsetAt, countAt, lapsAt, marked, walk, tableOk, holds, lapOk, lapsOk, short, big}
+use Rattle.laps.specs.File.{lapCount, offsetAt, countAt, lapsAt, hasMark, walk, tableOk, holds, lapOk, lapsOk, short, big}
 
 -- ---- the commands of a lap
 lap-step : (row : ℕ) (first : Bool) (s : List ℕ) (b n i : ℕ) → i < n
@@ -72,15 +72,15 @@ pub walk-end : (s : List ℕ) (j at total l : ℕ) (t : Bool) → l ≤ j → wa
 unfolding walk
 walk-end s j at total l t h v = (let e : l - j ≡ zero = omega arith in sym (rw e)) ∙ v
 
-pub no-mark : (s : List ℕ) → marked s ≡ false → false ≡ tableOk s
+pub no-mark : (s : List ℕ) → hasMark s ≡ false → false ≡ tableOk s
 unfolding tableOk
 no-mark s e = rw e
 
-pub no-room : (s : List ℕ) → marked s ≡ true → length s < 8 + 8 * lapCount s → false ≡ tableOk s
+pub no-room : (s : List ℕ) → hasMark s ≡ true → length s < 8 + 8 * lapCount s → false ≡ tableOk s
 unfolding tableOk
 no-room s e h = rw (e, lt-ltb (length s) (8 + 8 * lapCount s) h)
 
-pub by-walk : (s : List ℕ) → marked s ≡ true → 8 + 8 * lapCount s ≤ length s → walk s 0 (8 + 8 * lapCount s) 0 (lapCount s) ≡ tableOk s
+pub by-walk : (s : List ℕ) → hasMark s ≡ true → 8 + 8 * lapCount s ≤ length s → walk s 0 (8 + 8 * lapCount s) 0 (lapCount s) ≡ tableOk s
 unfolding tableOk
 by-walk s e h = rw (e, le-ltb (length s) (8 + 8 * lapCount s) h)
 

@@ -4,13 +4,13 @@ use lib.Ieee.{span, climb, size, odd, units, round, neg, sum, add, sub, mul, div
 use Rattle.simplify.specs.Measure as line
 use Rattle.circle.specs.Collinear as collin
 use Rattle.laps.specs.Worked.{WorkedLaps}
-use Rattle.number.specs.Float.{absOf, ceilOf, maxOf, clampOf}
-use Rattle.number.specs.Root.{better, rootIn, wholeRoot, rootFrom, inUnits, rootOf, plain}
-use Rattle.types.specs.Domain.{coordinate, centre, within, pointIn, point3In, everyFrom, numbersIn, whole}
-use Rattle.types.specs.Lent.{pointAt, flat, endOf, kindOf, numbersOf}
-use Rattle.types.specs.Outcome.{refusal, unless}
-use Rattle.types.specs.Vector.{lengthOf, distanceSq, distance}
-use Rattle.types.specs.Walk.{fold, listFrom}
+use Rattle.floats.specs.Float.{absOf, ceilOf, maxOf, clampOf}
+use Rattle.floats.specs.Root.{better, rootIn, wholeRoot, rootFrom, inUnits, rootOf, plain}
+use Rattle.geo.specs.Domain.{coordinate, centre, within, pointIn, point3In, everyFrom, numbersIn, whole}
+use Rattle.geo.specs.Lent.{pointAt, flat, endOf, kindOf, numbersOf}
+use Rattle.geo.specs.Outcome.{refusal, unless}
+use Rattle.geo.specs.Vector.{lengthOf, distanceSq, distance}
+use Rattle.geo.specs.Walk.{fold, listFrom}
 use Rattle.arc.specs.Direction.{turnAt, crossSum, clockwise}
 use Rattle.simplify.specs.Farthest.{farther, farthestOf, farthestIn}
 use Rattle.simplify.specs.Measure.{toLine, lineSq}
@@ -29,15 +29,15 @@ use Rattle.fitting.specs.Calls.{fitRows, fitCall}
 use Rattle.fitting.specs.Commands.{normalOf, shaped, pieceCommand, fitIn}
 use Rattle.fitting.specs.Pieces.{rooted, lineDeviation, arcOrCut, chooseBy, choice, follow, piecesBy}
 use Rattle.bezier.specs.Linearize.{steps, firstThird, lastThird, polygonLength, stepCount, stepsNeeded, paramSteps}
-use Rattle.types.specs.Vector as vector
+use Rattle.geo.specs.Vector as vector
 use Rattle.records.specs.Words.{halfAt}
 use Rattle.file.specs.Bytes.{u32Bytes}
-use Rattle.laps.specs.File.{lapCount, lapsAt, lapsOf, bodies, table, encode, short, big, marked, walk, tableOk, lapsOk}
-use Rattle.laps.specs.Fit.{mostOf}
+use Rattle.laps.specs.File.{lapCount, lapsAt, lapsOf, bodies, table, encode, short, big, hasMark, walk, tableOk, lapsOk}
+use Rattle.laps.specs.Fit.{lapsMost}
 use Rattle.laps.specs.Calls as file
 
 pub worked-laps : WorkedLaps
-unfolding span climb size odd units round neg sum add sub mul div lt eq le isNan ofInt ofFields ofBits absOf maxOf clampOf better rootIn wholeRoot rootFrom inUnits rootOf plain coordinate centre within pointIn point3In everyFrom numbersIn whole pointAt flat endOf kindOf numbersOf refusal unless lengthOf distanceSq distance fold listFrom turnAt crossSum clockwise farther farthestOf farthestIn toLine lineSq simplifyPolyline3d keptBy thinned thinnedPoints movedBy projected pointsRows nearTo besideOf allNear allBeside collinearBy collinear plus sumsOf axesOf cross3 dot3 scaled detOf inverseTimes solved matrixOf sidesOf centered kasaCenter areaOf turnOf center3 radiusFrom centerBy centerThree circleRound throughThree worse worst spokeOf cosine sagittaOf endsOf stepOf stepBetween arcDeviation offsetOf crossOf dotOf atCentre halfOf turned turnsOf justBehind justAhead passesBy awayFrom traverses sharpTurn sharpAt closedRange trialRound trialOf ofCircle ofCenter trialThree trialLeast orElse tryArcs fitRows fitCall normalOf shaped pieceCommand fitIn rooted lineDeviation arcOrCut chooseBy choice follow piecesBy line.chordOf collin.chordOf ceilOf steps firstThird lastThird polygonLength stepCount stepsNeeded paramSteps toUnsigned vector.distance3 halfAt u32Bytes lapCount lapsAt lapsOf bodies table encode short big marked walk tableOk lapsOk mostOf file.fileRows file.sizeRows file.fitRows file.fitFile
+unfolding span climb size odd units round neg sum add sub mul div lt eq le isNan ofInt ofFields ofBits absOf maxOf clampOf better rootIn wholeRoot rootFrom inUnits rootOf plain coordinate centre within pointIn point3In everyFrom numbersIn whole pointAt flat endOf kindOf numbersOf refusal unless lengthOf distanceSq distance fold listFrom turnAt crossSum clockwise farther farthestOf farthestIn toLine lineSq simplifyPolyline3d keptBy thinned thinnedPoints movedBy projected pointsRows nearTo besideOf allNear allBeside collinearBy collinear plus sumsOf axesOf cross3 dot3 scaled detOf inverseTimes solved matrixOf sidesOf centered kasaCenter areaOf turnOf center3 radiusFrom centerBy centerThree circleRound throughThree worse worst spokeOf cosine sagittaOf endsOf stepOf stepBetween arcDeviation offsetOf crossOf dotOf atCentre halfOf turned turnsOf justBehind justAhead passesBy awayFrom traverses sharpTurn sharpAt closedRange trialRound trialOf ofCircle ofCenter trialThree trialLeast orElse tryArcs fitRows fitCall normalOf shaped pieceCommand fitIn rooted lineDeviation arcOrCut chooseBy choice follow piecesBy line.chordOf collin.endsChord ceilOf steps firstThird lastThird polygonLength stepCount stepsNeeded paramSteps toUnsigned vector.distance3 halfAt u32Bytes lapCount lapsAt lapsOf bodies table encode short big hasMark walk tableOk lapsOk lapsMost file.fileRows file.sizeRows file.fileFitRows file.fitFile
 worked-laps =
     record {
       root-of-25 = refl;

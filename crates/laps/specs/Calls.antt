@@ -5,10 +5,10 @@ use mathlib.Core.List.{List, [], _∷_, _++_, map}
 use lib.ListN.{length, getD}
 use lib.Dec.{ltb, eqb}
 use lib.Ieee.{Float}
-use Rattle.types.specs.Domain.{tolerance, everyFrom, commandsFormed, commandsIn}
-use Rattle.types.specs.Outcome.{Row, row, refusal, Outcome, unless}
+use Rattle.geo.specs.Domain.{tolerance, everyFrom, commandsFormed, commandsIn}
+use Rattle.geo.specs.Outcome.{Row, row, refusal, Outcome, unless}
 use Rattle.laps.specs.File.{lapCount, lapsOf, encode, short, big, tableOk, placed, lapsOk}
-use Rattle.laps.specs.Fit.{fitLap, mostOf, sizeOf, fitNew, swap, mostNew}
+use Rattle.laps.specs.Fit.{fitLap, lapsMost, fileSize, fitNew, swap, mostNew}
 
 -- ---- the fit of the file s into an output of `room` bytes
 -- rows 1 to 5
@@ -23,13 +23,13 @@ fileRows s =
 
 -- rows 8 and 9 of `laps` laps and `most` commands
 unfoldable pub sizeRows : ℕ → ℕ → ℕ → List Row
-sizeRows laps most room = row 8 (ltb 800 most) ∷ row 9 (ltb room (sizeOf laps most)) ∷ []
+sizeRows laps most room = row 8 (ltb 800 most) ∷ row 9 (ltb room (fileSize laps most)) ∷ []
 
-unfoldable pub fitRows : List ℕ → Float → ℕ → List Row
-fitRows s tol room = fileRows s ++ (row 6 (not (tolerance tol)) ∷ sizeRows (lapCount s) (mostOf tol (lapsOf s)) room)
+unfoldable pub fileFitRows : List ℕ → Float → ℕ → List Row
+fileFitRows s tol room = fileRows s ++ (row 6 (not (tolerance tol)) ∷ sizeRows (lapCount s) (lapsMost tol (lapsOf s)) room)
 
 unfoldable pub fitFile : List ℕ → Float → ℕ → Outcome (List ℕ)
-fitFile s tol room = unless (refusal (fitRows s tol room)) (encode (map (fitLap tol) (lapsOf s)))
+fitFile s tol room = unless (refusal (fileFitRows s tol room)) (encode (map (fitLap tol) (lapsOf s)))
 
 -- ---- the replacement of lap k: s is the recorded file, f its fitted file, the new commands are lent as the kinds ks and the numbers ns
 -- "A slice is not whole points or commands; a file under 8 bytes"

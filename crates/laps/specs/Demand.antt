@@ -5,9 +5,9 @@ use mathlib.Core.Path.{_≡_}
 use mathlib.Core.List.{List, [], _∷_, map}
 use lib.ListN.{length, getD}
 use lib.Ieee.{Float}
-use Rattle.types.specs.declared.types.Command.{Command}
-use Rattle.types.specs.Outcome.{gives}
-use Rattle.types.specs.Lent.{flat, kindOf, numbersOf}
+use Rattle.geo.specs.declared.types.Command.{Command}
+use Rattle.geo.specs.Outcome.{gives}
+use Rattle.geo.specs.Lent.{flat, kindOf, numbersOf}
 use Rattle.file.specs.Command.{decoded, enc, lentLap, Held}
 use Rattle.course.specs.Course.{courseParts, courseFit}
 use Rattle.course.specs.Demand.{ChainsFitted}
@@ -28,17 +28,17 @@ unfoldable pub courseWith : List ℕ → ℕ → List ℕ → List Float → Lis
 courseWith s k ks ns = encode (swap k (lentLap ks ns) 1 (lapsOf s))
 
 -- laps of commands of 73 bytes, and how many these are
-abbrev pub Whole : Lap → Type 0
-Whole [] = Unit
-Whole (c ∷ l) = (length c ≡ 73) × Whole l
+abbrev pub EachFull : Lap → Type 0
+EachFull [] = Unit
+EachFull (c ∷ l) = (length c ≡ 73) × EachFull l
 
-abbrev pub Wholes : List Lap → Type 0
-Wholes [] = Unit
-Wholes (l ∷ ls) = Whole l × Wholes ls
+abbrev pub AllFull : List Lap → Type 0
+AllFull [] = Unit
+AllFull (l ∷ ls) = EachFull l × AllFull ls
 
-unfoldable pub total : List Lap → ℕ
-total [] = 0
-total (l ∷ ls) = length l + total ls
+unfoldable pub commandCount : List Lap → ℕ
+commandCount [] = 0
+commandCount (l ∷ ls) = length l + commandCount ls
 
 -- ---- the format
 -- a file whose mark and table are right is what its laps are encoded to
@@ -47,7 +47,7 @@ Canonical = (s : List ℕ) → Bytes s → 8 ≤ length s → tableOk s ≡ true
 
 -- laps that a u32 can count are read back from the file that they are encoded to
 abbrev pub ReadBack : Type 0
-ReadBack = (ls : List Lap) → Wholes ls → length ls < 4294967296 → total ls < 4294967296 → lapsOf (encode ls) ≡ ls
+ReadBack = (ls : List Lap) → AllFull ls → length ls < 4294967296 → commandCount ls < 4294967296 → lapsOf (encode ls) ≡ ls
 
 -- so the course with lap k replaced is one file: any file with these laps is it
 abbrev pub OneCourse : Type 0

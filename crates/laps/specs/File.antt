@@ -6,8 +6,8 @@ use mathlib.Core.Path.{_≡_}
 use lib.ListN.{length, getD}
 use lib.Seq.{sets}
 use lib.Dec.{ltb, eqb}
-use Rattle.number.specs.Ops.{if_then_else_}
-use Rattle.types.specs.Domain.{commandIn}
+use Rattle.floats.specs.Ops.{if_then_else_}
+use Rattle.geo.specs.Domain.{commandIn}
 use Rattle.records.specs.Words.{halfAt}
 use Rattle.file.specs.Bytes.{u32Bytes}
 use Rattle.file.specs.Command.{commandsAt, decoded, wellFormed}
@@ -71,8 +71,8 @@ unfoldable pub big : List ℕ → Bool
 big s = ltb 65536 (length s) || ltb 64 (lapCount s)
 
 -- ---- row 3 of one file: its mark and its table
-unfoldable pub marked : List ℕ → Bool
-marked s = eqb (getD s 0 0) 0x4c && eqb (getD s 1 0) 0x41 && eqb (getD s 2 0) 0x50 && eqb (getD s 3 0) 0x53
+unfoldable pub hasMark : List ℕ → Bool
+hasMark s = eqb (getD s 0 0) 0x4c && eqb (getD s 1 0) 0x41 && eqb (getD s 2 0) 0x50 && eqb (getD s 3 0) 0x53
 
 -- n entries from j on, with `total` commands before them: each offset is where the last body ended, each count is 1 or more, there are at most 800 commands, and the last
 -- body ends with the file
@@ -87,7 +87,7 @@ walk s j at total (suc n) =
 
 unfoldable pub tableOk : List ℕ → Bool
 tableOk s =
-    if marked s
+    if hasMark s
     then (if ltb (length s) (8 + 8 * lapCount s) then false else walk s 0 (8 + 8 * lapCount s) 0 (lapCount s))
     else false
 

@@ -4,7 +4,7 @@ use mathlib.Core.List.{List, [], _∷_, map}
 use lib.ListN.{length}
 use lib.Dec.{eqb}
 use lib.Ieee.{Float}
-use Rattle.number.specs.Ops.{if_then_else_}
+use Rattle.floats.specs.Ops.{if_then_else_}
 use Rattle.file.specs.Command.{decoded, enc}
 use Rattle.course.specs.Course.{courseFit, courseMost, lentCourse}
 use Rattle.laps.specs.File.{Lap, lapsOf}
@@ -17,13 +17,13 @@ fitLap tol l = map enc (courseFit tol (map decoded l))
 unfoldable pub mostLap : Float → Lap → ℕ
 mostLap tol l = courseMost tol (map decoded l)
 
-unfoldable pub mostOf : Float → List Lap → ℕ
-mostOf tol [] = 0
-mostOf tol (l ∷ ls) = mostLap tol l + mostOf tol ls
+unfoldable pub lapsMost : Float → List Lap → ℕ
+lapsMost tol [] = 0
+lapsMost tol (l ∷ ls) = mostLap tol l + lapsMost tol ls
 
 -- "A file needs 8 + 8 × L + 73 × most bytes"
-abbrev pub sizeOf : ℕ → ℕ → ℕ
-sizeOf laps most = 8 + 8 * laps + 73 * most
+abbrev pub fileSize : ℕ → ℕ → ℕ
+fileSize laps most = 8 + 8 * laps + 73 * most
 
 -- the fit of the new commands, lent as the kinds ks and the numbers ns
 unfoldable pub fitNew : Float → List ℕ → List Float → Lap

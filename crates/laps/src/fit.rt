@@ -10,21 +10,21 @@ use course::course::weight;
 use file::command::read_command;
 use file::command::read_commands;
 use file::command::write_commands;
-use types::domain::is_within;
-use types::types::Answer;
-use types::types::Point3D;
+use geo::domain::is_within;
+use geo::types::Answer;
+use geo::types::Point3D;
 ghost use mathlib.Core.Path.{_≡_};
 ghost use mathlib.Core.Bool.{true};
 ghost use mathlib.Core.List.{List, map, _++_};
 ghost use Prim.Native.Nat.{ℕ, _+_, _*_, _≤_};
 ghost use lib.ListN.{length, drop};
-ghost use Rattle.number.specs.Ops.{_≺_, +0};
-ghost use Rattle.types.specs.Outcome.{refusal, Wrote};
+ghost use Rattle.floats.specs.Ops.{_≺_, +0};
+ghost use Rattle.geo.specs.Outcome.{refusal, Wrote};
 ghost use Rattle.file.specs.Command.{commandsAt};
 ghost use Rattle.course.specs.Course.{courseMost, lentCourse, cap};
 ghost use Rattle.laps.specs.File.{lapCount, lapsOf, encode, tableOk, PutLap};
-ghost use Rattle.laps.specs.Fit.{fitLap, mostLap, mostOf, sizeOf, fitNew};
-ghost use Rattle.laps.specs.Calls.{fitRows, fitFile};
+ghost use Rattle.laps.specs.Fit.{fitLap, mostLap, lapsMost, fileSize, fitNew};
+ghost use Rattle.laps.specs.Calls.{fileFitRows, fitFile};
 
 // What the n commands from `at` on could become at most.
 fn most_lap(s: &[u8], at: usize, n: usize, tolerance: f64) -> usize
@@ -47,7 +47,7 @@ fn most_lap(s: &[u8], at: usize, n: usize, tolerance: f64) -> usize
 // What the laps of a file could become at most.
 pub fn most_of(s: &[u8], tolerance: f64) -> usize
     requires { ⌜ (8 ≤ length (now s)) × (tableOk (now s) ≡ true) ⌝ }
-    ensures { λ r. ⌜ r ≡ cap (mostOf tolerance (lapsOf (now (s .entry)))) ⌝ }
+    ensures { λ r. ⌜ r ≡ cap (lapsMost tolerance (lapsOf (now (s .entry)))) ⌝ }
 {
     let l = lap_count(s);
     let mut at = 8 + 8 * l;
@@ -134,7 +134,7 @@ fn fit_lap(
 
 // Writes the fit of a file, the mark first, and returns how many bytes it has.
 fn fit_laps(s: &[u8], tolerance: f64, out: &mut [u8]) -> usize
-    requires { ⌜ ((+0 ≺ tolerance) ≡ true) × (8 ≤ length (now s)) × (tableOk (now s) ≡ true) × (mostOf tolerance (lapsOf (now s)) ≤ 800) × (sizeOf (lapCount (now s)) (mostOf tolerance (lapsOf (now s))) ≤ length (now out)) ⌝ }
+    requires { ⌜ ((+0 ≺ tolerance) ≡ true) × (8 ≤ length (now s)) × (tableOk (now s) ≡ true) × (lapsMost tolerance (lapsOf (now s)) ≤ 800) × (fileSize (lapCount (now s)) (lapsMost tolerance (lapsOf (now s))) ≤ length (now out)) ⌝ }
     ensures { λ r. ⌜ (r ≡ length (encode (map (fitLap tolerance) (lapsOf (now (s .entry)))))) × (now (out .exit) ≡ encode (map (fitLap tolerance) (lapsOf (now (s .entry)))) ++ drop (length (encode (map (fitLap tolerance) (lapsOf (now (s .entry)))))) (now (out .entry))) ⌝ }
 {
     // filled here once, and lent for each lap
@@ -173,7 +173,7 @@ fn fit_laps(s: &[u8], tolerance: f64, out: &mut [u8]) -> usize
 
 // The number of the first row that the fit of a file falls under, or 0.
 fn check_fit(s: &[u8], tolerance: f64, room: usize) -> u32
-    ensures { λ r. ⌜ r ≡ refusal (fitRows (now (s .entry)) tolerance room) ⌝ }
+    ensures { λ r. ⌜ r ≡ refusal (fileFitRows (now (s .entry)) tolerance room) ⌝ }
 {
     let refused = check_file(s);
     if refused != 0 {

@@ -2,18 +2,18 @@
 use file::bytes::put_u32;
 use file::command::is_well_formed;
 use file::command::read_command;
+use geo::domain::command_in;
 use records::half_at;
-use types::domain::command_in;
 ghost use mathlib.Core.Path.{_≡_};
 ghost use mathlib.Core.Bool.{true};
 ghost use mathlib.Core.List.{_++_};
 ghost use Prim.Native.Nat.{_+_, _*_, _<_, _≤_};
 ghost use lib.ListN.{length};
 ghost use lib.Seq.{sets};
-ghost use Rattle.types.specs.Outcome.{refusal};
+ghost use Rattle.geo.specs.Outcome.{refusal};
 ghost use Rattle.file.specs.Bytes.{u32Bytes};
 ghost use Rattle.file.specs.Command.{commandsAt};
-ghost use Rattle.laps.specs.File.{lapCount, offsetAt, countAt, lapsOf, mark, short, big, marked, walk, tableOk, placed, formOk, holds, lapOk, lapsOk};
+ghost use Rattle.laps.specs.File.{lapCount, offsetAt, countAt, lapsOf, mark, short, big, hasMark, walk, tableOk, placed, formOk, holds, lapOk, lapsOk};
 ghost use Rattle.laps.specs.Calls.{fileRows};
 
 // The lap count.
@@ -61,7 +61,7 @@ pub fn too_big(s: &[u8]) -> bool
 // Whether the file starts with "LAPS".
 fn has_mark(s: &[u8]) -> bool
     requires { ⌜ 8 ≤ length (now s) ⌝ }
-    ensures { λ r. ⌜ r ≡ marked (now (s .entry)) ⌝ }
+    ensures { λ r. ⌜ r ≡ hasMark (now (s .entry)) ⌝ }
 {
     if s[0] != 0x4c {
         return false;

@@ -10,21 +10,21 @@ use crate::lap_file::put_head;
 use crate::lap_file::too_big;
 use crate::lap_file::too_short;
 use course::course::course_most;
-use types::domain::commands_formed;
-use types::domain::commands_in;
-use types::domain::is_within;
-use types::types::Answer;
+use geo::domain::commands_formed;
+use geo::domain::commands_in;
+use geo::domain::is_within;
+use geo::types::Answer;
 ghost use mathlib.Core.Path.{_≡_};
 ghost use mathlib.Core.Bool.{true, false};
 ghost use mathlib.Core.List.{List, _++_};
 ghost use Prim.Native.Nat.{ℕ, _+_, _*_, _≤_};
 ghost use lib.ListN.{length, drop};
-ghost use Rattle.number.specs.Ops.{_≺_, +0};
-ghost use Rattle.types.specs.Outcome.{refusal, Wrote};
+ghost use Rattle.floats.specs.Ops.{_≺_, +0};
+ghost use Rattle.geo.specs.Outcome.{refusal, Wrote};
 ghost use Rattle.file.specs.Command.{commandsAt};
 ghost use Rattle.course.specs.Course.{courseMost, lentCourse};
 ghost use Rattle.laps.specs.File.{lapCount, lapsOf, encode, tableOk, PutLap};
-ghost use Rattle.laps.specs.Fit.{fitNew, chosen, swap, otherOf, others, mostNew, sizeOf};
+ghost use Rattle.laps.specs.Fit.{fitNew, chosen, swap, otherOf, others, mostNew, fileSize};
 ghost use Rattle.laps.specs.Calls.{row1, row2, row3, movePlaced, row4, row5, row7, newRows, replaceRows, replaceLap};
 
 // Copies n commands as they stand, and returns n.
@@ -91,7 +91,7 @@ fn replace_laps(
     tolerance: f64,
     out: &mut [u8],
 ) -> usize
-    requires { ⌜ ((+0 ≺ tolerance) ≡ true) × (9 * length (now kinds) ≤ length (now nums)) × (8 ≤ length (now fitted)) × (tableOk (now fitted) ≡ true) × (mostNew tolerance (now kinds) (now nums) k (now fitted) ≤ 800) × (sizeOf (lapCount (now fitted)) (mostNew tolerance (now kinds) (now nums) k (now fitted)) ≤ length (now out)) ⌝ }
+    requires { ⌜ ((+0 ≺ tolerance) ≡ true) × (9 * length (now kinds) ≤ length (now nums)) × (8 ≤ length (now fitted)) × (tableOk (now fitted) ≡ true) × (mostNew tolerance (now kinds) (now nums) k (now fitted) ≤ 800) × (fileSize (lapCount (now fitted)) (mostNew tolerance (now kinds) (now nums) k (now fitted)) ≤ length (now out)) ⌝ }
     ensures { λ r. ⌜ (r ≡ length (encode (swap k (fitNew tolerance (now (kinds .entry)) (now (nums .entry))) 1 (lapsOf (now (fitted .entry)))))) × (now (out .exit) ≡ encode (swap k (fitNew tolerance (now (kinds .entry)) (now (nums .entry))) 1 (lapsOf (now (fitted .entry)))) ++ drop (length (encode (swap k (fitNew tolerance (now (kinds .entry)) (now (nums .entry))) 1 (lapsOf (now (fitted .entry)))))) (now (out .entry))) ⌝ }
 {
     let l = lap_count(fitted);

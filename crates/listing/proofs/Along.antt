@@ -6,9 +6,9 @@ use mathlib.Core.List.{List, [], _∷_}
 use native.Mathlib.Omega.{arith}
 use lib.ListN.{length, take}
 use lib.Ieee.{Float}
-use Rattle.number.specs.Ops.{_≺_, +0}
-use Rattle.types.specs.declared.types.Command.{Command}
-use Rattle.types.specs.Lent.{triple, origin, commandAt, commandsFrom}
+use Rattle.floats.specs.Ops.{_≺_, +0}
+use Rattle.geo.specs.declared.types.Command.{Command}
+use Rattle.geo.specs.Lent.{triple, origin, commandAt, commandsFrom}
 use Rattle.course.specs.declared.course.Walk.{Walk}
 use Rattle.course.specs.Course.{joined, courseParts, courseMost, lentCourse}
 use Rattle.course.specs.Walks.{underWay}

@@ -7,9 +7,9 @@ use mathlib.Core.List.{List, []}
 use native.Mathlib.Omega.{arith}
 use lib.ListN.{length, take}
 use lib.Ieee.{Float}
-use Rattle.number.specs.Ops.{_≺_, +0}
-use Rattle.number.proofs.Order.{lt-or-ge}
-use Rattle.types.specs.Lent.{pointAt, triple, flat}
+use Rattle.floats.specs.Ops.{_≺_, +0}
+use Rattle.floats.proofs.Order.{lt-or-ge}
+use Rattle.geo.specs.Lent.{pointAt, triple, flat}
 use Rattle.simplify.specs.Flags.{Copied}
 use Rattle.fitting.specs.Pieces.{piecesBy}
 use Rattle.fitting.specs.Commands.{keptOf}

@@ -6,9 +6,9 @@ use mathlib.Core.List.{List, [], _∷_, _++_}
 use native.Mathlib.Omega.{arith}
 use lib.ListN.{length, length-append}
 use lib.Ieee.{Float}
-use Rattle.number.specs.Ops.{_≺_, +0}
-use Rattle.types.specs.Lent.{flat}
-use Rattle.types.proofs.Flat.{flat-append, flat-one}
+use Rattle.floats.specs.Ops.{_≺_, +0}
+use Rattle.geo.specs.Lent.{flat}
+use Rattle.geo.proofs.Flat.{flat-append, flat-one}
 use Rattle.course.specs.Parts.{Part, chain, kept, partMost, mostOf}
 use Rattle.listing.specs.Rows.{chainRows, partRows, rowsOf}
 use Rattle.listing.proofs.Chain.{rows-few}

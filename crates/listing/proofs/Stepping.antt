@@ -5,15 +5,16 @@ use mathlib.Core.List.{List}
 use native.Mathlib.Omega.{arith}
 use lib.ListN.{length, length-append}
 use lib.Ieee.{Float}
-use Rattle.number.specs.Ops.{_⊗_}
-use Rattle.types.specs.declared.types.Point3D.{Point3D}
-use Rattle.types.specs.declared.types.Command.{Command}
-use Rattle.types.specs.declared.types.Command.the-variants.{Move, Line, Arc, Bezier}
-use Rattle.types.specs.Lent.{triple, flat}
+use Rattle.floats.specs.Ops.{_⊗_}
+use Rattle.geo.specs.declared.types.Point3D.{Point3D}
+use Rattle.geo.specs.declared.types.Command.{Command}
+use Rattle.geo.specs.declared.types.Command.the-variants.{Move, Line, Arc, Bezier}
+use Rattle.geo.specs.Lent.{triple, flat}
 use Rattle.bezier.specs.Linearize.{stepEnd, paramSteps}
 use Rattle.course.specs.declared.course.Walk.{Walk}
 use Rattle.course.specs.Parts.{Join, adds, ends, closed, carried, partMost, mostOf}
-use Rattle.course.specs.Course.{quarter, joined}
+use Rattle.floats.specs.Limits.{quarter}
+use Rattle.course.specs.Course.{joined}
 use Rattle.course.specs.Walks.{underWay}
 use Rattle.course.proofs.Walking.{length-front}
 use Rattle.listing.specs.Walks.{RowRoom, Listed}

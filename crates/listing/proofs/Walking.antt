@@ -8,10 +8,10 @@ use native.Mathlib.Omega.{arith}
 use lib.ListN.{length, set, length-append}
 use lib.Seq.{sets, length-sets}
 use lib.Ieee.{Float}
-use Rattle.number.specs.Ops.{_≺_, +0}
-use Rattle.types.specs.declared.types.Point3D.{Point3D}
-use Rattle.types.specs.declared.types.Command.{Command}
-use Rattle.types.specs.Lent.{triple, flat, endOf, kindOf}
+use Rattle.floats.specs.Ops.{_≺_, +0}
+use Rattle.geo.specs.declared.types.Point3D.{Point3D}
+use Rattle.geo.specs.declared.types.Command.{Command}
+use Rattle.geo.specs.Lent.{triple, flat, endOf, kindOf}
 use Rattle.course.specs.declared.course.Walk.{Walk}
 use Rattle.course.specs.Parts.{Part, Join, adds, ends, closed, carried, partsFrom, mostOf}
 use Rattle.course.specs.Course.{joined}

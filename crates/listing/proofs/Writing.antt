@@ -5,7 +5,7 @@ use mathlib.Core.List.{List, [], _∷_, _++_, map-append}
 use native.Mathlib.Omega.{arith}
 use lib.ListN.{length, set, length-append, length-map}
 use lib.Seq.{sets, length-sets}
-use Rattle.types.proofs.Stores.{sets-append}
+use Rattle.geo.proofs.Stores.{sets-append}
 use Rattle.listing.specs.Rows.{Row, kindsOf, stepsIn, RowsPlaced}
 
 pub kinds-append : (xs ys : List Row) → kindsOf (xs ++ ys) ≡ kindsOf xs ++ kindsOf ys

@@ -6,9 +6,9 @@ use mathlib.Core.List.{List, [], _∷_, map}
 use lib.ListN.{length}
 use lib.Seq.{sets}
 use lib.Ieee.{Float}
-use Rattle.types.specs.declared.types.Point3D.{Point3D}
-use Rattle.types.specs.declared.types.Command.{Command}
-use Rattle.types.specs.Lent.{flat, kindOf}
+use Rattle.geo.specs.declared.types.Point3D.{Point3D}
+use Rattle.geo.specs.declared.types.Command.{Command}
+use Rattle.geo.specs.Lent.{flat, kindOf}
 use Rattle.simplify.specs.Measure.{lineSq}
 use Rattle.fitting.specs.Pieces.{Shape, line, arc, Piece, piecesIn}
 use Rattle.course.specs.Parts.{Part, chain, kept}

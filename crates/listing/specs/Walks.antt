@@ -5,8 +5,8 @@ use mathlib.Core.List.{List}
 use lib.ListN.{length}
 use lib.Seq.{sets}
 use lib.Ieee.{Float}
-use Rattle.types.specs.declared.types.Command.{Command}
-use Rattle.types.specs.Lent.{endOf}
+use Rattle.geo.specs.declared.types.Command.{Command}
+use Rattle.geo.specs.Lent.{endOf}
 use Rattle.course.specs.declared.course.Walk.{Walk}
 use Rattle.course.specs.Parts.{Join, closed, carried, mostOf}
 use Rattle.course.specs.Walks.{underWay}

@@ -4,10 +4,11 @@ use mathlib.Core.Bool.{Bool, _&&_}
 use mathlib.Core.List.{List}
 use lib.Dec.{eqb, leb}
 use lib.ListN.{length}
-use lib.Ieee.{Float, binary64, ofBits}
-use Rattle.number.specs.Ops.{if_then_else_}
-use Rattle.types.specs.declared.types.Answer.{Answer}
-use Rattle.types.specs.declared.types.Answer.the-variants.{Written, Refused}
+use lib.Ieee.{Float}
+use Rattle.floats.specs.Limits.{untouched}
+use Rattle.floats.specs.Ops.{if_then_else_}
+use Rattle.geo.specs.declared.types.Answer.{Answer}
+use Rattle.geo.specs.declared.types.Answer.the-variants.{Written, Refused}
 use Rattle.records.specs.Words.{wordAt, numbersWritten, kindsWritten, numbersLeft, bytesLeft}
 
 -- ---- its size
@@ -42,14 +43,10 @@ unfoldable pub isAnswered : Answer → ℕ → ℕ → Bool
 isAnswered (Written n) number count = eqb number 0 && eqb n count
 isAnswered (Refused n) number count = eqb n number
 
--- what stands in a lent output before a call: -123456.789
-abbrev pub before : Float
-before = ofBits binary64 0xc0fe_240c_9fbe_76c9
-
 -- the record's numbers from `at` on, n, and its kinds behind them, m, stand at the front of both outputs; all behind is left
 unfoldable pub standAtFront : List ℕ → ℕ → ℕ → ℕ → List Float → List ℕ → Bool
 standAtFront s at n m out kinds =
-    numbersWritten s at n out && kindsWritten s (at + 8 * n) m kinds && numbersLeft out n (length out) before && bytesLeft kinds m (length kinds) 200
+    numbersWritten s at n out && kindsWritten s (at + 8 * n) m kinds && numbersLeft out n (length out) untouched && bytesLeft kinds m (length kinds) 200
 
 unfoldable pub isOutput : List ℕ → List Float → List ℕ → Bool
 isOutput s out kinds = standAtFront s (80 + 8 * (wordAt s 16 + wordAt s 24)) (wordAt s 64) (wordAt s 72) out kinds

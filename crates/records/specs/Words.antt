@@ -5,7 +5,7 @@ use mathlib.Core.List.{List, [], _∷_}
 use lib.Dec.{eqb}
 use lib.ListN.{getD}
 use lib.Ieee.{Float, nan, binary64, eq, isNan, nanBits, ofBits, toBits}
-use Rattle.number.specs.Ops.{if_then_else_}
+use Rattle.floats.specs.Ops.{if_then_else_}
 
 -- four bytes, the lowest first
 unfoldable pub halfAt : List ℕ → ℕ → ℕ

@@ -5,14 +5,14 @@ use bezier::bezier::BezierSplit;
 use bezier::bezier::FittedCubic;
 use bezier::bezier::Flatness;
 use bezier::bezier::Tolerance;
-use types::lent::pair_at;
-use types::lent::point_at;
-use types::lent::put_pair;
-use types::lent::put_point;
-use types::point::Midpoint;
-use types::types::Answer;
-use types::types::CubicBezier;
-use types::types::Point;
+use geo::lent::pair_at;
+use geo::lent::point_at;
+use geo::lent::put_pair;
+use geo::lent::put_point;
+use geo::point::Midpoint;
+use geo::types::Answer;
+use geo::types::CubicBezier;
+use geo::types::Point;
 ghost use Prim.Native.Nat.{_+_, _≤_};
 ghost use lib.ListN.{length};
 
@@ -70,7 +70,7 @@ fn put_curve(out: &mut [f64], at: usize, q: CubicBezier)
 fn get_midpoint_3d(numbers: &[f64], out: &mut [f64]) -> Reply
     requires { ⌜ (6 ≤ length (now numbers)) × (3 ≤ length (now out)) ⌝ }
 {
-    let m = types::point::get_midpoint_3d(point_at(numbers, 0), point_at(numbers, 1));
+    let m = geo::point::get_midpoint_3d(point_at(numbers, 0), point_at(numbers, 1));
     match m {
         Midpoint::At(p) => {
             put_point(out, 0, p);

@@ -4,6 +4,7 @@
 // prints how many were compared, and how many differ; a damaged one differs and ends the run.
 use course::course::fit_arcs;
 use course::course::optimize_path_from_array;
+use geo::types::Answer;
 use libc::STDIN_FILENO;
 use libc::STDOUT_FILENO;
 use recorded_calls::BEFORE;
@@ -16,7 +17,6 @@ use records::float_of;
 use records::read_kinds;
 use records::read_numbers;
 use records::word_at;
-use types::types::Answer;
 ghost use mathlib.Core.Path.{_≡_};
 ghost use Prim.Native.Nat.{_≤_};
 ghost use lib.ListN.{length};

@@ -5,10 +5,10 @@ use circle::circle::FittedCircle;
 use circle::circle::Projected;
 use fitting::fitting::ArcDeviation;
 use fitting::fitting::LineDeviation;
-use types::lent::point_at;
-use types::lent::put_pair;
-use types::types::Answer;
-use types::types::Point;
+use geo::lent::point_at;
+use geo::lent::put_pair;
+use geo::types::Answer;
+use geo::types::Point;
 ghost use Prim.Native.Nat.{_≤_};
 ghost use lib.ListN.{length};
 

@@ -10,7 +10,7 @@ ghost use lib.ListN.{length};
 
 // Whether the root of the number has the expected pattern.
 fn is_same(number: u64, expected: u64) -> bool {
-    has_pattern(number::root::sqrt(float_of(number)), expected)
+    has_pattern(floats::root::sqrt(float_of(number)), expected)
 }
 
 // How many of the first n records of s have another root.

@@ -1,6 +1,7 @@
 // Replays recorded calls of thinning, and compares each with what the given Rust answered. Standard input has the records,
 // up to 1,000,000 bytes; oracle/src/geometry/list_simplify.rs says how they are laid out. The program prints how many were
 // compared, and how many differ; a damaged one differs and ends the run.
+use geo::types::Answer;
 use libc::STDIN_FILENO;
 use libc::STDOUT_FILENO;
 use recorded_calls::BEFORE;
@@ -13,7 +14,6 @@ use records::float_of;
 use records::read_kinds;
 use records::read_numbers;
 use records::word_at;
-use types::types::Answer;
 ghost use mathlib.Core.Path.{_≡_};
 ghost use Prim.Native.Nat.{_≤_};
 ghost use lib.ListN.{length};

@@ -9,17 +9,17 @@ use native.Mathlib.Omega.{arith}
 use borrow.Author.Tests.{ltb-false, eqb-true, not-false}
 use lib.ListN.{length, length-map}
 use lib.Ieee.{Float}
-use Rattle.number.specs.Ops.{_⊗_, _≺_, +0}
-use Rattle.number.proofs.Order.{either}
-use Rattle.number.proofs.Unsigned.{square-not-negative}
-use Rattle.types.specs.declared.types.Command.{Command}
-use Rattle.types.specs.declared.types.Answer.the-variants.{Written}
-use Rattle.types.specs.Outcome.{refusal, unless, Wrote}
-use Rattle.types.specs.Lent.{flat, commandAt, numbersOf}
-use Rattle.types.specs.Commands.{WroteCommands}
-use Rattle.types.proofs.Rows.{row-passed}
-use Rattle.types.proofs.Flat.{flat-length}
-use Rattle.types.proofs.Outcomes.{wrote-given, commands-given, nine}
+use Rattle.floats.specs.Ops.{_⊗_, _≺_, +0}
+use Rattle.floats.proofs.Order.{either}
+use Rattle.floats.proofs.Unsigned.{square-not-negative}
+use Rattle.geo.specs.declared.types.Command.{Command}
+use Rattle.geo.specs.declared.types.Answer.the-variants.{Written}
+use Rattle.geo.specs.Outcome.{refusal, unless, Wrote}
+use Rattle.geo.specs.Lent.{flat, commandAt, numbersOf}
+use Rattle.geo.specs.Commands.{WroteCommands}
+use Rattle.geo.proofs.Rows.{row-passed}
+use Rattle.geo.proofs.Flat.{flat-length}
+use Rattle.geo.proofs.Outcomes.{wrote-given, commands-given, nine}
 use Rattle.simplify.specs.Measure.{Measure}
 use Rattle.simplify.specs.Thin.{thinned, thinnedPoints}
 use Rattle.simplify.specs.Data.{isMove, among, commandSq, select, keptCommands, thinnedCommands}

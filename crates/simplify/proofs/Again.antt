@@ -9,8 +9,8 @@ use native.Mathlib.Nat.{eq-or-lt-of-le}
 use lib.ListN.{length, getD, drop, length-append, length-map}
 use lib.Seq.{getD-drop, drop-drop}
 use lib.Ieee.{Float, isNan}
-use Rattle.number.specs.Ops.{_≺_, +0}
-use Rattle.number.proofs.Order.{either}
+use Rattle.floats.specs.Ops.{_≺_, +0}
+use Rattle.floats.proofs.Order.{either}
 use Rattle.simplify.specs.declared.simplify.Farthest.{Farthest}
 use Rattle.simplify.specs.Measure.{Measure}
 use Rattle.simplify.specs.Farthest.{farthestIn}

@@ -8,9 +8,9 @@ use native.Mathlib.Nat.{mul-add, mul-one, mul-zero, one-mul}
 use lib.ListN.{length, set, length-map}
 use lib.Seq.{sets}
 use lib.Ieee.{Float}
-use Rattle.types.specs.declared.types.Command.{Command}
-use Rattle.types.specs.Lent.{flat, kindOf, numbersOf}
-use Rattle.types.proofs.Stores.{sets-append}
+use Rattle.geo.specs.declared.types.Command.{Command}
+use Rattle.geo.specs.Lent.{flat, kindOf, numbersOf}
+use Rattle.geo.proofs.Stores.{sets-append}
 use Rattle.simplify.specs.Data.{select}
 use Rattle.simplify.specs.Flags.{Copied, CopiedCommands}
 

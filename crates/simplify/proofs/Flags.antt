@@ -12,10 +12,10 @@ use lib.Seq.{set-set, getD-set-same, getD-set-other}
 use lib.Arith.{lt-of-le-ne}
 use lib.Dec.{eqb}
 use lib.Ieee.{Float}
-use Rattle.number.specs.Ops.{_≺_, +0}
-use Rattle.number.proofs.Order.{either}
-use Rattle.types.specs.declared.types.Command.{Command}
-use Rattle.types.specs.Lent.{flat}
+use Rattle.floats.specs.Ops.{_≺_, +0}
+use Rattle.floats.proofs.Order.{either}
+use Rattle.geo.specs.declared.types.Command.{Command}
+use Rattle.geo.specs.Lent.{flat}
 use Rattle.simplify.specs.declared.simplify.Farthest.{Farthest}
 use Rattle.simplify.specs.Measure.{Measure}
 use Rattle.simplify.specs.Farthest.{farthestIn}

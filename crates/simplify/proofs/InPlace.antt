@@ -7,8 +7,8 @@ use native.Mathlib.Omega.{arith}
 use lib.ListN.{length, getD, set}
 use lib.Seq.{sets, getD-set-other}
 use lib.Ieee.{Float, nan}
-use Rattle.types.specs.declared.types.Point3D.{Point3D}
-use Rattle.types.specs.Lent.{triple, pointAt}
+use Rattle.geo.specs.declared.types.Point3D.{Point3D}
+use Rattle.geo.specs.Lent.{triple, pointAt}
 use Rattle.simplify.specs.Data.{select}
 use Rattle.simplify.specs.Flags.{Copied}
 use Rattle.simplify.proofs.Copy.{Copying, copy-start, copy-take, copy-skip, copy-done}

@@ -7,9 +7,9 @@ use mathlib.Core.List.{List, [], _∷_, _++_}
 use native.Mathlib.Omega.{arith}
 use native.Mathlib.Nat.{eq-or-lt-of-le}
 use lib.Ieee.{Float, isNan, ofBits}
-use Rattle.number.specs.Ops.{_≺_, +0}
-use Rattle.number.proofs.Order.{either, clash, lt-or-ge, lt-trans, lt-nan, lt-right}
-use Rattle.number.proofs.Unsigned.{not-above}
+use Rattle.floats.specs.Ops.{_≺_, +0}
+use Rattle.floats.proofs.Order.{either, clash, lt-or-ge, lt-trans, lt-nan, lt-right}
+use Rattle.floats.proofs.Unsigned.{not-above}
 use Rattle.simplify.specs.declared.simplify.Farthest.{Farthest}
 use Rattle.simplify.specs.Measure.{Measure}
 use Rattle.simplify.specs.Farthest.{farthestIn}

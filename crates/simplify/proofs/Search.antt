@@ -7,19 +7,19 @@ use native.Mathlib.Omega.{arith}
 use borrow.Author.Tests.{lt-ltb}
 use lib.Ieee.{Float, nan, inf, fin, up, down, div, lt, neg, isNan, ofBits}
 use lib.Ieee.Fits.{down-pos}
-use Rattle.number.specs.Ops.{_⊖_, _⊗_, _⊘_, _≺_, +0, one}
-use Rattle.number.proofs.Order.{either, clash, lt-gap, lt-asym, lt-trans, lt-nan, lt-right}
-use Rattle.number.proofs.Unsigned.{Unsigned, square-unsigned, sum-unsigned, not-above, quotient-not-above}
-use Rattle.types.specs.declared.types.Point3D.{Point3D}
-use Rattle.types.specs.declared.types.Command.{Command}
-use Rattle.types.specs.Vector.{perpDot}
-use Rattle.types.specs.Lent.{endOf}
+use Rattle.floats.specs.Ops.{_⊖_, _⊗_, _⊘_, _≺_, +0, one}
+use Rattle.floats.proofs.Order.{either, clash, lt-gap, lt-asym, lt-trans, lt-nan, lt-right}
+use Rattle.floats.proofs.Unsigned.{Unsigned, square-unsigned, sum-unsigned, not-above, quotient-not-above}
+use Rattle.geo.specs.declared.types.Point3D.{Point3D}
+use Rattle.geo.specs.declared.types.Command.{Command}
+use Rattle.geo.specs.Vector.{perpDot}
+use Rattle.geo.specs.Lent.{endOf}
 use Rattle.simplify.specs.declared.simplify.Chord.{Chord}
 use Rattle.simplify.specs.declared.simplify.Farthest.{Farthest}
 use Rattle.simplify.specs.declared.simplify.Search.{Search}
 use Rattle.simplify.specs.Measure.{degenerate, toLine}
 use Rattle.simplify.specs.Farthest.{farther}
-use Rattle.simplify.specs.Search.{spreadOf, scaled, begun, Sound}
+use Rattle.simplify.specs.Search.{spreadOf, squareOfSpread, begun, Sound}
 use Rattle.simplify.specs.Data.{isMove, toCommand}
 use Rattle.simplify.proofs.First.{farther-yes, farther-no}
 
@@ -29,8 +29,8 @@ below-itself x = ⊎-elim (λ t. lt-asym x x t) (λ t. t) (either (x ≺ x))
 
 -- ---- spreads
 -- the squared distance is the spread, scaled
-scaled-is : (c : Chord) (p : Point3D) → toLine c p ≡ scaled c (spreadOf c p)
-unfolding toLine scaled spreadOf
+scaled-is : (c : Chord) (p : Point3D) → toLine c p ≡ squareOfSpread c (spreadOf c p)
+unfolding toLine squareOfSpread spreadOf
 scaled-is c p = ⊎-elim (λ h. rw h) (λ h. rw h) (either (c .square ≺ degenerate))
 
 spread-unsigned : (c : Chord) (p : Point3D) → Unsigned (spreadOf c p)
@@ -57,17 +57,17 @@ unfolding lt ofBits
 zero-below = refl
 
 -- w is a spread not above v; where v, scaled, is not above b, nor is w
-scaled-not-above : (c : Chord) (b v w : Float) → Unsigned v → Unsigned w → isNan v ≡ false → (v ≺ w) ≡ false → (b ≺ +0) ≡ false → (b ≺ scaled c v) ≡ false
-    → (b ≺ scaled c w) ≡ false
-unfolding scaled
+scaled-not-above : (c : Chord) (b v w : Float) → Unsigned v → Unsigned w → isNan v ≡ false → (v ≺ w) ≡ false → (b ≺ +0) ≡ false → (b ≺ squareOfSpread c v) ≡ false
+    → (b ≺ squareOfSpread c w) ≡ false
+unfolding squareOfSpread
 scaled-not-above c b v w p q n h z =
     ⊎-elim (λ t. rw t (λ k. not-above b v w n k h))
     (λ t. rw t (λ k. ⊎-elim (λ m. lt-nan b (w ⊘ c .square) (nan-quotient w (c .square) m))
     (λ m. ⊎-elim (λ l. quotient-not-above b (c .square) v w l p q n h z k) (λ l. clash (sym t ∙ l)) (lt-gap +0 (c .square) degenerate m zero-below))
     (either (isNan (c .square))))) (either (c .square ≺ degenerate))
 
-scaled-nan : (c : Chord) (v : Float) → isNan v ≡ true → isNan (scaled c v) ≡ true
-unfolding scaled isNan div
+scaled-nan : (c : Chord) (v : Float) → isNan v ≡ true → isNan (squareOfSpread c v) ≡ true
+unfolding squareOfSpread isNan div
 scaled-nan c nan h = ⊎-elim (λ t. rw t) (λ t. rw t) (either (c .square ≺ degenerate))
 scaled-nan c (inf s) h = clash h
 scaled-nan c (fin s m e) h = clash h
@@ -108,10 +108,10 @@ module _ (c : Chord) where
     look-past w e h = (sym (farther-no (toLine c p) i (s .best) (v .covers p (rw e at h))), v)
 
     -- one that is measured: d is its distance
-    pub look-at : (w d : Float) (best : Farthest) → w ≡ spreadOf c p → (s .top ≺ w) ≡ true → d ≡ scaled c w → best ≡ farther d i (s .best)
+    pub look-at : (w d : Float) (best : Farthest) → w ≡ spreadOf c p → (s .top ≺ w) ≡ true → d ≡ squareOfSpread c w → best ≡ farther d i (s .best)
         → (best ≡ farther (toLine c p) i (s .best)) × Sound c (record { top = w; best = best })
     look-at w d best e h ed eb =
-        let g : d ≡ toLine c p = ed ∙ ap (scaled c) e ∙ sym (scaled-is c p) in
+        let g : d ≡ toLine c p = ed ∙ ap (squareOfSpread c) e ∙ sym (scaled-is c p) in
         let z = subst (λ (b : Farthest). (b .square ≺ +0) ≡ false) (sym eb) (still-positive d i (s .best) (v .positive)) in
         let k = subst (λ (b : Farthest). (b .square ≺ d) ≡ false) (sym eb) (not-below-new d i (s .best)) in (
           eb ∙ ap (λ (x : Float). farther x i (s .best)) g,

@@ -8,10 +8,10 @@ use mathlib.Core.List.{List, [], _∷_, _++_}
 use native.Mathlib.Omega.{arith}
 use lib.ListN.{length, getD}
 use lib.Ieee.{Float}
-use Rattle.number.specs.Ops.{_⊗_, _≺_, +0}
-use Rattle.number.proofs.Order.{either, clash}
-use Rattle.number.proofs.Unsigned.{square-not-negative}
-use Rattle.types.specs.declared.types.Command.{Command}
+use Rattle.floats.specs.Ops.{_⊗_, _≺_, +0}
+use Rattle.floats.proofs.Order.{either, clash}
+use Rattle.floats.proofs.Unsigned.{square-not-negative}
+use Rattle.geo.specs.declared.types.Command.{Command}
 use Rattle.simplify.specs.Measure.{Measure}
 use Rattle.simplify.specs.Farthest.{farthestIn}
 use Rattle.simplify.specs.Thin.{cutAt, keptIn, thinned, thinnedPoints, thinList}

@@ -4,10 +4,10 @@ use mathlib.Core.Bool.{Bool, true, false, _||_}
 use mathlib.Core.List.{List, [], _∷_, map}
 use lib.Dec.{eqb}
 use lib.Ieee.{Float}
-use Rattle.number.specs.Ops.{+0, if_then_else_}
-use Rattle.types.specs.declared.types.Command.{Command}
-use Rattle.types.specs.declared.types.Command.the-variants.{Move, Line, Arc, Bezier}
-use Rattle.types.specs.Lent.{endOf}
+use Rattle.floats.specs.Ops.{+0, if_then_else_}
+use Rattle.geo.specs.declared.types.Command.{Command}
+use Rattle.geo.specs.declared.types.Command.the-variants.{Move, Line, Arc, Bezier}
+use Rattle.geo.specs.Lent.{endOf}
 use Rattle.simplify.specs.declared.simplify.Chord.{Chord}
 use Rattle.simplify.specs.Measure.{Measure, chordOf, toLine}
 use Rattle.simplify.specs.Thin.{thinned}

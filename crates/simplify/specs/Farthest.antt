@@ -1,7 +1,7 @@
 -- The first farthest point of a range. Definitions only.
 use Prim.Native.Nat.{ℕ, zero, suc, _+_, _-_}
 use lib.Ieee.{Float}
-use Rattle.number.specs.Ops.{_≺_, +0, if_then_else_}
+use Rattle.floats.specs.Ops.{_≺_, +0, if_then_else_}
 use Rattle.simplify.specs.declared.simplify.Farthest.{Farthest}
 use Rattle.simplify.specs.Measure.{Measure}
 

@@ -1,9 +1,10 @@
 -- How far a point lies from the chord of a range: document 01's measure, in x and y. Definitions only.
-use lib.Ieee.{Float, binary64, ofBits}
-use Rattle.number.specs.Ops.{_⊖_, _⊗_, _⊘_, _≺_, +0, if_then_else_}
-use Rattle.types.specs.declared.types.Point.{Point}
-use Rattle.types.specs.declared.types.Point3D.{Point3D}
-use Rattle.types.specs.Vector.{lengthSq, perpDot}
+use lib.Ieee.{Float}
+use Rattle.floats.specs.Limits.{pico}
+use Rattle.floats.specs.Ops.{_⊖_, _⊗_, _⊘_, _≺_, +0, if_then_else_}
+use Rattle.geo.specs.declared.types.Point.{Point}
+use Rattle.geo.specs.declared.types.Point3D.{Point3D}
+use Rattle.geo.specs.Vector.{lengthSq, perpDot}
 use Rattle.simplify.specs.declared.simplify.Chord.{Chord}
 
 -- A measure gives the squared distance of a point, its last argument, to the chord of two others, its first and second.
@@ -13,7 +14,7 @@ Measure P = P → P → P → Float
 
 -- a chord whose square is below 1e-12 counts as its start alone
 abbrev pub degenerate : Float
-degenerate = ofBits binary64 0x3d71_9799_812d_ea11
+degenerate = pico
 
 -- the chord from a to b: its start, its direction in the plane, and the square of its length there
 unfoldable pub chordOf : Point3D → Point3D → Chord

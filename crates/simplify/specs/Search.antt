@@ -3,9 +3,9 @@ use Prim.Native.Nat.{ℕ}
 use mathlib.Core.Path.{_≡_}
 use mathlib.Core.Bool.{false}
 use lib.Ieee.{Float, neg}
-use Rattle.number.specs.Ops.{_⊖_, _⊗_, _⊘_, _≺_, +0, one, if_then_else_}
-use Rattle.types.specs.declared.types.Point3D.{Point3D}
-use Rattle.types.specs.Vector.{lengthSq, perpDot}
+use Rattle.floats.specs.Ops.{_⊖_, _⊗_, _⊘_, _≺_, +0, one, if_then_else_}
+use Rattle.geo.specs.declared.types.Point3D.{Point3D}
+use Rattle.geo.specs.Vector.{lengthSq, perpDot}
 use Rattle.simplify.specs.declared.simplify.Chord.{Chord}
 use Rattle.simplify.specs.declared.simplify.Search.{Search}
 use Rattle.simplify.specs.Measure.{degenerate, toLine}
@@ -18,8 +18,8 @@ unfoldable pub spreadOf : Chord → Point3D → Float
 spreadOf c p = dividend c (p .x ⊖ c .start .x) (p .y ⊖ c .start .y)
 
 -- the squared distance of a point with the spread v
-unfoldable pub scaled : Chord → Float → Float
-scaled c v = if c .square ≺ degenerate then v else v ⊘ c .square
+unfoldable pub squareOfSpread : Chord → Float → Float
+squareOfSpread c v = if c .square ≺ degenerate then v else v ⊘ c .square
 
 -- a search before its first point, at a range's start
 abbrev pub begun : ℕ → Search

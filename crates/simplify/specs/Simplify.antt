@@ -5,13 +5,13 @@ use mathlib.Core.List.{List, [], _∷_}
 use lib.ListN.{length}
 use lib.Dec.{ltb, eqb}
 use lib.Ieee.{Float}
-use Rattle.number.specs.Ops.{_⊗_}
-use Rattle.types.specs.declared.types.Point.{Point}
-use Rattle.types.specs.declared.types.Point3D.{Point3D}
-use Rattle.types.specs.declared.types.Command.{Command}
-use Rattle.types.specs.Outcome.{Row, row, refusal, Outcome, unless}
-use Rattle.types.specs.Lent.{pairAt, pointAt, commandAt}
-use Rattle.types.specs.Domain.{whole, coordinate, numbersIn, tolerance, commandsFormed, commandsIn}
+use Rattle.floats.specs.Ops.{_⊗_}
+use Rattle.geo.specs.declared.types.Point.{Point}
+use Rattle.geo.specs.declared.types.Point3D.{Point3D}
+use Rattle.geo.specs.declared.types.Command.{Command}
+use Rattle.geo.specs.Outcome.{Row, row, refusal, Outcome, unless}
+use Rattle.geo.specs.Lent.{pairAt, pointAt, commandAt}
+use Rattle.geo.specs.Domain.{whole, coordinate, numbersIn, tolerance, commandsFormed, commandsIn}
 use Rattle.simplify.specs.Measure.{planeSq, lineSq}
 use Rattle.simplify.specs.Thin.{thinnedPoints}
 use Rattle.simplify.specs.Data.{thinnedCommands}

@@ -1,28 +1,28 @@
 // src/geo/algo/simplify.rs. The Rust's explicit stack of ranges is a recursion here, which marks left, cut, right.
-use types::domain::all_coordinates;
-use types::domain::commands_formed;
-use types::domain::commands_in;
-use types::domain::is_within;
-use types::lent::command_at;
-use types::lent::pair_at;
-use types::lent::point_at;
-use types::lent::put_command;
-use types::lent::put_pair;
-use types::lent::put_point;
-use types::types::Answer;
-use types::types::Command;
-use types::types::Point3D;
+use geo::domain::all_coordinates;
+use geo::domain::commands_formed;
+use geo::domain::commands_in;
+use geo::domain::is_within;
+use geo::lent::command_at;
+use geo::lent::pair_at;
+use geo::lent::point_at;
+use geo::lent::put_command;
+use geo::lent::put_pair;
+use geo::lent::put_point;
+use geo::types::Answer;
+use geo::types::Command;
+use geo::types::Point3D;
 ghost use mathlib.Core.Path.{_≡_};
 ghost use mathlib.Core.Bool.{false, _||_};
 ghost use Prim.Native.Nat.{_+_, _*_, _<_, _≤_};
 ghost use lib.ListN.{length};
-ghost use Rattle.number.specs.Ops.{_≺_, +0};
-ghost use Rattle.types.specs.Outcome.{Wrote, refusal};
-ghost use Rattle.types.specs.Commands.{WroteCommands};
-ghost use Rattle.types.specs.Lent.{pair, triple, flat, pairAt, pointAt, commandAt, endOf};
+ghost use Rattle.floats.specs.Ops.{_≺_, +0};
+ghost use Rattle.geo.specs.Outcome.{Wrote, refusal};
+ghost use Rattle.geo.specs.Commands.{WroteCommands};
+ghost use Rattle.geo.specs.Lent.{pair, triple, flat, pairAt, pointAt, commandAt, endOf};
 ghost use Rattle.simplify.specs.Measure.{chordOf, toLine, lineSq, planeSq, raised};
 ghost use Rattle.simplify.specs.Farthest.{farther, farthestIn};
-ghost use Rattle.simplify.specs.Search.{spreadOf, scaled, begun, Sound};
+ghost use Rattle.simplify.specs.Search.{spreadOf, squareOfSpread, begun, Sound};
 ghost use Rattle.simplify.specs.Thin.{keptIn, thinnedPoints};
 ghost use Rattle.simplify.specs.Data.{isMove, toCommand, commandSq, thinnedCommands};
 ghost use Rattle.simplify.specs.Flags.{marked, flagged, flaggedCommands, Copied, CopiedCommands};
@@ -68,7 +68,7 @@ impl Chord {
 
     // The squared distance of a point with that spread.
     fn distance_squared(self, spread: f64) -> f64
-        ensures { λ r. ⌜ r ≡ scaled self spread ⌝ }
+        ensures { λ r. ⌜ r ≡ squareOfSpread self spread ⌝ }
     {
         if self.square < Chord::DEGENERATE {
             return spread;

@@ -5,14 +5,14 @@ use mathlib.Core.Logic.{⊎-elim}
 use mathlib.Core.Bool.{Bool, true, false, not}
 use native.Mathlib.Omega.{arith}
 use lib.Ieee.{Float}
-use Rattle.number.specs.Ops.{_≺_, _≼_, +0}
-use Rattle.number.proofs.Order.{either}
-use Rattle.types.specs.declared.types.Point.{Point}
-use Rattle.types.specs.declared.types.Point3D.{Point3D}
-use Rattle.types.specs.Walk.{fold}
-use Rattle.types.specs.Domain.{everyFrom}
-use Rattle.types.proofs.Walk.{fold-turn, fold-done}
-use Rattle.types.proofs.Every.{every-step, every-stop, every-done}
+use Rattle.floats.specs.Ops.{_≺_, _≼_, +0}
+use Rattle.floats.proofs.Order.{either}
+use Rattle.geo.specs.declared.types.Point.{Point}
+use Rattle.geo.specs.declared.types.Point3D.{Point3D}
+use Rattle.geo.specs.Walk.{fold}
+use Rattle.geo.specs.Domain.{everyFrom}
+use Rattle.geo.proofs.Walk.{fold-turn, fold-done}
+use Rattle.geo.proofs.Every.{every-step, every-stop, every-done}
 use Rattle.trial.specs.declared.trial.Turns.{Turns}
 use Rattle.trial.specs.Traversal.{offsetOf, crossOf, atCentre, halfOf, turned, turnsOf, passesBy, awayFrom, traverses}
 

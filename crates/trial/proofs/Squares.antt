@@ -4,13 +4,13 @@ use mathlib.Core.Bool.{true, false}
 use lib.Dec.{T}
 use lib.Ieee.{Float, binary64, ofBits, fits, lt, le}
 use lib.Ieee.Fits.{add-fits}
-use Rattle.number.specs.Ops.{_⊗_, +0, two}
-use Rattle.number.specs.Float.{maxOf}
-use Rattle.number.specs.Root.{rootOf}
-use Rattle.number.proofs.Order.{lt-under}
-use Rattle.number.proofs.root.Compared.{root-not-below, root-under-twice}
-use Rattle.types.specs.Vector.{lengthSq, lengthOf}
-use Rattle.circle.specs.Collinear.{nano}
+use Rattle.floats.specs.Ops.{_⊗_, +0, two}
+use Rattle.floats.specs.Float.{maxOf}
+use Rattle.floats.specs.Root.{rootOf}
+use Rattle.floats.proofs.Order.{lt-under}
+use Rattle.floats.proofs.root.Compared.{root-not-below, root-under-twice}
+use Rattle.geo.specs.Vector.{lengthSq, lengthOf}
+use Rattle.floats.specs.Limits.{nano, millionth}
 use Rattle.trial.specs.declared.trial.Spoke.{Spoke}
 use Rattle.trial.specs.Deviation.{sagittaOf, endsOf, stepOf}
 
@@ -30,10 +30,6 @@ short-above : lt +0 shortSquare ≡ true
 unfolding lt ofBits
 short-above = refl
 
--- 1e-6
-abbrev micro : Float
-micro = ofBits binary64 0x3eb0_c6f7_a0b5_ed8d
-
 -- 1e-11: its root is above 1e-6
 abbrev closedSquare : Float
 closedSquare = ofBits binary64 0x3da5_fd7f_e179_6495
@@ -42,14 +38,14 @@ closed-fits : T (fits binary64 closedSquare)
 unfolding fits ofBits
 closed-fits = tt
 
-closed-root : le micro (rootOf closedSquare) ≡ true
+closed-root : le millionth (rootOf closedSquare) ≡ true
 unfolding le rootOf ofBits
 closed-root = refl
 
 -- the ends of such a range are not nearer than 1e-6
-pub not-closed : (x y : Float) → le closedSquare (lengthSq x y) ≡ true → lt (lengthOf x y) micro ≡ false
+pub not-closed : (x y : Float) → le closedSquare (lengthSq x y) ≡ true → lt (lengthOf x y) millionth ≡ false
 unfolding lengthOf
-not-closed x y h = root-not-below micro closedSquare (lengthSq x y) closed-fits (add-fits binary64 (x ⊗ x) (y ⊗ y)) closed-root h
+not-closed x y h = root-not-below millionth closedSquare (lengthSq x y) closed-fits (add-fits binary64 (x ⊗ x) (y ⊗ y)) closed-root h
 
 -- a step that is not short, and no longer than the radius r, whose square is q
 pub step-inside : (x y q r : Float) (s t : Spoke) → T (fits binary64 q) → r ≡ rootOf q → le shortSquare (lengthSq x y) ≡ true → le (lengthSq x y) q ≡ true

@@ -4,13 +4,13 @@ use mathlib.Core.Path.{_≡_, sym, ap, _∙_}
 use mathlib.Core.Logic.{⊎-elim}
 use mathlib.Core.Bool.{false}
 use lib.Ieee.{Float, lt}
-use Rattle.number.specs.Ops.{_⊖_}
-use Rattle.number.specs.Root.{rootOf}
-use Rattle.number.proofs.Order.{either, clash, lt-trans}
-use Rattle.types.specs.declared.types.Point.{Point}
-use Rattle.types.specs.declared.types.Point3D.{Point3D}
-use Rattle.types.specs.Vector.{lengthSq, lengthOf}
-use Rattle.types.specs.Walk.{fold}
+use Rattle.floats.specs.Ops.{_⊖_}
+use Rattle.floats.specs.Root.{rootOf}
+use Rattle.floats.proofs.Order.{either, clash, lt-trans}
+use Rattle.geo.specs.declared.types.Point.{Point}
+use Rattle.geo.specs.declared.types.Point3D.{Point3D}
+use Rattle.geo.specs.Vector.{lengthSq, lengthOf}
+use Rattle.geo.specs.Walk.{fold}
 use Rattle.circle.specs.declared.circle.Deviation.{Deviation}
 use Rattle.circle.specs.Worst.{worse}
 use Rattle.circle.specs.Three.{radiusFrom}

@@ -1,14 +1,14 @@
 -- How far a chain of points is off an arc. The sagitta is taken by the root (document 01, "Two departures"). Definitions only.
 use Prim.Native.Nat.{ℕ, _+_, _-_}
 use lib.Ieee.{Float, neg}
-use Rattle.number.specs.Ops.{_⊕_, _⊖_, _⊗_, _⊘_, _≺_, if_then_else_, +0, one, two}
-use Rattle.number.specs.Root.{rootOf}
-use Rattle.number.specs.Float.{absOf, maxOf, clampOf}
-use Rattle.types.specs.declared.types.Point.{Point}
-use Rattle.types.specs.declared.types.Point3D.{Point3D}
-use Rattle.types.specs.Vector.{dot, lengthOf}
+use Rattle.floats.specs.Ops.{_⊕_, _⊖_, _⊗_, _⊘_, _≺_, if_then_else_, +0, one, two}
+use Rattle.floats.specs.Root.{rootOf}
+use Rattle.floats.specs.Float.{absOf, maxOf, clampOf}
+use Rattle.geo.specs.declared.types.Point.{Point}
+use Rattle.geo.specs.declared.types.Point3D.{Point3D}
+use Rattle.geo.specs.Vector.{dot, lengthOf}
 use Rattle.circle.specs.declared.circle.Deviation.{Deviation}
-use Rattle.circle.specs.Collinear.{nano}
+use Rattle.floats.specs.Limits.{nano}
 use Rattle.circle.specs.Worst.{worst}
 use Rattle.trial.specs.declared.trial.Spoke.{Spoke}
 

@@ -2,13 +2,14 @@
 use Prim.Native.Nat.{ℕ, _+_, _-_}
 use mathlib.Core.Bool.{Bool, true, false, not, _&&_}
 use lib.Dec.{eqb}
-use lib.Ieee.{Float, binary64, ofBits, neg, eq}
-use Rattle.number.specs.Ops.{_⊖_, _⊗_, _≺_, _≼_, if_then_else_, +0}
-use Rattle.types.specs.declared.types.Point.{Point}
-use Rattle.types.specs.declared.types.Point3D.{Point3D}
-use Rattle.types.specs.Vector.{dot, perpDot}
-use Rattle.types.specs.Walk.{fold}
-use Rattle.types.specs.Domain.{everyFrom}
+use lib.Ieee.{Float, neg, eq}
+use Rattle.floats.specs.Limits.{thousandth}
+use Rattle.floats.specs.Ops.{_⊖_, _⊗_, _≺_, _≼_, if_then_else_, +0}
+use Rattle.geo.specs.declared.types.Point.{Point}
+use Rattle.geo.specs.declared.types.Point3D.{Point3D}
+use Rattle.geo.specs.Vector.{dot, perpDot}
+use Rattle.geo.specs.Walk.{fold}
+use Rattle.geo.specs.Domain.{everyFrom}
 use Rattle.trial.specs.declared.trial.Turns.{Turns}
 
 -- q: a point minus the centre m
@@ -43,9 +44,6 @@ unfolding fold turned halfOf
 turnsOf q lo hi =
     fold (λ i. turned (halfOf (q lo) (q i)) (halfOf (q lo) (q (i + 1))) (crossOf (q i) (q (i + 1)))) (hi - lo) lo
     (record { up = 0; down = 0 })
-
-abbrev pub thousandth : Float
-thousandth = ofBits binary64 0x3f50_624d_d2f1_a9fc
 
 -- with c and d the cross and dot of q0 and the last q: d > 0, c < 0, −c ≤ 0.001 × d; and d > 0, c ≥ 0, c ≤ 0.001 × d
 unfoldable pub justBehind : Float → Float → Bool

@@ -2,15 +2,15 @@
 use Prim.Native.Nat.{ℕ, _+_, _-_}
 use mathlib.Core.Bool.{Bool, _&&_}
 use lib.Dec.{ltb, eqb}
-use lib.Ieee.{Float, binary64, ofBits}
-use Rattle.number.specs.Ops.{_⊖_, _⊗_, _⊘_, _≺_, if_then_else_, half}
-use Rattle.types.specs.declared.types.Point.{Point}
-use Rattle.types.specs.declared.types.Point3D.{Point3D}
-use Rattle.types.specs.Vector.{dot, lengthOf, flatten}
+use lib.Ieee.{Float}
+use Rattle.floats.specs.Ops.{_⊖_, _⊗_, _⊘_, _≺_, if_then_else_, half}
+use Rattle.geo.specs.declared.types.Point.{Point}
+use Rattle.geo.specs.declared.types.Point3D.{Point3D}
+use Rattle.geo.specs.Vector.{dot, lengthOf, flatten}
 use Rattle.arc.specs.Direction.{clockwise}
 use Rattle.circle.specs.declared.circle.CircleThrough as through
 use Rattle.circle.specs.declared.circle.Center as center
-use Rattle.circle.specs.Collinear.{nano}
+use Rattle.floats.specs.Limits.{nano, millionth}
 use Rattle.circle.specs.Three.{radiusFrom, throughThree}
 use Rattle.circle.specs.Kasa.{kasaCenter}
 use Rattle.circle.specs.Bisector.{projected}
@@ -34,7 +34,7 @@ sharpAt at lo hi k = ltb lo k && (ltb k hi && sharpTurn (at (k - 1)) (at k) (at 
 
 -- a range whose ends are nearer than 1e-6 is closed
 unfoldable pub closedRange : Point3D → Point3D → Bool
-closedRange a b = lengthOf (a .x ⊖ b .x) (a .y ⊖ b .y) ≺ ofBits binary64 0x3eb0_c6f7_a0b5_ed8d
+closedRange a b = lengthOf (a .x ⊖ b .x) (a .y ⊖ b .y) ≺ millionth
 
 -- the arc round m, which is on the bisector already: its deviation is below the tolerance, and it goes less than a whole turn.
 -- The radius is measured again, from m to the first point.

@@ -7,9 +7,9 @@ use borrow.Author.Tests.{lt-ltb, le-ltb}
 use lib.ListN.{length, take, drop, length-drop}
 use lib.Seq.{take-all}
 use lib.Ieee.{Float}
-use Rattle.types.specs.declared.types.Answer.the-variants.{Refused}
-use Rattle.types.specs.Outcome.{answer, left, Wrote}
-use Rattle.types.proofs.Rows.{wrote-same}
+use Rattle.geo.specs.declared.types.Answer.the-variants.{Refused}
+use Rattle.geo.specs.Outcome.{answer, left, Wrote}
+use Rattle.geo.proofs.Rows.{wrote-same}
 use Rattle.file.specs.Bytes.{numberAt}
 use Rattle.lap_rows.specs.Listing.{listFile}
 use Rattle.lapfit.specs.Input.{listInput}

@@ -4,9 +4,9 @@ use mathlib.Core.Path.{_≡_, sym, ap, _∙_}
 use mathlib.Core.List.{List}
 use native.Mathlib.Omega.{arith}
 use lib.ListN.{length, drop, length-append, length-take}
-use Rattle.types.specs.declared.types.Answer.{Answer}
-use Rattle.types.specs.declared.types.Answer.the-variants.{Written, Refused}
-use Rattle.types.specs.Outcome.{Outcome, refused, gives, answer, left, Wrote}
+use Rattle.geo.specs.declared.types.Answer.{Answer}
+use Rattle.geo.specs.declared.types.Answer.the-variants.{Written, Refused}
+use Rattle.geo.specs.Outcome.{Outcome, refused, gives, answer, left, Wrote}
 use borrow.Author.Needs.{needs}
 use Rattle.lapfit.proofs.main.Statement.{statement}
 use Rattle.lapfit.proofs.main.Tie as tie

@@ -1,5 +1,5 @@
 -- `records::has_pattern` meets its contract: a NaN is what differs from itself, and of any other the pattern may be read. Assumes nothing.
-use Rattle.number.proofs.Patterns.{nan-of-ne, no-nan-of-ne}
+use Rattle.floats.proofs.Patterns.{nan-of-ne, no-nan-of-ne}
 use mathlib.Core.Path.{sym, subst}
 use mathlib.Core.Bool.{Bool, not}
 use lib.Dec.{T}

@@ -2,8 +2,8 @@
 use mathlib.Core.Path.{sym, ap, _∙_}
 use mathlib.Core.Bool.{true, not}
 use borrow.Author.Tests.{lt-ltb, le-ltb, eq-eqb, ne-eqb, not-true, not-false}
-use Rattle.types.proofs.And.{and-3, and-3-second, and-3-first}
-use Rattle.types.proofs.Rows.{row-fails, row-passes, whole-fails, whole-passes, done}
+use Rattle.geo.proofs.And.{and-3, and-3-second, and-3-first}
+use Rattle.geo.proofs.Rows.{row-fails, row-passes, whole-fails, whole-passes, done}
 use Rattle.arc.specs.Direction.{directionRows}
 use borrow.Author.Needs.{needs}
 use Rattle.arc.proofs.arc.check_direction.Statement.{statement}

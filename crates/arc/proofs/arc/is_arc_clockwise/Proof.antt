@@ -2,9 +2,9 @@
 use mathlib.Core.Path.{sym, ap}
 use native.Mathlib.Omega.{arith}
 use lib.Ieee.{Float, lt}
-use Rattle.number.specs.Ops.{+0}
-use Rattle.types.specs.Outcome.{refusal}
-use Rattle.types.proofs.Rows.{accepted, unless-refused, unless-gives}
+use Rattle.floats.specs.Ops.{+0}
+use Rattle.geo.specs.Outcome.{refusal}
+use Rattle.geo.proofs.Rows.{accepted, unless-refused, unless-gives}
 use Rattle.arc.specs.declared.arc.Direction.the-variants.{Clockwise}
 use Rattle.arc.specs.Direction.{clockwise, directionCall, directionAnswer}
 use Rattle.arc.proofs.Passed.{direction-passed}

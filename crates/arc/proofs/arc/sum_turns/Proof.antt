@@ -4,10 +4,10 @@ use Prim.Native.Nat.{_+_, _-_}
 use native.Mathlib.Omega.{arith}
 use borrow.Author.Needs.{needs}
 use lib.Ieee.{Float}
-use Rattle.number.specs.Ops.{_⊕_}
-use Rattle.types.specs.Lent.{pairAt}
-use Rattle.types.specs.Walk.{fold}
-use Rattle.types.proofs.Walk.{fold-turn, fold-done}
+use Rattle.floats.specs.Ops.{_⊕_}
+use Rattle.geo.specs.Lent.{pairAt}
+use Rattle.geo.specs.Walk.{fold}
+use Rattle.geo.proofs.Walk.{fold-turn, fold-done}
 use Rattle.arc.specs.Direction.{turnAt, crossSum}
 use Rattle.arc.proofs.arc.sum_turns.Statement.{statement}
 use Rattle.arc.proofs.arc.sum_turns.Tie as tie

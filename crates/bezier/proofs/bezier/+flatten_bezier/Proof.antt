@@ -4,8 +4,8 @@ use Prim.Native.Nat.{_-_}
 use native.Mathlib.Omega.{arith}
 use borrow.Author.Needs.{needs}
 use lib.Pow.{pow-pos}
-use Rattle.types.specs.Lent.{triple}
-use Rattle.types.proofs.Placed.{placed-one, placed-both}
+use Rattle.geo.specs.Lent.{triple}
+use Rattle.geo.proofs.Placed.{placed-one, placed-both}
 use Rattle.bezier.proofs.Subdivision.{flattened-length, flattened-end, flattened-flat, flattened-halves, half-power}
 use Prim.Native.Nat.{ℕ, _<_}
 use borrow.Fn.Kinds.{In}
@@ -14,8 +14,8 @@ use Rattle.bezier.proofs.bezier.flatten_bezier.Reads as flatten-bezier
 use Rattle.bezier.proofs.bezier.flatten_bezier.Kinds as flatten-bezier-kinds
 use Rattle.bezier.proofs.bezier.+flatten_bezier.Lts-flatten_bezier as flatten-bezier-lts
 use Rattle.bezier.proofs.bezier.get_bezier_flatness_sq.Reads as get-bezier-flatness-sq-reads
-use Rattle.types.proofs.lent.put_point.Reads as put-point-reads
-use Rattle.types.proofs.point.midpoint_3d.Reads as midpoint-3d-reads
+use Rattle.geo.proofs.lent.put_point.Reads as put-point-reads
+use Rattle.geo.proofs.point.midpoint_3d.Reads as midpoint-3d-reads
 use Rattle.bezier.proofs.bezier.+flatten_bezier.{statement}
 use Rattle.bezier.proofs.bezier.+flatten_bezier.Tie.{close}
 

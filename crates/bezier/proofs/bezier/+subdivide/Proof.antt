@@ -4,8 +4,8 @@ use Prim.Native.Nat.{_+_, _-_}
 use native.Mathlib.Omega.{arith}
 use borrow.Author.Needs.{needs}
 use lib.Pow.{pow-pos}
-use Rattle.types.specs.Lent.{pair}
-use Rattle.types.proofs.Placed.{placed-one, placed-both}
+use Rattle.geo.specs.Lent.{pair}
+use Rattle.geo.proofs.Placed.{placed-one, placed-both}
 use Rattle.bezier.proofs.Subdivision.{subdivided-length, subdivided-end, subdivided-flat, subdivided-halves, half-power}
 use Prim.Native.Nat.{ℕ, _<_}
 use borrow.Fn.Kinds.{In}
@@ -15,7 +15,7 @@ use Rattle.bezier.proofs.bezier.subdivide.Kinds as subdivide-kinds
 use Rattle.bezier.proofs.bezier.+subdivide.Lts-subdivide as subdivide-lts
 use Rattle.bezier.proofs.bezier.is_flat.Reads as is-flat-reads
 use Rattle.bezier.proofs.bezier.split_at.Reads as split-at-reads
-use Rattle.types.proofs.lent.put_pair.Reads as put-pair-reads
+use Rattle.geo.proofs.lent.put_pair.Reads as put-pair-reads
 use Rattle.bezier.proofs.bezier.+subdivide.{statement}
 use Rattle.bezier.proofs.bezier.+subdivide.Tie.{close}
 

@@ -4,7 +4,7 @@ use Prim.Native.Nat.{ℕ, _+_, _*_, _^_, _≤_, _<_}
 use native.Mathlib.Omega.{arith}
 use borrow.Author.Tests.{lt-ltb, le-ltb}
 use lib.Pow.{pow-mono}
-use Rattle.types.proofs.Rows.{row-fails, row-passes, not-fails, not-passes, whole-fails, whole-passes, done}
+use Rattle.geo.proofs.Rows.{row-fails, row-passes, not-fails, not-passes, whole-fails, whole-passes, done}
 use Rattle.bezier.specs.Calls.{adaptiveRows}
 use borrow.Author.Needs.{needs}
 use Rattle.bezier.proofs.bezier.check_adaptive.Statement.{statement}

@@ -1,6 +1,6 @@
 -- `bezier::bezier::check_params` meets its contract: each return is the first row that fails, by the tests before it. Assumes nothing.
 use mathlib.Core.Path.{sym, _∙_}
-use Rattle.types.proofs.Rows.{row-fails, row-passes, not-fails, not-passes, whole-fails, whole-passes, done}
+use Rattle.geo.proofs.Rows.{row-fails, row-passes, not-fails, not-passes, whole-fails, whole-passes, done}
 use Rattle.bezier.specs.Calls.{paramFirstRows}
 use borrow.Author.Needs.{needs}
 use Rattle.bezier.proofs.bezier.check_params.Statement.{statement}

@@ -1,7 +1,7 @@
 -- `bezier::bezier::check_segment` meets its contract: each return is the first row that fails, by the tests before it. Assumes nothing.
 use mathlib.Core.Path.{sym, _∙_}
 use borrow.Author.Tests.{lt-ltb, le-ltb}
-use Rattle.types.proofs.Rows.{row-fails, row-passes, not-fails, not-passes, whole-fails, whole-passes, done}
+use Rattle.geo.proofs.Rows.{row-fails, row-passes, not-fails, not-passes, whole-fails, whole-passes, done}
 use Rattle.bezier.specs.Calls.{segmentRows}
 use borrow.Author.Needs.{needs}
 use Rattle.bezier.proofs.bezier.check_segment.Statement.{statement}

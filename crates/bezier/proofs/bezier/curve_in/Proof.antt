@@ -1,6 +1,6 @@
 -- `bezier::bezier::curve_in` meets its contract: a conjunction, left at the first test that fails. Assumes nothing.
 use mathlib.Core.Bool.{true}
-use Rattle.types.proofs.And.{all-4, all-4-third, all-4-second, all-4-first}
+use Rattle.geo.proofs.And.{all-4, all-4-third, all-4-second, all-4-first}
 use borrow.Author.Needs.{needs}
 use Rattle.bezier.proofs.bezier.curve_in.Statement.{statement}
 use Rattle.bezier.proofs.bezier.curve_in.Tie as tie

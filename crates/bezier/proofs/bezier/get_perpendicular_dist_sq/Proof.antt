@@ -1,7 +1,7 @@
 -- `bezier::bezier::get_perpendicular_dist_sq` meets its contract: the callees' promises, put together as the definition has them. Assumes nothing.
 use mathlib.Core.Path.{ap, _∙_}
 use lib.Ieee.{Float, binary64, div}
-use Rattle.types.specs.declared.types.Point3D.{Point3D}
+use Rattle.geo.specs.declared.types.Point3D.{Point3D}
 use Rattle.bezier.specs.Flatten.{normSq, crossOf}
 use Rattle.bezier.specs.Flatten.{perpendicularSq}
 use borrow.Author.Needs.{needs}

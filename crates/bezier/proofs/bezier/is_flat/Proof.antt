@@ -2,7 +2,7 @@
 use mathlib.Core.Path.{_∙_, ap}
 use mathlib.Core.Bool.{true}
 use lib.Ieee.{Float, le}
-use Rattle.types.proofs.And.{and-2, and-2-first}
+use Rattle.geo.proofs.And.{and-2, and-2-first}
 use Rattle.bezier.specs.declared.bezier.Chord.{Chord}
 use Rattle.bezier.specs.Flatten.{offChord}
 use Rattle.bezier.specs.Flatten.{isFlat}

@@ -2,10 +2,10 @@
 use mathlib.Core.Path.{_≡_, refl, sym}
 use native.Mathlib.Omega.{arith}
 use lib.ListN.{length}
-use Rattle.types.specs.Lent.{flat}
-use Rattle.types.proofs.Walk.{list-length}
-use Rattle.types.proofs.Flat.{flat-length}
-use Rattle.types.proofs.Rows.{accepted, wrote-none, wrote-all}
+use Rattle.geo.specs.Lent.{flat}
+use Rattle.geo.proofs.Walk.{list-length}
+use Rattle.geo.proofs.Flat.{flat-length}
+use Rattle.geo.proofs.Rows.{accepted, wrote-none, wrote-all}
 use Rattle.bezier.specs.Linearize.{six, steps}
 use Rattle.bezier.specs.Calls.{linearizeRows, linearizeCall}
 use Rattle.bezier.proofs.Rows.{linearize-passed}

@@ -3,11 +3,11 @@ use mathlib.Core.Path.{refl}
 use mathlib.Core.List.{_∷_}
 use native.Mathlib.Omega.{arith}
 use lib.ListN.{length}
-use Rattle.types.specs.declared.types.CubicBezier.{CubicBezier}
-use Rattle.types.specs.Lent.{pair, flat}
-use Rattle.types.proofs.Flat.{flat-length}
-use Rattle.types.proofs.Placed.{placed-front}
-use Rattle.types.proofs.Rows.{accepted, wrote-none, wrote-all}
+use Rattle.geo.specs.declared.types.CubicBezier.{CubicBezier}
+use Rattle.geo.specs.Lent.{pair, flat}
+use Rattle.geo.proofs.Flat.{flat-length}
+use Rattle.geo.proofs.Placed.{placed-front}
+use Rattle.geo.proofs.Rows.{accepted, wrote-none, wrote-all}
 use Rattle.bezier.specs.Flatten.{subdivided}
 use Rattle.bezier.specs.Calls.{adaptiveRows, adaptiveCall}
 use Rattle.bezier.proofs.Subdivision.{subdivided-length}

@@ -7,9 +7,9 @@ use native.Mathlib.Omega.{arith}
 use lib.ListN.{length}
 use lib.IntN.{pos}
 use lib.Ieee.{Float, fin, lt}
-use Rattle.types.specs.Lent.{flat}
-use Rattle.types.proofs.Flat.{flat-length}
-use Rattle.types.proofs.Rows.{accepted, wrote-none, wrote-all}
+use Rattle.geo.specs.Lent.{flat}
+use Rattle.geo.proofs.Flat.{flat-length}
+use Rattle.geo.proofs.Rows.{accepted, wrote-none, wrote-all}
 use Rattle.bezier.specs.Linearize.{six, stepsNeeded, stepCount, paramSteps}
 use Rattle.bezier.specs.Calls.{paramRows, paramCall}
 use Rattle.bezier.proofs.Count.{max-above}

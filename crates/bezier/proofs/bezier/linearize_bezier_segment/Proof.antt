@@ -3,11 +3,11 @@ use mathlib.Core.Path.{refl}
 use mathlib.Core.List.{_∷_}
 use native.Mathlib.Omega.{arith}
 use lib.ListN.{length}
-use Rattle.number.specs.Ops.{_⊗_}
-use Rattle.types.specs.Lent.{triple, flat}
-use Rattle.types.proofs.Flat.{flat-length}
-use Rattle.types.proofs.Placed.{placed-front}
-use Rattle.types.proofs.Rows.{accepted, wrote-none, wrote-all, wrote-same}
+use Rattle.floats.specs.Ops.{_⊗_}
+use Rattle.geo.specs.Lent.{triple, flat}
+use Rattle.geo.proofs.Flat.{flat-length}
+use Rattle.geo.proofs.Placed.{placed-front}
+use Rattle.geo.proofs.Rows.{accepted, wrote-none, wrote-all, wrote-same}
 use Rattle.bezier.specs.Flatten.{flattened}
 use Rattle.bezier.specs.Calls.{segmentRows}
 use Rattle.bezier.proofs.Subdivision.{flattened-length}

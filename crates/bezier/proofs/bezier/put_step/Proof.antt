@@ -1,7 +1,7 @@
 -- `bezier::bezier::put_step` meets its contract: two points stored one behind the other are one run. Assumes nothing.
 use mathlib.Core.Path.{sym, _∙_}
-use Rattle.types.specs.Lent.{triple}
-use Rattle.types.proofs.Stores.{sets-append}
+use Rattle.geo.specs.Lent.{triple}
+use Rattle.geo.proofs.Stores.{sets-append}
 use borrow.Author.Needs.{needs}
 use Rattle.bezier.proofs.bezier.put_step.Statement.{statement}
 use Rattle.bezier.proofs.bezier.put_step.Tie as tie

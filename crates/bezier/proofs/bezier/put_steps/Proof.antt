@@ -3,7 +3,7 @@ use mathlib.Core.Path.{_≡_, refl, _∙_}
 use Prim.Native.Nat.{_+_, _-_}
 use native.Mathlib.Omega.{arith}
 use borrow.Author.Needs.{needs}
-use Rattle.types.proofs.Flat.{Writing, writing-start, writing-step, writing-done}
+use Rattle.geo.proofs.Flat.{Writing, writing-start, writing-step, writing-done}
 use Rattle.bezier.specs.Curve.{pointOn3}
 use Rattle.bezier.specs.Linearize.{share, six, stepAt, steps}
 use Rattle.bezier.proofs.bezier.put_steps.Statement.{statement}

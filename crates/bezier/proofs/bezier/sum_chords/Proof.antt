@@ -5,7 +5,7 @@ use native.Mathlib.Omega.{arith}
 use borrow.Author.Needs.{needs}
 use lib.ListN.{length, length-set}
 use lib.Ieee.{Float, binary64, add}
-use Rattle.types.specs.Lent.{pairAt}
+use Rattle.geo.specs.Lent.{pairAt}
 use Rattle.bezier.specs.FitCubic.{Chords}
 use Rattle.bezier.proofs.Chords.{Filling, filling-start, filling-step}
 use Rattle.bezier.proofs.bezier.sum_chords.Statement.{statement}

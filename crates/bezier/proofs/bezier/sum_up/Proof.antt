@@ -3,13 +3,13 @@ use mathlib.Core.Path.{_≡_, _∙_}
 use Prim.Native.Nat.{ℕ, _-_}
 use native.Mathlib.Omega.{arith}
 use borrow.Author.Needs.{needs}
-use Rattle.number.specs.Ops.{_⊘_}
-use Rattle.types.specs.declared.types.Point.{Point}
-use Rattle.types.specs.Lent.{pairAt}
-use Rattle.types.specs.Walk.{fold}
-use Rattle.types.proofs.Walk.{fold-turn, fold-done}
+use Rattle.floats.specs.Ops.{_⊘_}
+use Rattle.geo.specs.declared.types.Point.{Point}
+use Rattle.geo.specs.Lent.{pairAt}
+use Rattle.geo.specs.Walk.{fold}
+use Rattle.geo.proofs.Walk.{fold-turn, fold-done}
 use Rattle.bezier.specs.declared.bezier.Sums.{Sums}
-use Rattle.bezier.specs.FitCubic.{chordSum, addPoint, sums}
+use Rattle.bezier.specs.FitCubic.{chordSum, addPoint, cubicSums}
 use Rattle.bezier.proofs.bezier.sum_up.Statement.{statement}
 use Rattle.bezier.proofs.bezier.sum_up.Tie as tie
 
@@ -18,7 +18,7 @@ abbrev turn : (ℕ → Point) → ℕ → ℕ → Sums → Sums
 turn at n k = addPoint (at 0) (at (n - 1)) (chordSum at k ⊘ chordSum at (n - 1)) (at k)
 
 abbrev Inv-loop : tie.InvT-loop
-Inv-loop points n chords p0 p3 total s₀ j₀ s j = fold (turn (pairAt points) n) (n - j) j s ≡ sums (pairAt points) n
+Inv-loop points n chords p0 p3 total s₀ j₀ s j = fold (turn (pairAt points) n) (n - j) j s ≡ cubicSums (pairAt points) n
 
 abbrev μ-loop : tie.MeasureT-loop
 μ-loop points n chords p0 p3 total s₀ j₀ s j = n - j
@@ -45,7 +45,7 @@ new-requires : tie.Need-new-requires Inv-loop μ-loop
 new-requires c κs = search needs
 
 loop-holds : tie.Need-loop-holds Inv-loop μ-loop
-unfolding sums
+unfolding cubicSums
 loop-holds c = let e : c .before .before .before .before .before .before .args .n - 0 ≡ c .before .before .before .before .before .before .args .n = omega arith in
     rw (e, c .new .ensures)
 

@@ -3,9 +3,9 @@ use mathlib.Core.Path.{_≡_, refl, _∙_}
 use Prim.Native.Nat.{_+_, _-_}
 use native.Mathlib.Omega.{arith}
 use borrow.Author.Needs.{needs}
-use Rattle.types.specs.Lent.{pointAt}
-use Rattle.types.specs.Domain.{everyFrom}
-use Rattle.types.proofs.Every.{every-step, every-stop, every-done}
+use Rattle.geo.specs.Lent.{pointAt}
+use Rattle.geo.specs.Domain.{everyFrom}
+use Rattle.geo.proofs.Every.{every-step, every-stop, every-done}
 use Rattle.circle.specs.Collinear.{nearTo, allNear}
 use Rattle.circle.proofs.circle.all_near.Statement.{statement}
 use Rattle.circle.proofs.circle.all_near.Tie as tie

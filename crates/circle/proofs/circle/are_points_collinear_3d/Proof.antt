@@ -1,6 +1,6 @@
 -- `circle::circle::are_points_collinear_3d` meets its contract: each return is the row of the table that its tests led to. Assumes nothing.
 use borrow.Author.Tests.{lt-ltb, le-ltb}
-use Rattle.types.proofs.Rows.{accepted, not-fails, not-passes, unless-refused}
+use Rattle.geo.proofs.Rows.{accepted, not-fails, not-passes, unless-refused}
 use Rattle.circle.specs.Calls.{collinearCall, collinearAnswer}
 use Rattle.circle.proofs.Passed.{collinear-refused, collinear-tolerance, collinear-accepted}
 use borrow.Author.Needs.{needs}

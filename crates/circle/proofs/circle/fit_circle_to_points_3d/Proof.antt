@@ -1,7 +1,7 @@
 -- `circle::circle::fit_circle_to_points_3d` meets its contract: a refusal by the check's number, else the circle. Assumes nothing.
 use native.Mathlib.Omega.{arith}
 use borrow.Author.Tests.{lt-ltb, le-ltb}
-use Rattle.types.proofs.Rows.{accepted, unless-refused}
+use Rattle.geo.proofs.Rows.{accepted, unless-refused}
 use Rattle.circle.specs.Calls.{fittedCall, fittedAnswer}
 use Rattle.circle.proofs.Passed.{points-passed}
 use borrow.Author.Needs.{needs}

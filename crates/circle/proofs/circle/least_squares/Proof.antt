@@ -1,6 +1,6 @@
 -- `circle::circle::least_squares` meets its contract: by the tests on collinearity, the determinant and the squared radius. Assumes nothing.
 use native.Mathlib.Omega.{arith}
-use Rattle.number.proofs.float.Ceiling.{whole-fits}
+use Rattle.floats.proofs.float.Ceiling.{whole-fits}
 use Rattle.circle.specs.Kasa.{kasaCenter, centered, matrixOf, sidesOf}
 use borrow.Author.Needs.{needs}
 use Rattle.circle.proofs.circle.least_squares.Statement.{statement}

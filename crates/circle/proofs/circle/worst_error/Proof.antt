@@ -3,9 +3,9 @@ use mathlib.Core.Path.{_≡_, refl, _∙_}
 use Prim.Native.Nat.{_+_, _-_}
 use native.Mathlib.Omega.{arith}
 use borrow.Author.Needs.{needs}
-use Rattle.types.specs.Lent.{pointAt}
-use Rattle.types.specs.Walk.{fold}
-use Rattle.types.proofs.Walk.{fold-turn, fold-done}
+use Rattle.geo.specs.Lent.{pointAt}
+use Rattle.geo.specs.Walk.{fold}
+use Rattle.geo.proofs.Walk.{fold-turn, fold-done}
 use Rattle.circle.specs.Worst.{worse, worst as worstOf}
 use Rattle.circle.specs.Kasa.{errorOf, worstError}
 use Rattle.circle.proofs.circle.worst_error.Statement.{statement}

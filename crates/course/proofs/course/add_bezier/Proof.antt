@@ -3,12 +3,12 @@ use native.Mathlib.Omega.{arith}
 use Prim.Native.Nat.{ℕ, _+_, _*_}
 use mathlib.Core.List.{List}
 use lib.Seq.{sets}
-use Rattle.types.specs.Lent.{flat}
+use Rattle.geo.specs.Lent.{flat}
 use mathlib.Core.Path.{ap, _∙_}
 use lib.ListN.{length}
-use Rattle.number.specs.Ops.{_⊗_}
+use Rattle.floats.specs.Ops.{_⊗_}
 use Rattle.bezier.specs.Linearize.{Step, stepEnd, paramSteps}
-use Rattle.course.specs.Course.{quarter}
+use Rattle.floats.specs.Limits.{quarter}
 use Rattle.course.proofs.Count.{cap-few}
 use Rattle.course.proofs.Steps.{params-are-steps}
 use borrow.Author.Needs.{needs}

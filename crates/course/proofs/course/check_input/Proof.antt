@@ -7,10 +7,10 @@ use borrow.Author.Tests.{eq-eqb, ne-eqb, lt-ltb, le-ltb}
 use borrow.Author.Needs.{needs}
 use lib.Dec.{eqb, ltb}
 use lib.ListN.{length}
-use Rattle.types.specs.Outcome.{refusal}
+use Rattle.geo.specs.Outcome.{refusal}
 use Rattle.course.specs.Course.{inputRows}
-use Rattle.types.specs.Domain.{whole, tolerance, commandsFormed, commandsIn}
-use Rattle.types.proofs.Rows.{whole-passes, whole-fails, not-passes, not-fails}
+use Rattle.geo.specs.Domain.{whole, tolerance, commandsFormed, commandsIn}
+use Rattle.geo.proofs.Rows.{whole-passes, whole-fails, not-passes, not-fails}
 use Rattle.course.proofs.course.check_input.Statement.{statement}
 use Rattle.course.proofs.course.check_input.Tie as tie
 

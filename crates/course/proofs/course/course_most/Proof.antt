@@ -3,12 +3,12 @@ use Rattle.course.proofs.Count.{cap-twice, cap-few, cap-most}
 use Rattle.course.proofs.Steps.{count-next, most-of-commands}
 use borrow.Author.Needs.{needs}
 use mathlib.Core.List.{List}
-use Rattle.types.specs.declared.types.Command.{Command}
+use Rattle.geo.specs.declared.types.Command.{Command}
 use native.Mathlib.Omega.{arith}
 use mathlib.Core.Path.{_≡_, sym, ap, _∙_, subst}
 use Prim.Native.Nat.{ℕ, _+_, _-_, _≤_}
 use lib.ListN.{length}
-use Rattle.types.specs.Lent.{origin, commandsFrom}
+use Rattle.geo.specs.Lent.{origin, commandsFrom}
 use Rattle.course.specs.Course.{cap, joined, lentCourse}
 use Rattle.course.specs.Walks.{weightsFrom}
 use Rattle.course.proofs.Walking.{commands-done}

@@ -2,7 +2,7 @@
 use native.Mathlib.Omega.{arith}
 use mathlib.Core.Path.{refl}
 use lib.ListN.{length}
-use Rattle.types.proofs.Outcomes.{commands-refused}
+use Rattle.geo.proofs.Outcomes.{commands-refused}
 use Rattle.course.specs.Course.{arcsCall}
 use Rattle.course.proofs.Accepted.{arcs-accepted, wrote-arcs}
 use borrow.Author.Needs.{needs}

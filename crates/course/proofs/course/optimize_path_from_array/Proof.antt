@@ -1,6 +1,6 @@
 -- `course::course::optimize_path_from_array` meets its contract: a refusal is the table's, and the most of a path is its command count. Assumes nothing.
 use mathlib.Core.Path.{refl}
-use Rattle.types.proofs.Outcomes.{commands-refused}
+use Rattle.geo.proofs.Outcomes.{commands-refused}
 use Rattle.course.specs.Course.{optimizeCall}
 use Rattle.course.proofs.Paths.{placed-as, path-accepted, wrote-path}
 use borrow.Author.Needs.{needs}

@@ -2,13 +2,14 @@
 use native.Mathlib.Omega.{arith}
 use mathlib.Core.Path.{refl, sym, _∙_, subst}
 use lib.ListN.{length}
-use Rattle.number.specs.Ops.{_⊗_}
-use Rattle.types.specs.declared.types.Command.{Command}
-use Rattle.types.specs.Lent.{triple, flat}
+use Rattle.floats.specs.Ops.{_⊗_}
+use Rattle.geo.specs.declared.types.Command.{Command}
+use Rattle.geo.specs.Lent.{triple, flat}
 use Rattle.bezier.specs.Linearize.{stepEnd, paramSteps}
 use Rattle.course.specs.Parts.{Join, ends}
 use Rattle.course.specs.Walks.{Room}
-use Rattle.course.specs.Course.{quarter, joinedBy, flushedBy}
+use Rattle.floats.specs.Limits.{quarter}
+use Rattle.course.specs.Course.{joinedBy, flushedBy}
 use Rattle.course.proofs.Steps.{ends-length}
 use Rattle.course.proofs.Stepping.{adds-room, line-joins, bezier-joins, bezier-ends, move-ends, arc-ends, line-end, bezier-end, stepped-as, stepped-of}
 use Rattle.course.proofs.Walking.{stepped-adds}

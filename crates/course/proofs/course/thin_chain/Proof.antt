@@ -1,7 +1,7 @@
 -- `course::course::thin_chain` meets its contract: what `thin_in_place` leaves at the front of the chain is the chain, thinned. Assumes nothing.
 use native.Mathlib.Omega.{arith}
 use mathlib.Core.Path.{sym}
-use Rattle.number.proofs.Unsigned.{square-not-negative}
+use Rattle.floats.proofs.Unsigned.{square-not-negative}
 use Rattle.fitting.proofs.Chain.{kept-few, kept-fits, kept-wide}
 use Rattle.course.proofs.Chains.{thinned-lines}
 use borrow.Author.Needs.{needs}

@@ -1,5 +1,5 @@
 -- `course::course::walk_course` meets its contract: what is left to write, written from here, gives the whole. The measure is how many commands are left. Assumes nothing.
-use Rattle.types.specs.Lent.{triple, origin}
+use Rattle.geo.specs.Lent.{triple, origin}
 use Rattle.course.specs.Walks.{underWay}
 use native.Mathlib.Omega.{arith}
 use mathlib.Core.Path.{refl, sym, ap, _∙_}

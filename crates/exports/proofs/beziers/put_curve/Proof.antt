@@ -1,5 +1,5 @@
 -- `exports::beziers::put_curve` meets its contract: four pairs one behind the other are one run. Assumes nothing.
-use Rattle.types.specs.Lent.{pair}
+use Rattle.geo.specs.Lent.{pair}
 use mathlib.Core.Path.{refl}
 use Rattle.exports.proofs.Runs.{four-runs}
 use borrow.Author.Needs.{needs}

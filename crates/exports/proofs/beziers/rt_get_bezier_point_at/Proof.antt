@@ -1,5 +1,5 @@
 -- `exports::beziers::rt_get_bezier_point_at` meets its contract: by the answer's case, its numbers are stored or its number is handed back. Assumes nothing.
-use Rattle.types.specs.Lent.{pair}
+use Rattle.geo.specs.Lent.{pair}
 use Rattle.exports.proofs.Answers.{point-gives, point-refused}
 use Rattle.exports.proofs.Plain.{gave, gave-nothing}
 use borrow.Author.Needs.{needs}

@@ -1,5 +1,5 @@
 -- `exports::beziers::rt_linearize_bezier` meets its contract: what is written stays, and the answer is handed on. Assumes nothing.
-use Rattle.types.specs.Lent.{flat}
+use Rattle.geo.specs.Lent.{flat}
 use Rattle.bezier.specs.Linearize.{six}
 use Rattle.exports.proofs.Plain.{listed}
 use borrow.Author.Needs.{needs}

@@ -1,5 +1,5 @@
 -- `exports::beziers::rt_linearize_bezier_adaptive` meets its contract: what is written stays, and the answer is handed on. Assumes nothing.
-use Rattle.types.specs.Lent.{flat, pair}
+use Rattle.geo.specs.Lent.{flat, pair}
 use Rattle.exports.proofs.Plain.{listed}
 use borrow.Author.Needs.{needs}
 use Rattle.exports.proofs.beziers.rt_linearize_bezier_adaptive.Statement.{statement}

@@ -1,5 +1,5 @@
 -- `exports::beziers::rt_linearize_bezier_segment` meets its contract: what is written stays, and the answer is handed on. Assumes nothing.
-use Rattle.types.specs.Lent.{flat, triple}
+use Rattle.geo.specs.Lent.{flat, triple}
 use Rattle.exports.proofs.Plain.{listed}
 use borrow.Author.Needs.{needs}
 use Rattle.exports.proofs.beziers.rt_linearize_bezier_segment.Statement.{statement}

@@ -1,6 +1,6 @@
 -- `exports::circles::rt_fit_circle_to_points_3d` meets its contract: by the answer's case; a refusal is the call's own, since no circle gives one. Assumes nothing.
 use mathlib.Core.Path.{refl}
-use Rattle.types.specs.Lent.{pair}
+use Rattle.geo.specs.Lent.{pair}
 use Rattle.exports.specs.Plain.{isCircle, circleNumbers}
 use Rattle.exports.proofs.Answers.{fitted-gives, fitted-none, fitted-refused}
 use Rattle.exports.proofs.Plain.{gave, gave-nothing, tells, tells-nothing}

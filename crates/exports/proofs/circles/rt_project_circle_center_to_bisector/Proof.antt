@@ -1,5 +1,5 @@
 -- `exports::circles::rt_project_circle_center_to_bisector` meets its contract: by the answer's case, its numbers are stored or its number is handed back. Assumes nothing.
-use Rattle.types.specs.Lent.{pair}
+use Rattle.geo.specs.Lent.{pair}
 use Rattle.exports.proofs.Answers.{projected-gives, projected-refused}
 use Rattle.exports.proofs.Plain.{gave, gave-nothing}
 use borrow.Author.Needs.{needs}

@@ -1,5 +1,5 @@
 -- `exports::points::rt_get_midpoint_3d` meets its contract: by the answer's case, its numbers are stored or its number is handed back. Assumes nothing.
-use Rattle.types.specs.Lent.{triple}
+use Rattle.geo.specs.Lent.{triple}
 use Rattle.exports.proofs.Answers.{midpoint-gives, midpoint-refused}
 use Rattle.exports.proofs.Plain.{gave, gave-nothing}
 use borrow.Author.Needs.{needs}

@@ -1,5 +1,5 @@
 -- `exports::simplifies::rt_simplify_polyline_3d` meets its contract: what is written stays, and the answer is handed on. Assumes nothing.
-use Rattle.types.specs.Lent.{flat, triple}
+use Rattle.geo.specs.Lent.{flat, triple}
 use Rattle.exports.proofs.Plain.{listed}
 use borrow.Author.Needs.{needs}
 use Rattle.exports.proofs.simplifies.rt_simplify_polyline_3d.Statement.{statement}

@@ -1,11 +1,11 @@
 -- `fitting::fitting::fit_range` meets its contract: one command where the Line or an arc trial passes, else those of the two ranges that the cut leaves, one behind the other. The measure is end - start. Assumes nothing.
-use Rattle.types.specs.declared.types.Command.{Command}
+use Rattle.geo.specs.declared.types.Command.{Command}
 use mathlib.Core.Path.{sym, ap, _∙_}
 use mathlib.Core.List.{[], _∷_}
 use Prim.Native.Nat.{_+_, _-_}
 use native.Mathlib.Omega.{arith}
 use borrow.Author.Needs.{needs}
-use Rattle.types.specs.Lent.{pointAt}
+use Rattle.geo.specs.Lent.{pointAt}
 use Rattle.fitting.proofs.Fitted.{inside-of, fit-length, fit-line, fit-arc, fit-cut}
 use Rattle.fitting.proofs.Writing.{one-placed, both-placed}
 use Prim.Native.Nat.{ℕ, _<_}
@@ -17,8 +17,8 @@ use Rattle.fitting.proofs.fitting.+fit_range.Lts-fit_range as fit-range
 use Rattle.fitting.proofs.fitting.arc_command.Reads as arc-command-reads
 use Rattle.fitting.proofs.fitting.line_deviation.Reads as line-deviation-reads
 use Rattle.trial.proofs.trial.try_arcs.Reads as try-arcs-reads
-use Rattle.types.proofs.lent.point_at.Reads as point-at-reads
-use Rattle.types.proofs.lent.put_command.Reads as put-command-reads
+use Rattle.geo.proofs.lent.point_at.Reads as point-at-reads
+use Rattle.geo.proofs.lent.put_command.Reads as put-command-reads
 use Rattle.fitting.proofs.fitting.+fit_range.{statement}
 use Rattle.fitting.proofs.fitting.+fit_range.Tie.{close}
 

@@ -1,6 +1,6 @@
 -- `fitting::fitting::check_arc` meets its contract: each return is the first row that fails, by the tests before it. Assumes nothing.
 use mathlib.Core.Path.{sym, _∙_}
-use Rattle.types.proofs.Rows.{row-fails, row-passes, not-fails, not-passes, done}
+use Rattle.geo.proofs.Rows.{row-fails, row-passes, not-fails, not-passes, done}
 use Rattle.fitting.specs.Calls.{arcRows}
 use Rattle.fitting.proofs.Accepted.{points-refused, points-passed}
 use borrow.Author.Needs.{needs}

@@ -2,7 +2,7 @@
 use mathlib.Core.Path.{sym, ap, _∙_}
 use mathlib.Core.Bool.{not}
 use borrow.Author.Tests.{lt-ltb, le-ltb}
-use Rattle.types.proofs.Rows.{row-fails, row-passes, done}
+use Rattle.geo.proofs.Rows.{row-fails, row-passes, done}
 use Rattle.fitting.specs.Calls.{lineRows}
 use Rattle.fitting.proofs.Accepted.{points-refused, points-passed}
 use borrow.Author.Needs.{needs}

@@ -2,7 +2,7 @@
 use mathlib.Core.Path.{refl}
 use native.Mathlib.Omega.{arith}
 use lib.ListN.{length}
-use Rattle.types.proofs.Outcomes.{commands-refused}
+use Rattle.geo.proofs.Outcomes.{commands-refused}
 use Rattle.fitting.specs.Calls.{fitCall}
 use Rattle.fitting.proofs.Accepted.{fit-accepted, wrote-fit, wrote-no-fit}
 use borrow.Author.Needs.{needs}

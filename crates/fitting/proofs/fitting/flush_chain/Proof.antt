@@ -1,7 +1,7 @@
 -- `fitting::fitting::flush_chain` meets its contract: what `thin_in_place` leaves at the front of the chain is the chain, thinned, and `fit_range` fits it. Assumes nothing.
 use native.Mathlib.Omega.{arith}
 use mathlib.Core.Path.{refl, sym}
-use Rattle.number.proofs.Unsigned.{square-not-negative}
+use Rattle.floats.proofs.Unsigned.{square-not-negative}
 use Rattle.fitting.proofs.Chain.{kept-few, kept-some, kept-fits, kept-wide, fitted-chain, no-chain}
 use borrow.Author.Needs.{needs}
 use Rattle.fitting.proofs.fitting.flush_chain.Statement.{statement}

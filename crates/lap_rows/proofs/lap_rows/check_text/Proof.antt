@@ -1,7 +1,7 @@
 -- `lap_rows::lap_rows::check_text` meets its contract: each return is the first row that fails, by the tests before it. Assumes nothing.
 use mathlib.Core.Path.{sym}
 use native.Mathlib.Omega.{arith}
-use Rattle.types.proofs.Rows.{not-fails, not-passes}
+use Rattle.geo.proofs.Rows.{not-fails, not-passes}
 use Rattle.laps.specs.Calls.{fileRows}
 use Rattle.laps.proofs.Cap.{told-above, told-below}
 use Rattle.laps.proofs.Rows.{refused-front, file-passed, long-of}

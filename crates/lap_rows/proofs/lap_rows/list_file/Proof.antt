@@ -1,7 +1,7 @@
 -- `lap_rows::lap_rows::list_file` meets its contract: a refusal is the table's, and what passed it is what `list_laps` asks. Assumes nothing.
 use mathlib.Core.Path.{sym, _∙_}
-use Rattle.types.proofs.Tolerance.{tolerance-positive}
-use Rattle.types.proofs.Outcomes.{wrote-refused}
+use Rattle.geo.proofs.Tolerance.{tolerance-positive}
+use Rattle.geo.proofs.Outcomes.{wrote-refused}
 use Rattle.laps.proofs.Walks.{not-big}
 use Rattle.laps.proofs.Rows.{long-of, wrote-bytes}
 use Rattle.lap_rows.specs.Listing.{listFile}

@@ -4,7 +4,7 @@ use mathlib.Core.Path.{_≡_, refl, sym}
 use native.Mathlib.Omega.{arith}
 use borrow.Author.Needs.{needs}
 use lib.ListN.{length}
-use Rattle.types.specs.Walk.{listFrom}
+use Rattle.geo.specs.Walk.{listFrom}
 use Rattle.lap_rows.specs.Listing.{ascii}
 use Rattle.lap_rows.proofs.Laps.{Listing, laps-start, turn, laps-step, laps-done}
 use Rattle.lap_rows.proofs.lap_rows.list_laps.Statement.{statement}

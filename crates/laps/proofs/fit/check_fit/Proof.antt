@@ -1,8 +1,8 @@
 -- `laps::fit::check_fit` meets its contract: each return is the first row that fails, by the tests before it. Assumes nothing.
 use mathlib.Core.Path.{sym, _∙_}
 use native.Mathlib.Omega.{arith}
-use Rattle.types.proofs.Rows.{not-fails, not-passes}
-use Rattle.laps.specs.Calls.{fileRows, fitRows}
+use Rattle.geo.proofs.Rows.{not-fails, not-passes}
+use Rattle.laps.specs.Calls.{fileRows, fileFitRows}
 use Rattle.laps.proofs.Cap.{told-above, told-below}
 use Rattle.laps.proofs.Rows.{refused-front, file-passed, long-of, fit-6, fit-sizes, size-8, size-9, size-0}
 use borrow.Author.Needs.{needs}
@@ -13,7 +13,7 @@ check-file-requires : tie.Need-check-file-requires
 check-file-requires c κs = search needs
 
 returns : tie.Need-returns
-unfolding fitRows
+unfolding fileFitRows
 returns c = refused-front (fileRows (c .before .before .before .args .s .now)) _ _ (c .before .check-file .ensures) (c .if1 .taken)
 
 is-within-requires : tie.Need-is-within-requires

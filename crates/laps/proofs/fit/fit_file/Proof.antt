@@ -1,7 +1,7 @@
 -- `laps::fit::fit_file` meets its contract: a refusal is the table's, and what passed it is what `fit_laps` asks. Assumes nothing.
 use mathlib.Core.Path.{sym, _∙_}
-use Rattle.types.proofs.Tolerance.{tolerance-positive}
-use Rattle.types.proofs.Outcomes.{wrote-refused}
+use Rattle.geo.proofs.Tolerance.{tolerance-positive}
+use Rattle.geo.proofs.Outcomes.{wrote-refused}
 use Rattle.laps.specs.Calls.{fitFile}
 use Rattle.laps.proofs.Rows.{fit-passed, long-of, wrote-bytes}
 use borrow.Author.Needs.{needs}

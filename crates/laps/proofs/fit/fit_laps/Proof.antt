@@ -5,7 +5,7 @@ use mathlib.Core.List.{List, map}
 use native.Mathlib.Omega.{arith}
 use lib.ListN.{length}
 use Rattle.laps.specs.File.{Lap, lapsAt, lapsOf}
-use Rattle.laps.specs.Fit.{fitLap, mostOf}
+use Rattle.laps.specs.Fit.{fitLap, lapsMost}
 use Rattle.laps.proofs.Here.{Here, step, start-at, all-laps}
 use Rattle.laps.proofs.Going.{Going, turn}
 use Rattle.laps.proofs.Lap.{mosts-step}
@@ -14,7 +14,7 @@ use Rattle.laps.proofs.fit.fit_laps.Statement.{statement}
 use Rattle.laps.proofs.fit.fit_laps.Tie as tie
 
 abbrev Inv-loop : tie.InvT-loop
-Inv-loop s tolerance out₀ kinds₀ nums₀ chain₀ out-kinds₀ out-nums₀ l at₀ to₀ j₀ out kinds nums chain out-kinds out-nums at to j = (j ≤ l) × Here s j at l × (mostOf tolerance (lapsAt s j at (l - j)) ≤ 800) × Going out₀ out l j to (map (fitLap tolerance) (lapsAt s j at (l - j))) (map (fitLap tolerance) (lapsOf s)) × (length kinds ≡ 800) × (length nums ≡ 7200) × (length out-kinds ≡ 800) × (length out-nums ≡ 7200) × (length chain ≡ 2403)
+Inv-loop s tolerance out₀ kinds₀ nums₀ chain₀ out-kinds₀ out-nums₀ l at₀ to₀ j₀ out kinds nums chain out-kinds out-nums at to j = (j ≤ l) × Here s j at l × (lapsMost tolerance (lapsAt s j at (l - j)) ≤ 800) × Going out₀ out l j to (map (fitLap tolerance) (lapsAt s j at (l - j))) (map (fitLap tolerance) (lapsOf s)) × (length kinds ≡ 800) × (length nums ≡ 7200) × (length out-kinds ≡ 800) × (length out-nums ≡ 7200) × (length chain ≡ 2403)
 
 abbrev μ-loop : tie.MeasureT-loop
 μ-loop s tolerance out₀ kinds₀ nums₀ chain₀ out-kinds₀ out-nums₀ l at₀ to₀ j₀ out kinds nums chain out-kinds out-nums at to j = l - j
@@ -32,7 +32,7 @@ add-at : tie.Need-add-at Inv-loop μ-loop
 add-at c = omega arith
 
 loop-holds : tie.Need-loop-holds Inv-loop μ-loop
-loop-holds c = let a = c .before .before .before .before .before .before .before .args in let p = c .before .before .before .before .before .before .before .pre in let e = c .before .before .before .before .lap-count .ensures .0 in (omega arith, start-at (a .s .now) _ e (p .2), subst (λ (ls : List Lap). mostOf (a .tolerance) ls ≤ 800) (sym (all-laps (a .s .now) _ e)) (p .3), fit-begin (a .tolerance) (p .0) (a .s .now) _ _ e (omega (arith, p)), refl, refl, refl, refl, refl)
+loop-holds c = let a = c .before .before .before .before .before .before .before .args in let p = c .before .before .before .before .before .before .before .pre in let e = c .before .before .before .before .lap-count .ensures .0 in (omega arith, start-at (a .s .now) _ e (p .2), subst (λ (ls : List Lap). lapsMost (a .tolerance) ls ≤ 800) (sym (all-laps (a .s .now) _ e)) (p .3), fit-begin (a .tolerance) (p .0) (a .s .now) _ _ e (omega (arith, p)), refl, refl, refl, refl, refl)
 
 count-at-requires : tie.Need-count-at-requires Inv-loop μ-loop
 count-at-requires c κs = omega (arith, c .before .loop .inv .1 .table)

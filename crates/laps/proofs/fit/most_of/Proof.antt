@@ -5,7 +5,7 @@ use native.Mathlib.Nat.{zero-add}
 use native.Mathlib.Omega.{arith}
 use Rattle.course.specs.Course.{cap}
 use Rattle.laps.specs.File.{lapsAt, lapsOf}
-use Rattle.laps.specs.Fit.{mostOf}
+use Rattle.laps.specs.Fit.{lapsMost}
 use Rattle.laps.proofs.Here.{Here, step, start-at, all-laps}
 use Rattle.laps.proofs.Cap.{cap-small, cap-step, cap-done}
 use Rattle.laps.proofs.Lap.{mosts-step, mosts-end}
@@ -13,7 +13,7 @@ use Rattle.laps.proofs.fit.most_of.Statement.{statement}
 use Rattle.laps.proofs.fit.most_of.Tie as tie
 
 abbrev Inv-loop : tie.InvT-loop
-Inv-loop s tolerance l at₀ most₀ j₀ at most j = (j ≤ l) × (most ≤ 801) × Here s j at l × (cap (most + mostOf tolerance (lapsAt s j at (l - j))) ≡ cap (mostOf tolerance (lapsOf s)))
+Inv-loop s tolerance l at₀ most₀ j₀ at most j = (j ≤ l) × (most ≤ 801) × Here s j at l × (cap (most + lapsMost tolerance (lapsAt s j at (l - j))) ≡ cap (lapsMost tolerance (lapsOf s)))
 
 abbrev μ-loop : tie.MeasureT-loop
 μ-loop s tolerance l at₀ most₀ j₀ at most j = l - j
@@ -28,7 +28,7 @@ add-at : tie.Need-add-at Inv-loop μ-loop
 add-at c = omega arith
 
 loop-holds : tie.Need-loop-holds Inv-loop μ-loop
-loop-holds c = let a = c .before .before .args in let e = c .lap-count .ensures .0 in (omega arith, omega arith, start-at (a .s .now) _ e (c .before .before .pre .1), rw zero-add (ap (λ ls. cap (mostOf (a .tolerance) ls)) (all-laps (a .s .now) _ e)))
+loop-holds c = let a = c .before .before .args in let e = c .lap-count .ensures .0 in (omega arith, omega arith, start-at (a .s .now) _ e (c .before .before .pre .1), rw zero-add (ap (λ ls. cap (lapsMost (a .tolerance) ls)) (all-laps (a .s .now) _ e)))
 
 count-at-requires : tie.Need-count-at-requires Inv-loop μ-loop
 count-at-requires c κs = omega arith

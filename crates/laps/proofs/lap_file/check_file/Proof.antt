@@ -1,7 +1,7 @@
 -- `laps::lap_file::check_file` meets its contract: each return is the first row that fails, by the tests before it. Assumes nothing.
 use mathlib.Core.Path.{sym, _∙_}
 use borrow.Author.Tests.{not-false}
-use Rattle.types.proofs.Rows.{row-fails, row-passes, not-fails, not-passes, done}
+use Rattle.geo.proofs.Rows.{row-fails, row-passes, not-fails, not-passes, done}
 use Rattle.laps.specs.Calls.{fileRows}
 use Rattle.laps.proofs.Walks.{not-short, not-big}
 use borrow.Author.Needs.{needs}

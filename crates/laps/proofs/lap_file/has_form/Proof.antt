@@ -1,6 +1,6 @@
 -- `laps::lap_file::has_form` meets its contract: its place, and then its form. Assumes nothing.
 use mathlib.Core.Bool.{true}
-use Rattle.types.proofs.And.{and-2, and-2-first}
+use Rattle.geo.proofs.And.{and-2, and-2-first}
 use Rattle.laps.specs.File.{formOk}
 use borrow.Author.Needs.{needs}
 use Rattle.laps.proofs.lap_file.has_form.Statement.{statement}

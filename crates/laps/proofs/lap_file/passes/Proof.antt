@@ -1,7 +1,7 @@
 -- `laps::lap_file::passes` meets its contract: by the number of the row. Assumes nothing.
 use mathlib.Core.Path.{ap, _∙_}
 use borrow.Author.Tests.{eq-eqb, ne-eqb}
-use Rattle.types.specs.Domain.{commandIn}
+use Rattle.geo.specs.Domain.{commandIn}
 use Rattle.laps.specs.File.{holds, domainOk}
 use borrow.Author.Needs.{needs}
 use Rattle.laps.proofs.lap_file.passes.Statement.{statement}

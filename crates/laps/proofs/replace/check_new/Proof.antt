@@ -1,7 +1,7 @@
 -- `laps::replace::check_new` meets its contract: each return is the first row that fails, by the tests before it. Assumes nothing.
 use mathlib.Core.Path.{sym, _∙_}
 use native.Mathlib.Omega.{arith}
-use Rattle.types.proofs.Rows.{row-fails, row-passes, not-fails, not-passes, done}
+use Rattle.geo.proofs.Rows.{row-fails, row-passes, not-fails, not-passes, done}
 use Rattle.laps.specs.Calls.{newRows}
 use Rattle.laps.proofs.Rows.{past-1, past-2, past-3}
 use borrow.Author.Needs.{needs}

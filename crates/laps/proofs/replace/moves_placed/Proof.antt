@@ -5,8 +5,8 @@ use native.Mathlib.Omega.{arith}
 use borrow.Author.Needs.{needs}
 use lib.ListN.{length, getD}
 use lib.Dec.{eqb}
-use Rattle.types.specs.Domain.{everyFrom}
-use Rattle.types.proofs.Every.{every-start, every-step, every-stop, every-done}
+use Rattle.geo.specs.Domain.{everyFrom}
+use Rattle.geo.proofs.Every.{every-start, every-step, every-stop, every-done}
 use Rattle.laps.specs.File.{placed}
 use Rattle.laps.specs.Calls.{movePlaced}
 use Rattle.laps.proofs.replace.moves_placed.Statement.{statement}

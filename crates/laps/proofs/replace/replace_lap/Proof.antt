@@ -1,8 +1,8 @@
 -- `laps::replace::replace_lap` meets its contract: a refusal is the table's, and what passed it is what `replace_laps` asks. Assumes nothing.
 use mathlib.Core.Path.{sym, _∙_}
 use native.Mathlib.Omega.{arith}
-use Rattle.types.proofs.Tolerance.{tolerance-positive}
-use Rattle.types.proofs.Outcomes.{wrote-refused}
+use Rattle.geo.proofs.Tolerance.{tolerance-positive}
+use Rattle.geo.proofs.Outcomes.{wrote-refused}
 use Rattle.laps.specs.Calls.{replaceLap}
 use Rattle.laps.proofs.Rows.{replace-passed, past-1, past-3, wrote-bytes}
 use borrow.Author.Needs.{needs}

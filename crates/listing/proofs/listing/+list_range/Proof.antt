@@ -3,7 +3,7 @@ use mathlib.Core.Path.{_∙_}
 use Prim.Native.Nat.{_+_, _-_}
 use native.Mathlib.Omega.{arith}
 use borrow.Author.Needs.{needs}
-use Rattle.types.specs.Lent.{pointAt}
+use Rattle.geo.specs.Lent.{pointAt}
 use Rattle.fitting.proofs.Fitted.{inside-of}
 use Rattle.listing.proofs.Ranged.{rows-length, rows-line, rows-arc, rows-cut}
 use Rattle.listing.proofs.Writing.{one-row, both-rows}

@@ -1,5 +1,5 @@
 -- `listing::listing::kind_of` meets its contract: by the case. Assumes nothing.
-use Rattle.types.specs.Lent.{kindOf}
+use Rattle.geo.specs.Lent.{kindOf}
 use borrow.Author.Needs.{needs}
 use Rattle.listing.proofs.listing.kind_of.Statement.{statement}
 use Rattle.listing.proofs.listing.kind_of.Tie as tie

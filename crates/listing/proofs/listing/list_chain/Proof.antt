@@ -1,7 +1,7 @@
 -- `listing::listing::list_chain` meets its contract: what `thin_in_place` leaves at the front of the chain is the chain, thinned, and `list_range` lists it. Assumes nothing.
 use native.Mathlib.Omega.{arith}
 use mathlib.Core.Path.{refl, sym}
-use Rattle.number.proofs.Unsigned.{square-not-negative}
+use Rattle.floats.proofs.Unsigned.{square-not-negative}
 use Rattle.fitting.proofs.Chain.{kept-few, kept-some, kept-fits, kept-wide}
 use Rattle.listing.proofs.Chain.{listed-chain, none-listed}
 use borrow.Author.Needs.{needs}

@@ -2,11 +2,12 @@
 use native.Mathlib.Omega.{arith}
 use mathlib.Core.Path.{refl, subst}
 use lib.ListN.{length}
-use Rattle.number.specs.Ops.{_⊗_}
-use Rattle.types.specs.Lent.{triple, flat}
+use Rattle.floats.specs.Ops.{_⊗_}
+use Rattle.geo.specs.Lent.{triple, flat}
 use Rattle.bezier.specs.Linearize.{stepEnd, paramSteps}
 use Rattle.course.specs.Parts.{Join}
-use Rattle.course.specs.Course.{quarter, joined}
+use Rattle.floats.specs.Limits.{quarter}
+use Rattle.course.specs.Course.{joined}
 use Rattle.course.proofs.Steps.{ends-length}
 use Rattle.course.proofs.Stepping.{line-end, bezier-end}
 use Rattle.listing.specs.Walks.{RowRoom}

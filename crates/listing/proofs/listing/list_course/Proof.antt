@@ -1,5 +1,5 @@
 -- `listing::listing::list_course` meets its contract: what is left to list, listed from here, gives the whole. The measure is how many commands are left. Assumes nothing.
-use Rattle.types.specs.Lent.{triple, origin}
+use Rattle.geo.specs.Lent.{triple, origin}
 use Rattle.course.specs.Walks.{underWay}
 use Rattle.course.proofs.Walking.{take-sets, length-refront}
 use native.Mathlib.Omega.{arith}

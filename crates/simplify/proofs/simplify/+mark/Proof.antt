@@ -7,8 +7,8 @@ use borrow.Author.Needs.{needs}
 use borrow.Fn.Kinds.{In}
 use borrow.Fn.PlainCycle.{Measures, is, falls, and}
 use lib.ListN.{length-set}
-use Rattle.number.specs.Ops.{_≺_}
-use Rattle.types.specs.Lent.{pointAt}
+use Rattle.floats.specs.Ops.{_≺_}
+use Rattle.geo.specs.Lent.{pointAt}
 use Rattle.simplify.specs.Measure.{lineSq}
 use Rattle.simplify.proofs.Kept.{found-inside}
 use Rattle.simplify.proofs.Flags.{mark-cut, mark-none}

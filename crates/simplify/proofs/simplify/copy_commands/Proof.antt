@@ -6,9 +6,9 @@ use mathlib.Core.Logic.{⊎-elim}
 use native.Mathlib.Omega.{arith}
 use borrow.Author.Needs.{needs}
 use lib.ListN.{length, getD}
-use Rattle.types.specs.declared.types.Command.{Command}
-use Rattle.types.specs.Lent.{commandAt, kindOf, numbersOf}
-use Rattle.types.proofs.Outcomes.{nine}
+use Rattle.geo.specs.declared.types.Command.{Command}
+use Rattle.geo.specs.Lent.{commandAt, kindOf, numbersOf}
+use Rattle.geo.proofs.Outcomes.{nine}
 use Rattle.simplify.specs.Data.{isMove}
 use Rattle.simplify.proofs.Copy.{Copying, copy-start, copy-take, copy-skip, copy-done, kindRow, kind-stored, copied-both}
 use Rattle.simplify.proofs.simplify.copy_commands.Statement.{statement}

@@ -5,7 +5,7 @@ use mathlib.Core.Bool.{false}
 use mathlib.Core.Logic.{⊎-elim}
 use native.Mathlib.Omega.{arith}
 use lib.ListN.{length, getD}
-use Rattle.types.specs.Lent.{pair, pairAt}
+use Rattle.geo.specs.Lent.{pair, pairAt}
 use Rattle.simplify.proofs.Copy.{Copying, copy-start, copy-take, copy-skip, copy-done}
 use Rattle.simplify.proofs.simplify.copy_pairs.Statement.{statement}
 use Rattle.simplify.proofs.simplify.copy_pairs.Tie as tie

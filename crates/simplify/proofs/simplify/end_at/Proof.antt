@@ -1,7 +1,7 @@
 -- `simplify::simplify::end_at` meets its contract, by what `command_at` and `end_point` ensure. Assumes nothing.
 use mathlib.Core.Path.{ap, _∙_}
 use borrow.Author.Needs.{needs}
-use Rattle.types.specs.Lent.{endOf}
+use Rattle.geo.specs.Lent.{endOf}
 use Rattle.simplify.proofs.simplify.end_at.Statement.{statement}
 use Rattle.simplify.proofs.simplify.end_at.Tie as tie
 

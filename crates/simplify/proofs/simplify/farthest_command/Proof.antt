@@ -3,7 +3,7 @@ use Prim.Native.Nat.{_-_, _<_}
 use mathlib.Core.Path.{_≡_}
 use native.Mathlib.Omega.{arith}
 use borrow.Author.Needs.{needs}
-use Rattle.types.specs.Lent.{commandAt}
+use Rattle.geo.specs.Lent.{commandAt}
 use Rattle.simplify.specs.Data.{commandSq}
 use Rattle.simplify.specs.Farthest.{farthestOf, farthestIn}
 use Rattle.simplify.specs.Search.{Sound}

@@ -7,9 +7,9 @@ use borrow.Author.Tests.{eq-eqb, ne-eqb, lt-ltb, le-ltb}
 use borrow.Author.Needs.{needs}
 use lib.Dec.{eqb, ltb}
 use lib.ListN.{length}
-use Rattle.types.specs.Outcome.{refusal}
-use Rattle.types.specs.Domain.{whole, tolerance, commandsFormed, commandsIn}
-use Rattle.types.proofs.Rows.{whole-passes, whole-fails, not-passes, not-fails}
+use Rattle.geo.specs.Outcome.{refusal}
+use Rattle.geo.specs.Domain.{whole, tolerance, commandsFormed, commandsIn}
+use Rattle.geo.proofs.Rows.{whole-passes, whole-fails, not-passes, not-fails}
 use Rattle.simplify.proofs.simplify.refuse_commands.Statement.{statement}
 use Rattle.simplify.proofs.simplify.refuse_commands.Tie as tie
 

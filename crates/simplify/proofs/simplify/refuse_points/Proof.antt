@@ -6,9 +6,9 @@ use borrow.Author.Tests.{lt-ltb, le-ltb}
 use borrow.Author.Needs.{needs}
 use lib.Dec.{ltb}
 use lib.ListN.{length}
-use Rattle.types.specs.Outcome.{refusal}
-use Rattle.types.specs.Domain.{whole, coordinate, numbersIn, tolerance}
-use Rattle.types.proofs.Rows.{whole-passes, whole-fails, not-passes, not-fails}
+use Rattle.geo.specs.Outcome.{refusal}
+use Rattle.geo.specs.Domain.{whole, coordinate, numbersIn, tolerance}
+use Rattle.geo.proofs.Rows.{whole-passes, whole-fails, not-passes, not-fails}
 use Rattle.simplify.proofs.simplify.refuse_points.Statement.{statement}
 use Rattle.simplify.proofs.simplify.refuse_points.Tie as tie
 

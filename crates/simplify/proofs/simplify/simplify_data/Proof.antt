@@ -2,8 +2,8 @@
 use native.Mathlib.Omega.{arith}
 use borrow.Author.Needs.{needs}
 use lib.ListN.{length}
-use Rattle.number.proofs.Unsigned.{square-not-negative}
-use Rattle.types.proofs.Outcomes.{commands-refused}
+use Rattle.floats.proofs.Unsigned.{square-not-negative}
+use Rattle.geo.proofs.Outcomes.{commands-refused}
 use Rattle.simplify.specs.Simplify.{simplifyData}
 use Rattle.simplify.proofs.Accepted.{commands-accepted, wrote-commands}
 use Rattle.simplify.proofs.simplify.simplify_data.Statement.{statement}

@@ -3,9 +3,9 @@ use mathlib.Core.Path.{refl}
 use native.Mathlib.Omega.{arith}
 use borrow.Author.Needs.{needs}
 use lib.ListN.{length}
-use Rattle.number.proofs.Unsigned.{square-not-negative}
-use Rattle.types.specs.Lent.{triple, flat, pointAt}
-use Rattle.types.proofs.Outcomes.{wrote-refused}
+use Rattle.floats.proofs.Unsigned.{square-not-negative}
+use Rattle.geo.specs.Lent.{triple, flat, pointAt}
+use Rattle.geo.proofs.Outcomes.{wrote-refused}
 use Rattle.simplify.specs.Measure.{lineSq}
 use Rattle.simplify.specs.Simplify.{simplifyPolyline3d}
 use Rattle.simplify.proofs.Accepted.{points-accepted, wrote-points}

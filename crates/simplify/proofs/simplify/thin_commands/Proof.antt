@@ -4,7 +4,7 @@ use mathlib.Core.Bool.{true, false}
 use native.Mathlib.Omega.{arith}
 use borrow.Author.Needs.{needs}
 use lib.ListN.{length, replicate, length-set, length-replicate}
-use Rattle.types.specs.Lent.{commandAt}
+use Rattle.geo.specs.Lent.{commandAt}
 use Rattle.simplify.proofs.Flags.{copied-commands, copied-no-commands}
 use Rattle.simplify.proofs.simplify.thin_commands.Statement.{statement}
 use Rattle.simplify.proofs.simplify.thin_commands.Tie as tie

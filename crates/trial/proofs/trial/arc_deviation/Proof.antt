@@ -4,9 +4,9 @@ use Prim.Native.Nat.{_+_, _-_, _≤_}
 use native.Mathlib.Omega.{arith}
 use borrow.Author.Needs.{needs}
 use lib.Ieee.{Float}
-use Rattle.types.specs.Lent.{pointAt}
-use Rattle.types.specs.Walk.{fold}
-use Rattle.types.proofs.Walk.{fold-turn, fold-done}
+use Rattle.geo.specs.Lent.{pointAt}
+use Rattle.geo.specs.Walk.{fold}
+use Rattle.geo.proofs.Walk.{fold-turn, fold-done}
 use Rattle.circle.specs.Worst.{worse, worst as worstOf}
 use Rattle.trial.specs.Deviation.{spokeOf, stepBetween, arcDeviation}
 use Rattle.trial.proofs.Steps.{walk, step-is}

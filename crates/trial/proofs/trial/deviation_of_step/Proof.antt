@@ -3,7 +3,7 @@ use mathlib.Core.Path.{sym, subst}
 use lib.Dec.{T}
 use lib.Ieee.{binary64, fits}
 use borrow.Author.Needs.{needs}
-use Rattle.types.specs.Vector.{lengthOf}
+use Rattle.geo.specs.Vector.{lengthOf}
 use Rattle.trial.proofs.Squares.{step-inside}
 use Rattle.trial.proofs.trial.deviation_of_step.Statement.{statement}
 use Rattle.trial.proofs.trial.deviation_of_step.Tie as tie

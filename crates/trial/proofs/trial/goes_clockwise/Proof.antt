@@ -4,12 +4,12 @@ use Prim.Native.Nat.{_+_, _-_, _≤_}
 use native.Mathlib.Omega.{arith}
 use borrow.Author.Needs.{needs}
 use lib.Ieee.{Float, lt}
-use Rattle.number.specs.Ops.{_⊕_, +0}
-use Rattle.types.specs.declared.types.Point3D.{Point3D}
-use Rattle.types.specs.Vector.{flatten}
-use Rattle.types.specs.Lent.{pointAt}
-use Rattle.types.specs.Walk.{fold}
-use Rattle.types.proofs.Walk.{fold-turn, fold-done}
+use Rattle.floats.specs.Ops.{_⊕_, +0}
+use Rattle.geo.specs.declared.types.Point3D.{Point3D}
+use Rattle.geo.specs.Vector.{flatten}
+use Rattle.geo.specs.Lent.{pointAt}
+use Rattle.geo.specs.Walk.{fold}
+use Rattle.geo.proofs.Walk.{fold-turn, fold-done}
 use Rattle.arc.specs.Direction.{turnAt, crossSum, clockwise}
 use Rattle.trial.proofs.trial.goes_clockwise.Statement.{statement}
 use Rattle.trial.proofs.trial.goes_clockwise.Tie as tie

@@ -5,9 +5,9 @@ use native.Mathlib.Omega.{arith}
 use borrow.Author.Needs.{needs}
 use borrow.Author.Tests.{not-true}
 use lib.Ieee.{Float, lt}
-use Rattle.types.specs.Lent.{pointAt}
-use Rattle.types.specs.Walk.{fold}
-use Rattle.types.proofs.Walk.{fold-turn, fold-done}
+use Rattle.geo.specs.Lent.{pointAt}
+use Rattle.geo.specs.Walk.{fold}
+use Rattle.geo.proofs.Walk.{fold-turn, fold-done}
 use Rattle.circle.specs.declared.circle.Deviation.{Deviation}
 use Rattle.circle.specs.Worst.{worse, worst as worstOf}
 use Rattle.circle.specs.Three.{radiusFrom}

@@ -1,7 +1,7 @@
 -- `trial::trial::is_closed_range` meets its contract: a square from 1e-11 up has a root above 1e-6, and of any other the root is taken. Assumes nothing.
 use mathlib.Core.Path.{sym}
 use borrow.Author.Needs.{needs}
-use Rattle.types.specs.Vector.{lengthOf}
+use Rattle.geo.specs.Vector.{lengthOf}
 use Rattle.trial.specs.Trial.{closedRange}
 use Rattle.trial.proofs.Squares.{not-closed}
 use Rattle.trial.proofs.trial.is_closed_range.Statement.{statement}

@@ -3,7 +3,7 @@ use mathlib.Core.Path.{_≡_, ap, _∙_}
 use Prim.Native.Nat.{_-_}
 use native.Mathlib.Omega.{arith}
 use borrow.Author.Needs.{needs}
-use Rattle.types.specs.Lent.{pointAt}
+use Rattle.geo.specs.Lent.{pointAt}
 use Rattle.trial.specs.Traversal.{offsetOf}
 use Rattle.trial.proofs.Going.{Going, go-start, go-turn, go-first, go-stop, go-done}
 use Rattle.trial.proofs.trial.traversal_passes.Statement.{statement}

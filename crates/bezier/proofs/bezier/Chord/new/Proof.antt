@@ -1,11 +1,11 @@
 -- `bezier::bezier::Chord::new` meets its contract: the definition's operations in the same order. Assumes nothing.
 use mathlib.Core.Path.{refl}
-use Rattle.bezier.specs.Flatten.{chordOf}
+use Rattle.bezier.specs.Flatten.{curveChord}
 use Rattle.bezier.proofs.bezier.Chord.new.Statement.{statement}
 use Rattle.bezier.proofs.bezier.Chord.new.Tie as tie
 
 returns : tie.Need-returns
-unfolding chordOf
+unfolding curveChord
 returns c = refl
 
 pub new-spec : {M : Type 1} → statement M

@@ -1,14 +1,14 @@
 -- `simplify::simplify::Chord::distance_squared` meets its contract: each return is the definition with the test that led there. Assumes nothing.
-use Rattle.simplify.specs.Search.{scaled}
+use Rattle.simplify.specs.Search.{squareOfSpread}
 use Rattle.simplify.proofs.simplify.Chord.distance_squared.Statement.{statement}
 use Rattle.simplify.proofs.simplify.Chord.distance_squared.Tie as tie
 
 returns : tie.Need-returns
-unfolding scaled
+unfolding squareOfSpread
 returns c = rw (c .if1 .taken)
 
 returns-2 : tie.Need-returns-2
-unfolding scaled
+unfolding squareOfSpread
 returns-2 c = rw (c .before .if1 .left)
 
 pub distance-squared-spec : {M : Type 1} → statement M

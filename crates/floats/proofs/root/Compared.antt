@@ -1,0 +1,84 @@
+-- Comparisons of roots that the numbers below them decide: the root of a larger number is not below what the root of a smaller one reaches, and the root of a
+-- smaller one is not above twice that of a larger one, since rounding keeps the order and gives back a number that the format holds. Assumes nothing.
+use mathlib.Core.Path.{_≡_, refl, subst}
+use mathlib.Core.Bool.{true, false}
+use Prim.Native.Nat.{ℕ, _*_, _^_, _≤_, _<_}
+use native.Mathlib.Nat.{one-mul, two-mul, add-mul}
+use native.Mathlib.Omega.{arith}
+use lib.Dec.{T}
+use lib.IntN.{ℤ}
+use lib.Ieee.{Float, nan, inf, fin, binary64, up, down, round, fits, isNan, lt, le, mul, ofBits}
+use lib.Ieee.Bits.{is-true}
+use lib.Ieee.Fits.{down-pos}
+use lib.Ieee.Exact.{HasValue, round-exact}
+use lib.Ieee.Order.{le-of-values, round-mono}
+use Rattle.floats.specs.Ops.{_⊗_, +0, two}
+use Rattle.floats.specs.Root.{rootOf, inUnits, plain}
+use Rattle.floats.proofs.Order.{clash, le-below, le-right, le-under, lt-under}
+use Rattle.floats.proofs.root.Read.{units-of-value, in-range}
+use Rattle.floats.proofs.root.Nearest.{digits, root-fits}
+use Rattle.floats.proofs.root.Monotone.{root-plain, root-monotone}
+
+-- a is at most the root of x, and x at most y
+pub root-not-below : (a x y : Float) → T (fits binary64 x) → T (fits binary64 y) → le a (rootOf x) ≡ true → le x y ≡ true → lt (rootOf y) a ≡ false
+root-not-below a x y f g h l =
+    le-under a (rootOf x) (rootOf y) h (le-below (rootOf x) (rootOf y) (root-monotone x y f g (le-right a (rootOf x) h) l))
+
+-- ---- twice a number
+-- what the format holds is rounded to itself
+round-self : (m : ℕ) (e : ℤ) → T (fits binary64 (fin false m e)) → HasValue (round binary64 false (m * up e) (down e)) false (m * up e) (down e)
+unfolding inUnits
+round-self m e f =
+    let D = digits (fin false m e) f (unfold plain in tt) in
+    let u : inUnits (fin false m e) ≡ D .t * 2 ^ D .j = units-of-value (fin false m e) (D .t * 2 ^ D .j) (D .value) in
+    round-exact binary64 false (m * up e) (down e) (D .t) (D .j) (down-pos e) (D .few) (subst (λ (n : ℕ). n < 2 ^ 2098) u (in-range m e f)) (D .value .1)
+
+-- a / b is at most 2 * a / b
+twice : (a b : ℕ) → a * (1 * b) ≤ 2 * a * b
+twice a b = simp (one-mul, two-mul, add-mul) (omega arith)
+
+finite-doubled : (m : ℕ) (e : ℤ) → T (fits binary64 (fin false m e)) → lt (two ⊗ fin false m e) (fin false m e) ≡ false
+unfolding mul ofBits
+finite-doubled m e f =
+    let a = m * up e in
+    let b = down e in
+    let p = down-pos e in
+    let r = round binary64 false a b in
+    let l : le (fin false m e) r ≡ true = is-true _ (le-of-values (fin false m e) r a b a b p p (refl, refl) (round-self m e f) (omega arith)) in
+    let h : le r (two ⊗ fin false m e) ≡ true = is-true _ (round-mono binary64 a b (2 * a) (1 * b) p (omega arith) (twice a b)) in
+    le-under (fin false m e) r (two ⊗ fin false m e) l (le-below r (two ⊗ fin false m e) h)
+
+doubled : (r : Float) → T (fits binary64 r) → T (plain r) → lt (two ⊗ r) r ≡ false
+unfolding plain
+doubled nan f p = absurd p
+doubled (inf s) f p = absurd p
+doubled (fin true m e) f p = absurd p
+doubled (fin false m e) f p = finite-doubled m e f
+
+-- ---- the root of a number above zero
+root-doubled : (x : Float) → T (fits binary64 x) → lt +0 x ≡ true → lt (two ⊗ rootOf x) (rootOf x) ≡ false
+unfolding rootOf mul lt ofBits
+root-doubled nan f p = clash p
+root-doubled (inf true) f p = clash p
+root-doubled (inf false) f p = refl
+root-doubled (fin true m e) f p = clash p
+root-doubled (fin false m e) f p = doubled (rootOf (fin false m e)) (root-fits (fin false m e) f) (root-plain m e f)
+
+plain-number : (r : Float) → T (plain r) → isNan r ≡ false
+unfolding plain isNan
+plain-number nan p = absurd p
+plain-number (inf s) p = refl
+plain-number (fin s m e) p = refl
+
+root-number : (x : Float) → T (fits binary64 x) → lt +0 x ≡ true → isNan (rootOf x) ≡ false
+unfolding rootOf isNan lt ofBits
+root-number nan f p = clash p
+root-number (inf true) f p = clash p
+root-number (inf false) f p = refl
+root-number (fin true m e) f p = clash p
+root-number (fin false m e) f p = plain-number (rootOf (fin false m e)) (root-plain m e f)
+
+-- x is above zero, and at most y
+pub root-under-twice : (x y : Float) → T (fits binary64 x) → T (fits binary64 y) → lt +0 x ≡ true → le x y ≡ true → lt (two ⊗ rootOf y) (rootOf x) ≡ false
+root-under-twice x y f g p l =
+    le-under (rootOf x) (rootOf y) (two ⊗ rootOf y) (root-monotone x y f g (root-number x f p) l) (root-doubled y g (lt-under +0 x y p l))

@@ -1,0 +1,5 @@
+pub mod Ops
+pub mod Limits
+pub mod Float
+pub mod Root
+pub mod Wide

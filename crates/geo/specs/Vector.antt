@@ -1,0 +1,45 @@
+-- Operations on points, each float operation in the order in which the Rust, and glam below it, rounds (document 01, "glam's forms"). Definitions only.
+use lib.Ieee.{Float}
+use Rattle.floats.specs.Ops.{_⊕_, _⊖_, _⊗_, _⊘_, one, two}
+use Rattle.floats.specs.Root.{rootOf}
+use Rattle.geo.specs.declared.types.Point.{Point}
+use Rattle.geo.specs.declared.types.Point3D.{Point3D}
+
+-- a position in the plane, of a position in space
+abbrev pub flatten : Point3D → Point
+flatten p = record { x = p .x; y = p .y }
+
+-- ---- in the plane: a direction by its two numbers
+abbrev pub dot : Float → Float → Float → Float → Float
+dot x y x′ y′ = x ⊗ x′ ⊕ y ⊗ y′
+
+abbrev pub perpDot : Float → Float → Float → Float → Float
+perpDot x y x′ y′ = x ⊗ y′ ⊖ y ⊗ x′
+
+-- length_squared and length
+abbrev pub lengthSq : Float → Float → Float
+lengthSq x y = dot x y x y
+
+unfoldable pub lengthOf : Float → Float → Float
+lengthOf x y = rootOf (lengthSq x y)
+
+unfoldable pub distanceSq : Point → Point → Float
+distanceSq p q = lengthSq (p .x ⊖ q .x) (p .y ⊖ q .y)
+
+unfoldable pub distance : Point → Point → Float
+unfolding lengthOf
+distance p q = lengthOf (p .x ⊖ q .x) (p .y ⊖ q .y)
+
+-- the point at parameter t between a and b
+unfoldable pub lerp : Point → Point → Float → Point
+lerp a b t = record { x = a .x ⊗ (one ⊖ t) ⊕ b .x ⊗ t; y = a .y ⊗ (one ⊖ t) ⊕ b .y ⊗ t }
+
+-- ---- in space
+abbrev pub lengthSq3 : Float → Float → Float → Float
+lengthSq3 x y z = x ⊗ x ⊕ y ⊗ y ⊕ z ⊗ z
+
+unfoldable pub distance3 : Point3D → Point3D → Float
+distance3 p q = rootOf (lengthSq3 (p .x ⊖ q .x) (p .y ⊖ q .y) (p .z ⊖ q .z))
+
+unfoldable pub midpoint : Point3D → Point3D → Point3D
+midpoint a b = record { x = (a .x ⊕ b .x) ⊘ two; y = (a .y ⊕ b .y) ⊘ two; z = (a .z ⊕ b .z) ⊘ two }

@@ -1,4 +1,0 @@
-pub mod Ops
-pub mod Float
-pub mod Root
-pub mod Wide
