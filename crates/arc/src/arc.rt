@@ -1,4 +1,5 @@
 // src/geo/shape/arc.rs: the part that is carried over.
+use geo::domain::MOST_POINTS;
 use geo::domain::all_coordinates;
 use geo::domain::is_centre;
 use geo::lent::pair_at;
@@ -45,7 +46,7 @@ fn check_direction(points: &[f64], center: Point) -> u32
     if points.len() % 2 != 0 {
         return 1;
     }
-    if 2048 < points.len() / 2 {
+    if MOST_POINTS < points.len() / 2 {
         return 2;
     }
     if !all_coordinates(points) {

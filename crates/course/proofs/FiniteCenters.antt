@@ -15,7 +15,7 @@ use Rattle.floats.specs.Root.{plain}
 use Rattle.floats.specs.Ops.{_⊕_, _⊖_, _⊗_, _⊘_, +0, one, two}
 use Rattle.floats.proofs.Order.{either}
 use Rattle.floats.proofs.Bounds.{Within, Below, AtLeast, round-within, add-within, within-more, add-below, sub-below, mul-below, div-below, below-more, at-least-of-abs}
-use Rattle.floats.proofs.root.Bounded.{square-plain, add-plain}
+use Rattle.floats.proofs.root.Plain.{square-plain, add-plain}
 use Rattle.geo.specs.declared.types.Point.{Point}
 use Rattle.geo.specs.declared.types.Point3D.{Point3D}
 use Rattle.geo.specs.Vector.{dot}

@@ -8,13 +8,12 @@ use native.Mathlib.Nat.{eq-zero-or-pos, not-le-of-lt, le-trans, le-of-eq, le-of-
 use native.Mathlib.Omega.{arith}
 use lib.Dec.{T, ltb, eqb, ltb→lt, eqb→eq, nltb→le, lit<}
 use lib.Pow.{pow-add, pow-pos, pow-mono, pow-lt}
-use lib.Ieee.{Float, nan, inf, fin, binary64, up, down, size, units, round, sum, unlike, add, sub, mul, div, neg, lt, le, eq, isNan}
+use lib.Ieee.{Float, nan, inf, fin, binary64, up, down, size, units, round, sum, unlike, add, sub, mul, div, neg, lt, le, eq}
 use lib.Ieee.Digits.{size-le}
 use lib.Ieee.Fits.{round-is, down-pos}
 use lib.Ieee.Exact.{HasValue, units-val}
 use lib.Ieee.Nearest.{closest, closest-mono}
 use lib.Ieee.Order.{drop, kept}
-use lib.Ieee.Scale.{finite}
 use Rattle.floats.specs.Float.{absOf}
 use Rattle.floats.specs.Root.{plain}
 
@@ -33,17 +32,6 @@ AtLeast l (fin s m e) = down e ≤ m * up e * 2 ^ l
 
 -- ---- what a bound gives
 
-pub within-finite : (b : ℕ) (x : Float) → Within b x → T (finite x)
-within-finite b nan h = h
-within-finite b (inf s) h = h
-within-finite b (fin s m e) h = tt
-
-pub within-no-nan : (b : ℕ) (x : Float) → Within b x → T (not (isNan x))
-unfolding isNan
-within-no-nan b nan h = h
-within-no-nan b (inf s) h = tt
-within-no-nan b (fin s m e) h = tt
-
 pub within-more : (b c : ℕ) (x : Float) → b ≤ c → Within b x → Within c x
 within-more b c nan l h = h
 within-more b c (inf s) l h = h
@@ -51,12 +39,6 @@ within-more b c (fin s m e) l h = le-trans h (mul-le-mul-right (down e) l)
 
 pub below-more : {j : ℕ} {x : Float} (k : ℕ) → j ≤ k → Below j x → Below k x
 below-more {j} {x} k l h = record { within = within-more (2 ^ j) (2 ^ k) x (pow-mono l) (h .within) }
-
-pub below-finite : {k : ℕ} {x : Float} → Below k x → T (finite x)
-below-finite {k} {x} h = within-finite (2 ^ k) x (h .within)
-
-pub below-no-nan : {k : ℕ} {x : Float} → Below k x → T (not (isNan x))
-below-no-nan {k} {x} h = within-no-nan (2 ^ k) x (h .within)
 
 -- ---- rounding: a bound a * 2 ^ k with an a of 53 digits is held exactly
 
@@ -178,12 +160,6 @@ neg-within b nan h = h
 neg-within b (inf s) h = h
 neg-within b (fin s m e) h = h
 
-pub abs-within : (b : ℕ) (x : Float) → Within b x → Within b (absOf x)
-unfolding absOf
-abs-within b nan h = h
-abs-within b (inf s) h = h
-abs-within b (fin s m e) h = h
-
 -- ---- by powers of two
 
 held : (k : ℕ) → k ≤ 1023 → 1 * 2 ^ k < 2 ^ 1024
@@ -207,9 +183,6 @@ add-below {k} {x} {y} l h g =
 
 pub neg-below : {k : ℕ} {x : Float} → Below k x → Below k (neg x)
 neg-below {k} {x} h = record { within = neg-within (2 ^ k) x (h .within) }
-
-pub abs-below : {k : ℕ} {x : Float} → Below k x → Below k (absOf x)
-abs-below {k} {x} h = record { within = abs-within (2 ^ k) x (h .within) }
 
 pub sub-below : {k : ℕ} {x y : Float} → k + 1 ≤ 1023 → Below k x → Below k y → Below (k + 1) (sub binary64 x y)
 unfolding sub
@@ -278,23 +251,3 @@ at-least-of-abs l b (fin s m e) (fin false n d) w p h g =
     le-of-mul-le-mul-right
     (le-trans (le-of-eq (mul-comm (down e) (down d)))
     (le-trans (mul-le-mul-right (down e) g) (le-trans (le-of-eq E) (le-trans (mul-le-mul-right (2 ^ l) q) (le-of-eq F))))) (down-pos d)
-
--- −c <= x and x <= c
-pub within-of-two : (b : ℕ) (x c : Float) → T (plain c) → le (neg c) x ≡ true → le x c ≡ true → Within b c → Within b x
-unfolding le lt eq neg plain
-within-of-two b x nan p g h w = absurd w
-within-of-two b x (inf t) p g h w = absurd w
-within-of-two b x (fin true n d) p g h w = absurd p
-within-of-two b nan (fin false n d) p g h w = no-false h
-within-of-two b (inf true) (fin false n d) p g h w = no-false g
-within-of-two b (inf false) (fin false n d) p g h w = no-false h
-within-of-two b (fin false m e) (fin false n d) p g h w = through-cross (m * up e) (n * up d) (down e) (down d) b (down-pos d) (or-le (m * up e * down d) (n * up d * down e) _ h) w
-within-of-two b (fin true m e) (fin false n d) p g h w = through-cross (m * up e) (n * up d) (down e) (down d) b (down-pos d) (back (m * up e * down d) (n * up d * down e) _ g) w
-  where
-    back : (A B : ℕ) (c : Bool) → (ltb A B || (eqb B A && c)) ≡ true → A ≤ B
-    back A B c e = go (ltb A B) (eqb B A) c (ltb→lt A B) (eqb→eq B A) e
-      where
-        go : (x y z : Bool) → (T x → A < B) → (T y → B ≡ A) → (x || (y && z)) ≡ true → A ≤ B
-        go true y z f g h = le-of-lt (f tt)
-        go false true z f g h = le-of-eq (sym (g tt))
-        go false false z f g h = no-false h

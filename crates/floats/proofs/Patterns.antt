@@ -1,6 +1,6 @@
 -- Which floats and which patterns are no NaN. Assumes nothing.
 use mathlib.Core.Path.{_≡_, refl, sym, ap, _∙_, subst}
-use Prim.Native.Nat.{ℕ, _-_, _%_, _≤_, _<_}
+use Prim.Native.Nat.{ℕ, _%_, _≤_, _<_}
 use native.Mathlib.Omega.{arith}
 use mathlib.Core.Bool.{Bool, true, false, not}
 use lib.Dec.{T, ltb, ltb→lt, not-T}
@@ -14,16 +14,6 @@ unfolding lt isNan
 lt-no-nan nan y e = subst T (sym e) tt
 lt-no-nan (inf s) y e = tt
 lt-no-nan (fin s m k) y e = tt
-
-pub gt-no-nan : (x y : Float) → lt x y ≡ true → T (not (isNan y))
-unfolding lt isNan
-gt-no-nan nan y e = absurd (subst T (sym e) tt)
-gt-no-nan (inf s) nan e = subst T (sym e) tt
-gt-no-nan (inf s) (inf t) e = tt
-gt-no-nan (inf s) (fin t n d) e = tt
-gt-no-nan (fin s m k) nan e = subst T (sym e) tt
-gt-no-nan (fin s m k) (inf t) e = tt
-gt-no-nan (fin s m k) (fin t n d) e = tt
 
 -- a pattern up to the infinity's is no NaN's
 pub no-nan-bits : (b : ℕ) → b ≤ 0x7ff0_0000_0000_0000 → T (not (nanBits binary64 b))

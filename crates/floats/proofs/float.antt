@@ -2,3 +2,4 @@
 pub mod Absolute
 pub mod Ceiling
 pub mod Large
+pub mod Least

@@ -4,7 +4,7 @@ pub mod Floor
 pub mod Rooted
 pub mod Read
 pub mod Total
-pub mod Bounded
+pub mod Plain
 pub mod Nearest
 pub mod Monotone
 pub mod Compared

@@ -1,4 +1,4 @@
--- What the whole-number functions of `root` say. Definitions only.
+-- The code's own way: what the whole-number functions below the root promise each other. What a reader has to believe stands in Root.antt. Definitions only.
 use mathlib.Core.Path.{_≡_}
 use Prim.Native.Nat.{ℕ, _+_, _*_, _^_, _≤_, _<_}
 

@@ -4,8 +4,9 @@ ghost use mathlib.Core.Bool.{false};
 ghost use lib.Dec.{T};
 ghost use lib.IntN.{pos};
 ghost use lib.Ieee.{fin, lt, neg};
+ghost use lib.Ieee.Scale.{finite};
 ghost use Rattle.floats.specs.Root.{plain};
-ghost use Rattle.floats.specs.Float.{absOf, ceilOf, maxOf, clampOf};
+ghost use Rattle.floats.specs.Float.{absOf, ceilOf, LeastWhole, maxOf, clampOf};
 
 // x without its sign; a NaN stays one.
 pub fn abs(x: f64) -> f64
@@ -16,6 +17,9 @@ pub fn abs(x: f64) -> f64
     }
     f64::from_bits(f64::to_bits(x) % 0x8000_0000_0000_0000)
 }
+
+// 2^52: from here on every `f64` is whole.
+const ALL_WHOLE: f64 = 4503599627370496.0;
 
 // The least whole number that is not below x, for an x from +0 up and below 2^52.
 fn round_up(x: f64) -> f64
@@ -35,19 +39,20 @@ fn cut_off(x: f64) -> f64
     -(std::num::truncating_f64_to_u64(x) as f64)
 }
 
-// The least whole number that is not below x.
+// The ceiling of any x; NaN, the infinities and both zeros are their own. For a finite x the second clause says it
+// without the formula: the least whole number that is not below x, with the sign of x.
 pub fn ceil(x: f64) -> f64
     ensures { λ r. ⌜ r ≡ ceilOf x ⌝ }
+    ensures least { λ r. ⌜ (T (finite x) → LeastWhole x r) ⌝ }
 {
-    // from 2^52 on every `f64` is whole
     if 0.0 < x {
-        if x < 4503599627370496.0 {
+        if x < ALL_WHOLE {
             return round_up(x);
         }
         return x;
     }
     if x < 0.0 {
-        if -x < 4503599627370496.0 {
+        if -x < ALL_WHOLE {
             return cut_off(-x);
         }
         return x;

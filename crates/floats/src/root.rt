@@ -6,12 +6,12 @@ ghost use mathlib.Core.Bool.{true, false};
 ghost use lib.Dec.{T};
 ghost use lib.Ieee.{binary64, ofBits};
 ghost use Rattle.floats.specs.Wide.{Squared, NearRoot, Moved};
-ghost use Rattle.floats.specs.Root.{rootFrom, rootOf, plain};
+ghost use Rattle.floats.specs.Root.{rootFrom, rootOf, plain, Rounded};
 
 // A number below 2^107, as hi * 2^52 + lo.
-pub struct Wide {
-    pub hi: u64,
-    pub lo: u64,
+struct Wide {
+    hi: u64,
+    lo: u64,
 }
 
 // q * q, for a q up to 2^53.
@@ -95,9 +95,9 @@ fn mend(r: f64, m: u64) -> u64
 }
 
 // A number m * 2^e.
-pub struct Scaled {
-    pub m: u64,
-    pub e: u64,
+struct Scaled {
+    m: u64,
+    e: u64,
 }
 
 // m * 2^e again, with m of 53 binary digits.
@@ -150,9 +150,11 @@ fn sqrt_finite(x: f64) -> f64
     f64::from_bits(root_bits(w))
 }
 
-// The square root of any x: that of a negative number or a NaN is a NaN.
+// The square root of any x: that of a negative number or a NaN is a NaN, that of −0 is −0. For a finite x from +0 up
+// the second clause is IEEE 754's own: no `f64` lies nearer to the exact root, and a tie goes to the even one.
 pub fn sqrt(x: f64) -> f64
     ensures { λ r. ⌜ r ≡ rootOf x ⌝ }
+    ensures rounded { λ r. ⌜ (T (plain x) → Rounded x r) ⌝ }
 {
     if x != x {
         return x;

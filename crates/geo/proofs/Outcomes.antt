@@ -1,6 +1,6 @@
 -- What a public call answers and leaves, by the number of its refusal. Assumes nothing.
 use Prim.Native.Nat.{ℕ, _≤_}
-use mathlib.Core.Path.{_≡_, refl, sym, _∙_}
+use mathlib.Core.Path.{_≡_, refl, sym, _∙_, subst}
 use mathlib.Core.List.{List, map}
 use native.Mathlib.Omega.{arith}
 use lib.ListN.{length, length-map}
@@ -8,8 +8,9 @@ use lib.Seq.{sets}
 use lib.Ieee.{Float}
 use Rattle.geo.specs.declared.types.Command.{Command}
 use Rattle.geo.specs.declared.types.Command.the-variants.{Move, Line, Arc, Bezier}
+use Rattle.geo.specs.declared.types.Answer.{Answer}
 use Rattle.geo.specs.declared.types.Answer.the-variants.{Written, Refused}
-use Rattle.geo.specs.Outcome.{refusal, unless, answer, left, Wrote}
+use Rattle.geo.specs.Outcome.{Outcome, unless, answer, left, Wrote}
 use Rattle.geo.specs.Lent.{flat, kindOf, numbersOf}
 use Rattle.geo.specs.Commands.{WroteCommands}
 use Rattle.geo.proofs.Rows.{unless-refused, unless-gives}
@@ -42,6 +43,10 @@ module _ (n r : ℕ) (e : r ≡ n) where
         kinds = ok ∙ sets-front (map kindOf xs) ks (rw length-map lk);
         numbers = on ∙ sets-front (flat numbersOf xs) ns ln;
       }
+
+-- an outcome worked out another way
+pub wrote-same : {A B : Type 0} (lay : List A → List B) (o o′ : Outcome (List A)) (out out′ : List B) (r : Answer) → o ≡ o′ → Wrote lay o out out′ r → Wrote lay o′ out out′ r
+wrote-same {A} lay o o′ out out′ r e w = subst (λ (x : Outcome (List A)). Wrote lay x out out′ r) e w
 
 -- the nine numbers of a command
 pub nine : (c : Command) → length (numbersOf c) ≡ 9

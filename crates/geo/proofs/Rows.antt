@@ -1,17 +1,12 @@
 -- Laws of refusals: the first row that fails decides, and a call that passes gives its value. Assumes nothing.
 use Prim.Native.Nat.{ℕ, zero, suc, _%_, _≤_, _<_}
-use mathlib.Core.Path.{_≡_, refl, sym, ap, _∙_, subst}
+use mathlib.Core.Path.{_≡_, refl, sym, ap, _∙_}
 use mathlib.Core.Bool.{Bool, true, false, not}
 use mathlib.Core.List.{List, [], _∷_, _++_}
 use native.Mathlib.Omega.{arith}
 use borrow.Author.Tests.{eq-eqb, ne-eqb}
-use lib.ListN.{length}
-use lib.Seq.{sets}
-use Rattle.geo.specs.declared.types.Answer.{Answer}
-use Rattle.geo.specs.declared.types.Answer.the-variants.{Written, Refused}
-use Rattle.geo.specs.Outcome.{Row, row, refusal, Outcome, refused, gives, unless, answer, left, Wrote}
+use Rattle.geo.specs.Outcome.{Row, row, refusal, refused, gives, unless}
 use Rattle.geo.specs.Domain.{whole}
-use Rattle.geo.proofs.Stores.{sets-front}
 
 pub row-fails : (n : ℕ) (b : Bool) (rs : List Row) → b ≡ true → refusal (row n b ∷ rs) ≡ n
 unfolding refusal
@@ -34,7 +29,10 @@ refusal-front [] ts h = absurd (omega arith)
 refusal-front (row n true ∷ rs) ts h = refl
 refusal-front (row n false ∷ rs) ts h = refusal-front rs ts h
 
--- a check that answered no number
+-- a check that answered a number, or none
+pub not-zero : (n : ℕ) → 0 < n → n ≡ 0 → ⊥
+not-zero n h e = omega arith
+
 pub accepted : (n r : ℕ) → n ≡ r → n ≤ 0 → 0 ≡ r
 accepted n r e h = omega arith
 
@@ -66,22 +64,3 @@ unless-refused (suc n) a h = refl
 pub unless-gives : {A : Type 0} (n : ℕ) (a : A) → n ≡ 0 → unless n a ≡ gives a
 unfolding unless
 unless-gives n a h = rw h
-
--- ---- for a call that writes
-module _ {A B : Type 0} (flat : List A → List B) (rows : List Row) (xs : List A) (out : List B) where
-  -- refused by row n
-  pub wrote-none : (n : ℕ) → n ≡ refusal rows → 0 < n → Wrote flat (unless (refusal rows) xs) out out (Refused n)
-  unfolding answer left
-  wrote-none n e h = subst (λ (k : ℕ). Wrote flat (unless k xs) out out (Refused n)) e (subst (λ (o : Outcome (List A)). Wrote flat o out out (Refused n)) (sym (unless-refused n xs h)) (record { says = refl; leaves = refl }))
-
-  -- accepted: n items written to the front
-  pub wrote-all : (out′ : List B) (n : ℕ) → 0 ≡ refusal rows → n ≡ length xs → out′ ≡ sets out 0 (flat xs) → length (flat xs) ≤ length out
-      → Wrote flat (unless (refusal rows) xs) out out′ (Written n)
-  unfolding answer left
-  wrote-all out′ n e c w h =
-      subst (λ (k : ℕ). Wrote flat (unless k xs) out out′ (Written n)) e
-      (subst (λ (o : Outcome (List A)). Wrote flat o out out′ (Written n)) (sym (unless-gives 0 xs refl)) (record { says = ap Written c; leaves = w ∙ sets-front (flat xs) out h }))
-
--- an outcome worked out another way
-pub wrote-same : {A B : Type 0} (lay : List A → List B) (o o′ : Outcome (List A)) (out out′ : List B) (r : Answer) → o ≡ o′ → Wrote lay o out out′ r → Wrote lay o′ out out′ r
-wrote-same {A} lay o o′ out out′ r e w = subst (λ (x : Outcome (List A)). Wrote lay x out out′ r) e w

@@ -1,3 +1,4 @@
+pub mod Constants
 pub mod Walk
 pub mod Lent
 pub mod Vector

@@ -1,4 +1,4 @@
-// Document 01's domain as tests. Each is false of a NaN.
+// Document 01's domain: its limits, each once, and its tests, each false of a NaN.
 use crate::lent::command_at;
 use crate::lent::point_at;
 use crate::types::Command;
@@ -8,27 +8,46 @@ use floats::float::abs;
 ghost use mathlib.Core.Path.{_≡_};
 ghost use Prim.Native.Nat.{_*_, _≤_};
 ghost use lib.ListN.{length};
-ghost use Rattle.geo.specs.Domain.{coordinate, isFinite, centre, within, isPlusZero, pointIn, point3In, numbersIn, zero3, finite3, formed, commandsFormed, commandIn, commandsIn};
+ghost use Rattle.geo.specs.Domain.{coordinate, isFinite, centre, within, radius, parameter, tolerance, toleranceSq, isPlusZero, pointIn, point3In, numbersIn, zero3, finite3, formed, commandsFormed, commandIn, commandsIn};
 
-// Whether x may be a coordinate of an end or a control: at most 1,000,000 from zero.
-pub fn is_coordinate(x: f64) -> bool
+// A points list holds 0 to 2,048, a command list 0 to 800.
+pub const MOST_POINTS: usize = 2048;
+
+pub const MOST_COMMANDS: usize = 800;
+
+// An end or a control is at most this far from zero in each coordinate; a centre that is handed in, and its radius, at most that far.
+const FAR: f64 = 1000000.0;
+
+const FAR_CENTRE: f64 = 1e12;
+
+// The ends of tolerances and resolutions, and of squared tolerances.
+const FINEST: f64 = 0.001;
+
+const COARSEST: f64 = 1000.0;
+
+const FINEST_SQUARED: f64 = 1e-6;
+
+const COARSEST_SQUARED: f64 = 1000000.0;
+
+// Whether x may be a coordinate of an end or a control.
+fn is_coordinate(x: f64) -> bool
     ensures { λ r. ⌜ r ≡ coordinate x ⌝ }
 {
-    is_within(-1000000.0, 1000000.0, x)
+    is_within(-FAR, FAR, x)
 }
 
 // Whether x is a number, and no infinity.
-pub fn is_finite(x: f64) -> bool
+fn is_finite(x: f64) -> bool
     ensures { λ r. ⌜ r ≡ isFinite x ⌝ }
 {
     abs(x) < 1.0 / 0.0
 }
 
-// Whether x may be a coordinate of a centre that is handed in: at most 1e12 from zero.
+// Whether x may be a coordinate of a centre that is handed in.
 pub fn is_centre(x: f64) -> bool
     ensures { λ r. ⌜ r ≡ centre x ⌝ }
 {
-    abs(x) <= 1e12
+    abs(x) <= FAR_CENTRE
 }
 
 // Whether x lies from least to most.
@@ -41,8 +60,36 @@ pub fn is_within(least: f64, most: f64, x: f64) -> bool
     false
 }
 
+// Whether r may be a radius.
+pub fn is_radius(r: f64) -> bool
+    ensures { λ b. ⌜ b ≡ radius r ⌝ }
+{
+    is_within(0.0, FAR_CENTRE, r)
+}
+
+// Whether t may be a curve's parameter.
+pub fn is_parameter(t: f64) -> bool
+    ensures { λ b. ⌜ b ≡ parameter t ⌝ }
+{
+    is_within(0.0, 1.0, t)
+}
+
+// Whether t may be a tolerance or a resolution.
+pub fn is_tolerance(t: f64) -> bool
+    ensures { λ b. ⌜ b ≡ tolerance t ⌝ }
+{
+    is_within(FINEST, COARSEST, t)
+}
+
+// Whether t may be a squared tolerance.
+pub fn is_tolerance_squared(t: f64) -> bool
+    ensures { λ b. ⌜ b ≡ toleranceSq t ⌝ }
+{
+    is_within(FINEST_SQUARED, COARSEST_SQUARED, t)
+}
+
 // Whether x is +0, the bit pattern 0.
-pub fn is_plus_zero(x: f64) -> bool
+fn is_plus_zero(x: f64) -> bool
     ensures { λ r. ⌜ r ≡ isPlusZero x ⌝ }
 {
     if x == 0.0 {

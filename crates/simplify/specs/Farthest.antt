@@ -5,6 +5,10 @@ use Rattle.floats.specs.Ops.{_≺_, +0, if_then_else_}
 use Rattle.simplify.specs.declared.simplify.Farthest.{Farthest}
 use Rattle.simplify.specs.Measure.{Measure}
 
+-- before any point is looked at: the start of the range, which lies on the chord
+abbrev pub onChord : ℕ → Farthest
+onChord lo = record { square = +0; index = lo }
+
 -- the farther of `best` and a point at index i with squared distance d; `best`, which came first, where they are equal
 unfoldable pub farther : Float → ℕ → Farthest → Farthest
 farther d i best = if best .square ≺ d then record { square = d; index = i } else best
@@ -15,8 +19,8 @@ unfolding farther
 farthestOf f zero i best = best
 farthestOf f (suc n) i best = farthestOf f n (i + 1) (farther (f i) i best)
 
--- the first farthest of the points strictly between lo and hi from the chord of the two: +0 at lo where none lies off the chord
+-- the first farthest of the points strictly between lo and hi from the chord of the two; `onChord lo` where none lies off it
 unfoldable pub farthestIn : {P : Type 0} → Measure P → (ℕ → P) → ℕ → ℕ → Farthest
 unfolding farthestOf
 farthestIn m at lo hi =
-    farthestOf (λ i. m (at lo) (at hi) (at i)) (hi - (lo + 1)) (lo + 1) (record { square = +0; index = lo })
+    farthestOf (λ i. m (at lo) (at hi) (at i)) (hi - (lo + 1)) (lo + 1) (onChord lo)

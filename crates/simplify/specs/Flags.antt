@@ -1,4 +1,4 @@
--- Keep flags, and the copying of what they keep. Definitions only.
+-- The code's own way: keep flags, and the copying of what they keep. What a reader has to believe stands in Thin.antt and Data.antt. Definitions only.
 use Prim.Native.Nat.{ℕ}
 use mathlib.Core.Path.{_≡_}
 use mathlib.Core.Bool.{Bool, true, false, _||_}

@@ -1,4 +1,4 @@
--- How the search for the first farthest point saves divisions. What it finds is `farthestIn`; this is only how it gets there. Definitions only.
+-- The code's own way: how the search for the first farthest point saves divisions. What a reader has to believe stands in Farthest.antt. Definitions only.
 use Prim.Native.Nat.{ℕ}
 use mathlib.Core.Path.{_≡_}
 use mathlib.Core.Bool.{false}
@@ -9,6 +9,7 @@ use Rattle.geo.specs.Vector.{lengthSq, perpDot}
 use Rattle.simplify.specs.declared.simplify.Chord.{Chord}
 use Rattle.simplify.specs.declared.simplify.Search.{Search}
 use Rattle.simplify.specs.Measure.{degenerate, toLine}
+use Rattle.simplify.specs.Farthest.{onChord}
 
 -- of an offset: what its distance to the chord grows with, the dividend of the squared distance, or the squared distance itself where the chord is degenerate
 abbrev pub dividend : Chord → Float → Float → Float
@@ -23,7 +24,7 @@ squareOfSpread c v = if c .square ≺ degenerate then v else v ⊘ c .square
 
 -- a search before its first point, at a range's start
 abbrev pub begun : ℕ → Search
-begun start = record { top = neg one; best = record { square = +0; index = start } }
+begun start = record { top = neg one; best = onChord start }
 
 -- a search may pass over a point whose spread is not above its top: no such point lies farther than its best
 pub record Sound (c : Chord) (s : Search) : Type 0 where

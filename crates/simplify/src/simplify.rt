@@ -1,8 +1,10 @@
 // src/geo/algo/simplify.rs. The Rust's explicit stack of ranges is a recursion here, which marks left, cut, right.
+use geo::domain::MOST_COMMANDS;
+use geo::domain::MOST_POINTS;
 use geo::domain::all_coordinates;
 use geo::domain::commands_formed;
 use geo::domain::commands_in;
-use geo::domain::is_within;
+use geo::domain::is_tolerance;
 use geo::lent::command_at;
 use geo::lent::pair_at;
 use geo::lent::point_at;
@@ -21,7 +23,7 @@ ghost use Rattle.geo.specs.Outcome.{Wrote, refusal};
 ghost use Rattle.geo.specs.Commands.{WroteCommands};
 ghost use Rattle.geo.specs.Lent.{pair, triple, flat, pairAt, pointAt, commandAt, endOf};
 ghost use Rattle.simplify.specs.Measure.{chordOf, toLine, lineSq, planeSq, raised};
-ghost use Rattle.simplify.specs.Farthest.{farther, farthestIn};
+ghost use Rattle.simplify.specs.Farthest.{onChord, farther, farthestIn};
 ghost use Rattle.simplify.specs.Search.{spreadOf, squareOfSpread, begun, Sound};
 ghost use Rattle.simplify.specs.Thin.{keptIn, thinnedPoints};
 ghost use Rattle.simplify.specs.Data.{isMove, toCommand, commandSq, thinnedCommands};
@@ -29,18 +31,18 @@ ghost use Rattle.simplify.specs.Flags.{marked, flagged, flaggedCommands,
 ghost use Rattle.simplify.specs.Simplify.{pointRows, commandRows, simplifyPolyline, simplifyPolyline3d, simplifyData};
 
 // The chord of a range, worked out once for all the points between. Distances are measured in x and y.
-pub struct Chord {
-    pub start: Point3D,
-    pub dx: f64,
-    pub dy: f64,
-    pub square: f64,
+struct Chord {
+    start: Point3D,
+    dx: f64,
+    dy: f64,
+    square: f64,
 }
 
 impl Chord {
     // A chord whose square is below this counts as its start alone.
-    pub const DEGENERATE: f64 = 1e-12;
+    const DEGENERATE: f64 = 1e-12;
 
-    pub fn new(a: Point3D, b: Point3D) -> Self
+    fn new(a: Point3D, b: Point3D) -> Self
         ensures { λ r. ⌜ r ≡ chordOf a b ⌝ }
     {
         let dx = b.x - a.x;
@@ -84,8 +86,18 @@ pub struct Farthest {
 }
 
 impl Farthest {
+    // What counts before any point is looked at: the range's start, on the chord.
+    fn new(start: usize) -> Self
+        ensures { λ r. ⌜ r ≡ onChord start ⌝ }
+    {
+        Self {
+            square: 0.0,
+            index: start,
+        }
+    }
+
     // Of equal farthest points the first counts, so a later point has to be farther.
-    pub fn or(self, square: f64, index: usize) -> Self
+    fn or(self, square: f64, index: usize) -> Self
         ensures { λ r. ⌜ r ≡ farther square index self ⌝ }
     {
         if square > self.square {
@@ -110,14 +122,17 @@ struct Search {
 }
 
 impl Search {
+    // Below every spread, which is a square or a sum of squares: the first point is measured.
+    const BELOW_ALL: f64 = -1.0;
+
     fn new(start: usize) -> Self
         ensures { λ r. ⌜ r ≡ begun start ⌝ }
     {
-        let best = Farthest {
-            square: 0.0,
-            index: start,
-        };
-        Self { top: -1.0, best }
+        let best = Farthest::new(start);
+        Self {
+            top: Search::BELOW_ALL,
+            best,
+        }
     }
 
     // The search after a look at the point p at index i.
@@ -354,7 +369,7 @@ fn thin_pairs(points: &[f64], n: usize, limit: f64, out: &mut [f64]) -> usize
     if n == 0 {
         return 0;
     }
-    let mut keep = [false; 2048];
+    let mut keep = [false; MOST_POINTS];
     keep[0] = true;
     mark_pairs(points, limit, 0, n - 1, &mut keep);
     keep[n - 1] = true;
@@ -369,7 +384,7 @@ fn thin_points(points: &[f64], n: usize, limit: f64, out: &mut [f64]) -> usize
     if n == 0 {
         return 0;
     }
-    let mut keep = [false; 2048];
+    let mut keep = [false; MOST_POINTS];
     keep[0] = true;
     mark(points, limit, 0, n - 1, &mut keep);
     keep[n - 1] = true;
@@ -384,7 +399,7 @@ pub fn thin_in_place(points: &mut [f64], n: usize, limit: f64) -> usize
     if n == 0 {
         return 0;
     }
-    let mut keep = [false; 2048];
+    let mut keep = [false; MOST_POINTS];
     keep[0] = true;
     mark(points, limit, 0, n - 1, &mut keep);
     keep[n - 1] = true;
@@ -406,7 +421,7 @@ fn thin_commands(
     if n == 0 {
         return 0;
     }
-    let mut keep = [false; 2048];
+    let mut keep = [false; MOST_POINTS];
     keep[0] = true;
     mark_commands(kinds, nums, limit, 0, n - 1, &mut keep);
     keep[n - 1] = true;
@@ -425,13 +440,13 @@ fn refuse_points(points: &[f64], width: usize, tolerance: f64, room: usize) -> u
     if room % width != 0 {
         return 1;
     }
-    if size / width > 2048 {
+    if size / width > MOST_POINTS {
         return 2;
     }
     if !all_coordinates(points) {
         return 5;
     }
-    if !is_within(0.001, 1000.0, tolerance) {
+    if !is_tolerance(tolerance) {
         return 6;
     }
     if room / width < size / width {
@@ -461,7 +476,7 @@ pub fn refuse_commands(
     if out_nums % 9 != 0 {
         return 1;
     }
-    if n > 800 {
+    if n > MOST_COMMANDS {
         return 2;
     }
     if !commands_formed(kinds, nums) {
@@ -470,7 +485,7 @@ pub fn refuse_commands(
     if !commands_in(kinds, nums) {
         return 5;
     }
-    if !is_within(0.001, 1000.0, tolerance) {
+    if !is_tolerance(tolerance) {
         return 6;
     }
     if out_kinds < n {

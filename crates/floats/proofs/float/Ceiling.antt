@@ -20,7 +20,7 @@ module _ (m : ℕ) (e : ℤ) where
   unfolding lt
   below-cut h = let l = ltb→lt (m * up e * 1) (1 * 2 ^ 52 * down e) h in subst (λ (x : ℕ). x < 2 ^ 52 * down e) (mul-one (m * up e)) l
 
-  cut-lt : T (lt (fin false m e) (fin false 1 (pos 52))) → m * up e / down e < 2 ^ 52
+  pub cut-lt : T (lt (fin false m e) (fin false 1 (pos 52))) → m * up e / down e < 2 ^ 52
   cut-lt h = div-lt-iff-lt-mul (down-pos e) .1 (below-cut h)
 
   cut-is : T (lt (fin false m e) (fin false 1 (pos 52))) → toUnsigned 64 (fin false m e) ≡ m * up e / down e

@@ -30,7 +30,7 @@ range s m e t =
     ltb→lt (suc m * up e) (2 ^ 1024 * down e) (and-r (eqb (suc m % 2) 1 && ltb (suc m) (2 ^ 53) && leb (down e) (2 ^ 1074)) (ltb (suc m * up e) (2 ^ 1024 * down e)) t)
 
 -- the sign plays no part
-unsigned : (s : Bool) (m : ℕ) (e : ℤ) → T (fits binary64 (fin s m e)) → T (fits binary64 (fin false m e))
+pub unsigned : (s : Bool) (m : ℕ) (e : ℤ) → T (fits binary64 (fin s m e)) → T (fits binary64 (fin false m e))
 unfolding fits
 unsigned s zero e t = t
 unsigned s (suc m) e t = t
@@ -60,7 +60,7 @@ not-below m e h =
     let l : 1 * 2 ^ 52 * down e ≤ m * up e * 1 = nltb→le (m * up e * 1) (1 * 2 ^ 52 * down e) (subst (λ (b : Bool). T (not b)) (sym h) tt) in
     omega (arith, mul-one (m * up e))
 
-whole-value : (m : ℕ) (e : ℤ) → T (fits binary64 (fin false (suc m) e)) → lt (fin false (suc m) e) (fin false 1 (pos 52)) ≡ false
+pub whole-value : (m : ℕ) (e : ℤ) → T (fits binary64 (fin false (suc m) e)) → lt (fin false (suc m) e) (fin false 1 (pos 52)) ≡ false
     → (down e ≡ 1) × (round binary64 false (suc m * up e) 1 ≡ fin false (suc m) e)
 whole-value m (pos k) f h = (refl, rounds-back m k f)
 whole-value m (negsuc j) f h = absurd (no-fraction m j (digits false m (negsuc j) f) (not-below (suc m) (negsuc j) h))
@@ -71,9 +71,6 @@ up-whole a d e = rw e (omega arith)
 
 cut-whole : (a d : ℕ) → d ≡ 1 → a / d ≡ a
 cut-whole a d e = rw e (omega arith)
-
-zero-up : (d : ℕ) → d ≡ 1 → (0 + (d - 1)) / d ≡ 0
-zero-up d e = rw e refl
 
 unit-exponent : (e : ℤ) → up e * down e ≡ 1 → (e ≡ pos 0) × (down e ≡ 1)
 unit-exponent (pos zero) h = (refl, refl)

@@ -1,7 +1,7 @@
 -- `wholeRoot n` is the one s with s * s ≤ n < (s + 1) * (s + 1). Assumes nothing.
 use mathlib.Core.Path.{_≡_, refl, sym, _∙_, subst}
 use mathlib.Core.Bool.{Bool, true, false, not, cond}
-use Prim.Native.Nat.{ℕ, zero, suc, _+_, _-_, _*_, _/_, _^_, _≤_, _<_, compare, Ordering, Ordering·lt, Ordering·eq, Ordering·gt}
+use Prim.Native.Nat.{ℕ, zero, suc, _+_, _*_, _/_, _^_, _≤_, _<_, compare, Ordering, Ordering·lt, Ordering·eq, Ordering·gt}
 use native.Mathlib.Nat.{add-assoc, add-comm, add-left-comm, mul-assoc, mul-comm, mul-left-comm, mul-add, add-mul, mul-le-mul, le-refl, le-trans, le-antisymm, lt-of-lt-of-le, lt-of-not-le, not-le-of-lt, le-of-suc-le-suc, pow-succ', div-lt-iff-lt-mul, zero-lt-suc}
 use native.Mathlib.Omega.{arith}
 use lib.Dec.{T, isLe, isEq, leb, leb→le, nleb→lt, eqb→eq, le→leb}

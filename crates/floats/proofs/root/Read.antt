@@ -12,7 +12,6 @@ use lib.Ieee.Bits.{is-false, cond-no, ofBits-toBits}
 use lib.Ieee.Exact.{HasValue, odd-sign}
 use lib.Ieee.Fits.{and-r, down-pos, kept-lt}
 use Rattle.floats.specs.Root.{inUnits, plain, rootOf, rootFrom}
-use Rattle.floats.proofs.root.Rooted.{pattern}
 
 -- ---- the value that a pattern stands for
 pub ofBits-is : (b : ℕ) → ofBits binary64 b ≡ ofFields binary64 (leb 0x8000_0000_0000_0000 b) (b % 0x8000_0000_0000_0000 / 0x10_0000_0000_0000) (b % 0x10_0000_0000_0000)

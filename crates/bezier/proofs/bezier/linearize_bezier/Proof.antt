@@ -5,9 +5,10 @@ use lib.ListN.{length}
 use Rattle.geo.specs.Lent.{flat}
 use Rattle.geo.proofs.Walk.{list-length}
 use Rattle.geo.proofs.Flat.{flat-length}
-use Rattle.geo.proofs.Rows.{accepted, wrote-none, wrote-all}
+use Rattle.geo.proofs.Rows.{accepted, not-zero}
+use Rattle.geo.proofs.Outcomes.{wrote-refused, wrote-given}
 use Rattle.bezier.specs.Linearize.{six, steps}
-use Rattle.bezier.specs.Calls.{linearizeRows, linearizeCall}
+use Rattle.bezier.specs.Calls.{linearizeCall}
 use Rattle.bezier.proofs.Rows.{linearize-passed}
 use borrow.Author.Needs.{needs}
 use Rattle.bezier.proofs.bezier.linearize_bezier.Statement.{statement}
@@ -20,7 +21,7 @@ returns : tie.Need-returns
 unfolding linearizeCall
 returns c =
     let a = c .before .before .before .args in
-    wrote-none (flat six) (linearizeRows (a .p0) (a .c1) (a .c2) (a .p1) (a .num-steps) (length (a .out .now))) (steps (a .p0) (a .c1) (a .c2) (a .p1) (a .num-steps)) (a .out .now) _ (c .before .check-linearize .ensures) (c .if1 .taken)
+    wrote-refused _ _ (c .before .check-linearize .ensures) (flat six) (steps (a .p0) (a .c1) (a .c2) (a .p1) (a .num-steps)) (a .out .now) (not-zero _ (c .if1 .taken))
 
 put-steps-requires : tie.Need-put-steps-requires
 put-steps-requires c κs = let a = c .before .before .before .before .args in
@@ -35,7 +36,9 @@ returns-2 c = let a = c .before .before .before .before .before .before .before 
     let z = accepted _ _ (c .before .before .before .before .before .check-linearize .ensures) (c .before .before .before .before .if1 .left) in
     let f = linearize-passed (a .p0) (a .c1) (a .c2) (a .p1) (a .num-steps) _ z in
     let n : a .num-steps ≡ length (steps (a .p0) (a .c1) (a .c2) (a .p1) (a .num-steps)) = sym (unfold steps in list-length _ _ _) in
-    wrote-all (flat six) (linearizeRows (a .p0) (a .c1) (a .c2) (a .p1) (a .num-steps) (length (a .out .now))) (steps (a .p0) (a .c1) (a .c2) (a .p1) (a .num-steps)) (a .out .now) _ _ z n (c .before .before .put-steps .ensures) (omega (arith, f .1, flat-length six 6 (λ s. refl) (steps (a .p0) (a .c1) (a .c2) (a .p1) (a .num-steps))))
+    wrote-given _ 0 z (flat six) (steps (a .p0) (a .c1) (a .c2) (a .p1) (a .num-steps)) (a .out .now) _ _ refl n
+    (omega (arith, f .1, flat-length six 6 (λ s. refl) (steps (a .p0) (a .c1) (a .c2) (a .p1) (a .num-steps))))
+    (c .before .before .put-steps .ensures)
 
 pub linearize-bezier-spec : {M : Type 1} → statement M
 linearize-bezier-spec =

@@ -2,14 +2,14 @@
 use mathlib.Core.Path.{refl}
 use mathlib.Core.List.{_∷_}
 use native.Mathlib.Omega.{arith}
-use lib.ListN.{length}
 use Rattle.geo.specs.declared.types.CubicBezier.{CubicBezier}
 use Rattle.geo.specs.Lent.{pair, flat}
 use Rattle.geo.proofs.Flat.{flat-length}
 use Rattle.geo.proofs.Placed.{placed-front}
-use Rattle.geo.proofs.Rows.{accepted, wrote-none, wrote-all}
+use Rattle.geo.proofs.Rows.{accepted, not-zero}
+use Rattle.geo.proofs.Outcomes.{wrote-refused, wrote-given}
 use Rattle.bezier.specs.Flatten.{subdivided}
-use Rattle.bezier.specs.Calls.{adaptiveRows, adaptiveCall}
+use Rattle.bezier.specs.Calls.{adaptiveCall}
 use Rattle.bezier.proofs.Subdivision.{subdivided-length}
 use Rattle.bezier.proofs.Rows.{adaptive-passed}
 use borrow.Author.Needs.{needs}
@@ -22,7 +22,7 @@ check-adaptive-requires c κs = search needs
 returns : tie.Need-returns
 unfolding adaptiveCall
 returns c = let a = c .before .before .before .args in
-    wrote-none (flat pair) (adaptiveRows (a .p0) (a .c1) (a .c2) (a .p1) (a .tolerance-sq) (a .max-depth) (length (a .out .now))) (a .p0 ∷ subdivided (a .max-depth) (a .tolerance-sq) (record { 0 = a .p0; 1 = a .c1; 2 = a .c2; 3 = a .p1 })) (a .out .now) _ (c .before .check-adaptive .ensures) (c .if1 .taken)
+    wrote-refused _ _ (c .before .check-adaptive .ensures) (flat pair) (a .p0 ∷ subdivided (a .max-depth) (a .tolerance-sq) (record { 0 = a .p0; 1 = a .c1; 2 = a .c2; 3 = a .p1 })) (a .out .now) (not-zero _ (c .if1 .taken))
 
 put-pair-requires : tie.Need-put-pair-requires
 put-pair-requires c κs = let a = c .before .before .before .before .args in
@@ -50,7 +50,9 @@ returns-2 c = let a = c .before .before .before .before .before .before .before 
     let f = adaptive-passed (a .p0) (a .c1) (a .c2) (a .p1) (a .tolerance-sq) (a .max-depth) _ z in
     let items = a .p0 ∷ subdivided (a .max-depth) (a .tolerance-sq) q in
     let w = placed-front pair 2 (λ x. refl) (a .p0) (subdivided (a .max-depth) (a .tolerance-sq) q) _ (a .out .now) _ _ (c .before .before .before .before .before .before .put-pair .ensures) (c .before .before .subdivide .ensures) in
-    wrote-all (flat pair) (adaptiveRows (a .p0) (a .c1) (a .c2) (a .p1) (a .tolerance-sq) (a .max-depth) (length (a .out .now))) items (a .out .now) _ _ z (w .0) (w .1) (omega (arith, f, flat-length pair 2 (λ x. refl) items, subdivided-length (a .max-depth) (a .tolerance-sq) q))
+    wrote-given _ 0 z (flat pair) items (a .out .now) _ _ refl (w .0)
+    (omega (arith, f, flat-length pair 2 (λ x. refl) items, subdivided-length (a .max-depth) (a .tolerance-sq) q))
+    (w .1)
 
 pub linearize-bezier-adaptive-spec : {M : Type 1} → statement M
 linearize-bezier-adaptive-spec =

@@ -9,9 +9,10 @@ use lib.IntN.{pos}
 use lib.Ieee.{Float, fin, lt}
 use Rattle.geo.specs.Lent.{flat}
 use Rattle.geo.proofs.Flat.{flat-length}
-use Rattle.geo.proofs.Rows.{accepted, wrote-none, wrote-all}
+use Rattle.geo.proofs.Rows.{accepted, not-zero}
+use Rattle.geo.proofs.Outcomes.{wrote-refused, wrote-given}
 use Rattle.bezier.specs.Linearize.{six, stepsNeeded, stepCount, paramSteps}
-use Rattle.bezier.specs.Calls.{paramRows, paramCall}
+use Rattle.bezier.specs.Calls.{paramCall}
 use Rattle.bezier.proofs.Count.{max-above}
 use borrow.Author.Needs.{needs}
 use Rattle.bezier.proofs.bezier.linearize_bezier_from_params.Statement.{statement}
@@ -23,7 +24,7 @@ check-params-requires c κs = search needs
 returns : tie.Need-returns
 unfolding paramCall
 returns c = let a = c .before .before .before .args in
-    wrote-none (flat six) (paramRows (a .end) (a .control1) (a .control2) (a .start-point) (a .resolution) (length (a .out .now))) (paramSteps (a .end) (a .control1) (a .control2) (a .start-point) (a .resolution)) (a .out .now) _ (param-refused _ _ _ _ _ _ _ (c .before .check-params .ensures) (c .if1 .taken)) (c .if1 .taken)
+    wrote-refused _ _ (param-refused _ _ _ _ _ _ _ (c .before .check-params .ensures) (c .if1 .taken)) (flat six) (paramSteps (a .end) (a .control1) (a .control2) (a .start-point) (a .resolution)) (a .out .now) (not-zero _ (c .if1 .taken))
 
 steps-needed-requires : tie.Need-steps-needed-requires
 steps-needed-requires c κs = search needs
@@ -41,7 +42,7 @@ unfolding paramCall
 returns-2 c = let a = c .before .before .before .before .before .before .before .args in
     let z = accepted _ _ (c .before .before .before .before .before .check-params .ensures) (c .before .before .before .before .if1 .left) in
     let n = param-length (a .end) (a .control1) (a .control2) (a .start-point) (a .resolution) _ _ (c .before .before .before .steps-needed .ensures) (c .before .whole-steps .ensures .0) in
-    wrote-none (flat six) (paramRows (a .end) (a .control1) (a .control2) (a .start-point) (a .resolution) (length (a .out .now))) (paramSteps (a .end) (a .control1) (a .control2) (a .start-point) (a .resolution)) (a .out .now) _ (param-no-room _ _ _ _ _ _ _ z (c .before .before .before .steps-needed .ensures) (c .before .before .if2 .taken) (subst (λ (k : ℕ). length (a .out .now) < 6 * k) n (c .if3 .taken))) (omega arith)
+    wrote-refused _ _ (param-no-room _ _ _ _ _ _ _ z (c .before .before .before .steps-needed .ensures) (c .before .before .if2 .taken) (subst (λ (k : ℕ). length (a .out .now) < 6 * k) n (c .if3 .taken))) (flat six) (paramSteps (a .end) (a .control1) (a .control2) (a .start-point) (a .resolution)) (a .out .now) (not-zero _ (omega arith))
 
 first-third-requires : tie.Need-first-third-requires
 first-third-requires c κs = search needs
@@ -61,16 +62,15 @@ returns-3 c = let a = c .before .before .before .before .before .before .before 
     let z = accepted _ _ (c .before .before .before .before .before .before .before .before .before .before .before .check-params .ensures) (c .before .before .before .before .before .before .before .before .before .before .if1 .left) in
     let n = param-length (a .end) (a .control1) (a .control2) (a .start-point) (a .resolution) _ _ (c .before .before .before .before .before .before .before .before .before .steps-needed .ensures) (c .before .before .before .before .before .before .before .whole-steps .ensures .0) in
     let room : 6 * length (paramSteps (a .end) (a .control1) (a .control2) (a .start-point) (a .resolution)) ≤ length (a .out .now) = subst (λ (k : ℕ). 6 * k ≤ length (a .out .now)) n (c .before .before .before .before .before .before .if3 .left) in
-    wrote-all (flat six) (paramRows (a .end) (a .control1) (a .control2) (a .start-point) (a .resolution) (length (a .out .now))) (paramSteps (a .end) (a .control1) (a .control2) (a .start-point) (a .resolution)) (a .out .now) _ _
-    (param-accepted _ _ _ _ _ _ _ z (c .before .before .before .before .before .before .before .before .before .steps-needed .ensures) (c .before .before .before .before .before .before .before .before .if2 .taken) room) n
-    (c .before .before .put-steps .ensures ∙ unfold paramSteps in rw (c .before .before .before .before .before .first-third .ensures, c .before .before .before .before .last-third .ensures, c .before .before .before .before .before .before .before .whole-steps .ensures .0, c .before .before .before .before .before .before .before .before .before .steps-needed .ensures))
+    wrote-given _ 0 (param-accepted _ _ _ _ _ _ _ z (c .before .before .before .before .before .before .before .before .before .steps-needed .ensures) (c .before .before .before .before .before .before .before .before .if2 .taken) room) (flat six) (paramSteps (a .end) (a .control1) (a .control2) (a .start-point) (a .resolution)) (a .out .now) _ _ refl n
     (omega (arith, room, flat-length six 6 (λ s. refl) (paramSteps (a .end) (a .control1) (a .control2) (a .start-point) (a .resolution))))
+    (c .before .before .put-steps .ensures ∙ unfold paramSteps in rw (c .before .before .before .before .before .first-third .ensures, c .before .before .before .before .last-third .ensures, c .before .before .before .before .before .before .before .whole-steps .ensures .0, c .before .before .before .before .before .before .before .before .before .steps-needed .ensures))
 
 returns-4 : tie.Need-returns-4
 unfolding paramCall
 returns-4 c = let a = c .before .before .before .before .before .args in
     let z = accepted _ _ (c .before .before .before .check-params .ensures) (c .before .before .if1 .left) in
-    wrote-none (flat six) (paramRows (a .end) (a .control1) (a .control2) (a .start-point) (a .resolution) (length (a .out .now))) (paramSteps (a .end) (a .control1) (a .control2) (a .start-point) (a .resolution)) (a .out .now) _ (param-many _ _ _ _ _ _ _ z (c .before .steps-needed .ensures) (c .if2 .left)) (omega arith)
+    wrote-refused _ _ (param-many _ _ _ _ _ _ _ z (c .before .steps-needed .ensures) (c .if2 .left)) (flat six) (paramSteps (a .end) (a .control1) (a .control2) (a .start-point) (a .resolution)) (a .out .now) (not-zero _ (omega arith))
 
 pub linearize-bezier-from-params-spec : {M : Type 1} → statement M
 linearize-bezier-from-params-spec =

@@ -7,9 +7,9 @@ use Rattle.floats.specs.Ops.{_⊗_}
 use Rattle.geo.specs.Lent.{triple, flat}
 use Rattle.geo.proofs.Flat.{flat-length}
 use Rattle.geo.proofs.Placed.{placed-front}
-use Rattle.geo.proofs.Rows.{accepted, wrote-none, wrote-all, wrote-same}
+use Rattle.geo.proofs.Rows.{accepted, not-zero}
+use Rattle.geo.proofs.Outcomes.{wrote-refused, wrote-given, wrote-same}
 use Rattle.bezier.specs.Flatten.{flattened}
-use Rattle.bezier.specs.Calls.{segmentRows}
 use Rattle.bezier.proofs.Subdivision.{flattened-length}
 use Rattle.bezier.proofs.Rows.{segment-passed, segment-at}
 use borrow.Author.Needs.{needs}
@@ -26,7 +26,7 @@ returns : tie.Need-returns
 returns c = let a = c .before .before .before .before .args in
     let t = c .before .before .value .result in
     wrote-same (flat triple) _ _ _ _ _ (segment-at (a .p0) (a .c1) (a .c2) (a .p1) (a .tolerance) t (length (a .out .now)) (c .before .before .value .ensures))
-    (wrote-none (flat triple) (segmentRows (a .p0) (a .c1) (a .c2) (a .p1) t (length (a .out .now))) (a .p0 ∷ flattened 10 (t ⊗ t) (a .p0) (a .c1) (a .c2) (a .p1)) (a .out .now) _ (c .before .check-segment .ensures) (c .if1 .taken))
+    (wrote-refused _ _ (c .before .check-segment .ensures) (flat triple) (a .p0 ∷ flattened 10 (t ⊗ t) (a .p0) (a .c1) (a .c2) (a .p1)) (a .out .now) (not-zero _ (c .if1 .taken)))
 
 put-point-requires : tie.Need-put-point-requires
 put-point-requires c κs = let a = c .before .before .before .before .before .args in
@@ -54,7 +54,9 @@ returns-2 c = let a = c .before .before .before .before .before .before .before 
     let items = a .p0 ∷ flattened 10 (t ⊗ t) (a .p0) (a .c1) (a .c2) (a .p1) in
     let w = placed-front triple 3 (λ x. refl) (a .p0) (flattened 10 (t ⊗ t) (a .p0) (a .c1) (a .c2) (a .p1)) _ (a .out .now) _ _ (c .before .before .before .before .before .before .put-point .ensures) (c .before .before .flatten-bezier .ensures) in
     wrote-same (flat triple) _ _ _ _ _ (segment-at (a .p0) (a .c1) (a .c2) (a .p1) (a .tolerance) t (length (a .out .now)) (c .before .before .before .before .before .before .before .before .before .before .value .ensures))
-    (wrote-all (flat triple) (segmentRows (a .p0) (a .c1) (a .c2) (a .p1) t (length (a .out .now))) items (a .out .now) _ _ z (w .0) (w .1) (omega (arith, f, flat-length triple 3 (λ x. refl) items, flattened-length (t ⊗ t) 10 (a .p0) (a .c1) (a .c2) (a .p1))))
+    (wrote-given _ 0 z (flat triple) items (a .out .now) _ _ refl (w .0)
+    (omega (arith, f, flat-length triple 3 (λ x. refl) items, flattened-length (t ⊗ t) 10 (a .p0) (a .c1) (a .c2) (a .p1)))
+    (w .1))
 
 pub linearize-bezier-segment-spec : {M : Type 1} → statement M
 linearize-bezier-segment-spec =

@@ -27,7 +27,7 @@ max-requires c κs = search needs
 
 returns : tie.Need-returns
 unfolding stepsNeeded stepCount polygonLength
-returns c = rw (c .max .ensures, c .before .ceil .ensures, c .before .before .get-distance-3d3 .ensures, c .before .before .before .get-distance-3d2 .ensures, c .before .before .before .before .get-distance-3d .ensures, c .before .before .before .before .before .last-third .ensures, c .before .before .before .before .before .before .first-third .ensures)
+returns c = rw (c .max .ensures, c .before .ceil .ensures .0, c .before .before .get-distance-3d3 .ensures, c .before .before .before .get-distance-3d2 .ensures, c .before .before .before .before .get-distance-3d .ensures, c .before .before .before .before .before .last-third .ensures, c .before .before .before .before .before .before .first-third .ensures)
 
 pub steps-needed-spec : {M : Type 1} → statement M
 steps-needed-spec =

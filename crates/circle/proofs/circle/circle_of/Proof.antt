@@ -21,7 +21,7 @@ enum-told c = search needs
 
 returns : tie.Need-returns
 unfolding kasaCircle fittedTo
-returns c = rw (← c .before .before .before .before .before .least-squares .ensures, c .before .before .before .t .given .1, c .worst-error .ensures, c .before .sqrt .ensures)
+returns c = rw (← c .before .before .before .before .before .least-squares .ensures, c .before .before .before .t .given .1, c .worst-error .ensures, c .before .sqrt .ensures .0)
 
 returns-2 : tie.Need-returns-2
 unfolding kasaCircle fittedTo

@@ -12,7 +12,7 @@ sqrt-requires c κs = search needs
 
 returns : tie.Need-returns
 unfolding lineDeviation rooted
-returns c = rw (← c .before .farthest-between .ensures, c .sqrt .ensures)
+returns c = rw (← c .before .farthest-between .ensures, c .sqrt .ensures .0)
 
 pub line-deviation-spec : {M : Type 1} → statement M
 line-deviation-spec = tie.close (tie.spec farthest-between-requires sqrt-requires returns)

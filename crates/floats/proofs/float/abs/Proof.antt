@@ -1,4 +1,4 @@
--- `number::float::abs` meets its contract: a pattern without the sign's bit is the value without its sign. Assumes nothing.
+-- `floats::float::abs` meets its contract: a pattern without the sign's bit is the value without its sign. Assumes nothing.
 use mathlib.Core.Path.{sym, subst}
 use lib.Dec.{T}
 use lib.Ieee.{binary64, fits}

@@ -1,4 +1,4 @@
--- `number::float::clamp` meets its contract: each return is the definition's case for the tests that led there. Assumes nothing.
+-- `floats::float::clamp` meets its contract: each return is the definition's case for the tests that led there. Assumes nothing.
 use Rattle.floats.specs.Float.{clampOf}
 use Rattle.floats.proofs.float.clamp.Statement.{statement}
 use Rattle.floats.proofs.float.clamp.Tie as tie

@@ -1,4 +1,4 @@
--- `number::float::cut_off` meets its contract: below 2 ^ 52 the whole part is exact, and the ceiling of -x is -x cut off. Assumes nothing.
+-- `floats::float::cut_off` meets its contract: below 2 ^ 52 the whole part is exact, and the ceiling of -x is -x cut off. Assumes nothing.
 use mathlib.Core.Path.{sym, ap, _∙_, subst}
 use Prim.Native.Nat.{ℕ, _<_, _^_}
 use native.Mathlib.Omega.{arith}

@@ -1,4 +1,4 @@
--- `number::float::max` meets its contract: each return is the definition's case for the tests that led there. Assumes nothing.
+-- `floats::float::max` meets its contract: each return is the definition's case for the tests that led there. Assumes nothing.
 use Rattle.floats.specs.Float.{maxOf}
 use Rattle.floats.proofs.Patterns.{nan-of-ne, no-nan-of-ne}
 use Rattle.floats.proofs.float.max.Statement.{statement}

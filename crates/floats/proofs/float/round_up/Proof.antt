@@ -1,4 +1,4 @@
--- `number::float::round_up` meets its contract: below 2 ^ 52 the whole part is exact as a float, and it is the ceiling where it is not below x, else one less than the ceiling. Assumes nothing.
+-- `floats::float::round_up` meets its contract: below 2 ^ 52 the whole part is exact as a float, and it is the ceiling where it is not below x, else one less than the ceiling. Assumes nothing.
 use mathlib.Core.Path.{_≡_, sym, ap, _∙_, subst}
 use native.Mathlib.Omega.{arith}
 use mathlib.Core.Bool.{true, false}

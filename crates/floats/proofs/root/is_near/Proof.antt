@@ -1,4 +1,4 @@
--- `number::root::is_near` meets its contract: where neither `over` nor `under` holds, the root lies within half of q on both sides. Assumes nothing.
+-- `floats::root::is_near` meets its contract: where neither `over` nor `under` holds, the root lies within half of q on both sides. Assumes nothing.
 use borrow.Author.Needs.{needs}
 use Rattle.floats.proofs.Order.{clash}
 use Rattle.floats.proofs.root.is_near.Statement.{statement}

@@ -1,4 +1,4 @@
--- `number::root::mend` meets its contract: a guess is returned where `is_near` says that it is right, and else `walk` goes on from it. A float below 2 is no NaN. Assumes nothing.
+-- `floats::root::mend` meets its contract: a guess is returned where `is_near` says that it is right, and else `walk` goes on from it. A float below 2 is no NaN. Assumes nothing.
 use mathlib.Core.Logic.{⊎-elim}
 use native.Mathlib.Omega.{arith}
 use borrow.Author.Needs.{needs}

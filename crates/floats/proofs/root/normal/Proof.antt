@@ -1,4 +1,4 @@
--- `number::root::normal` meets its contract. Each turn moves a factor of two from 2 ^ e into m, and there are at most 52, since m grows as 2 ^ (turns). Assumes nothing.
+-- `floats::root::normal` meets its contract. Each turn moves a factor of two from 2 ^ e into m, and there are at most 52, since m grows as 2 ^ (turns). Assumes nothing.
 use mathlib.Core.Path.{_≡_, refl, _∙_}
 use Prim.Native.Nat.{_≤_, _<_, _*_, _^_, _-_}
 use native.Mathlib.Nat.{le-refl, lt-of-le-of-lt}

@@ -1,4 +1,4 @@
--- `number::root::over` meets its contract: m is compared with q * q + q in units of 2 ^ 52, rounded down. Assumes nothing.
+-- `floats::root::over` meets its contract: m is compared with q * q + q in units of 2 ^ 52, rounded down. Assumes nothing.
 use native.Mathlib.Omega.{arith}
 use borrow.Author.Tests.{ltb-true, ltb-false}
 use borrow.Author.Needs.{needs}

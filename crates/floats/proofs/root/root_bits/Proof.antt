@@ -1,4 +1,4 @@
--- `number::root::root_bits` meets its contract: an even power of two is taken off m * 2 ^ e, so that its root is q, nearest to that of m * 2 ^ 52 or 2 * m * 2 ^ 52, times half that power. Assumes nothing.
+-- `floats::root::root_bits` meets its contract: an even power of two is taken off m * 2 ^ e, so that its root is q, nearest to that of m * 2 ^ 52 or 2 * m * 2 ^ 52, times half that power. Assumes nothing.
 use mathlib.Core.Path.{sym, ap, _∙_}
 use Prim.Native.Nat.{ℕ, _+_, _-_, _*_, _/_, _%_, _^_, _≤_}
 use native.Mathlib.Omega.{arith}

@@ -1,4 +1,4 @@
--- `number::root::sqrt_finite` meets its contract: the pattern of x is read as m * 2 ^ e, one below 2 ^ 52 after its leading zeros are moved into e, and `root_bits` gives the root of that. Assumes nothing.
+-- `floats::root::sqrt_finite` meets its contract: the pattern of x is read as m * 2 ^ e, one below 2 ^ 52 after its leading zeros are moved into e, and `root_bits` gives the root of that. Assumes nothing.
 use mathlib.Core.Path.{_≡_, sym, ap, _∙_, subst}
 use mathlib.Core.Logic.{⊎-elim}
 use Prim.Native.Nat.{ℕ, _+_, _-_, _*_, _/_, _%_, _^_, _≤_, _<_}

@@ -1,4 +1,4 @@
--- `number::root::square` meets its contract: the square of h * 2 ^ 26 + l, its middle term split between the two parts. Assumes nothing.
+-- `floats::root::square` meets its contract: the square of h * 2 ^ 26 + l, its middle term split between the two parts. Assumes nothing.
 use native.Mathlib.Omega.{arith}
 use Rattle.floats.proofs.root.Whole.{parts, limits}
 use borrow.Author.Needs.{needs}

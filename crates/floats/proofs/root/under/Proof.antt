@@ -1,4 +1,4 @@
--- `number::root::under` meets its contract: m is compared with q * q - q in units of 2 ^ 52, rounded down, with 2 added to both sides so that nothing falls below zero. Assumes nothing.
+-- `floats::root::under` meets its contract: m is compared with q * q - q in units of 2 ^ 52, rounded down, with 2 added to both sides so that nothing falls below zero. Assumes nothing.
 use native.Mathlib.Omega.{arith}
 use borrow.Author.Tests.{leb-true, leb-false}
 use borrow.Author.Needs.{needs}

@@ -1,4 +1,4 @@
--- `number::root::walk` meets its contract. The first loop ends where m * 2 ^ 52 is at most q * q + q, which the second keeps, and that ends where m * 2 ^ 52 is above q * q - q. A root of 53 digits lies between 2 ^ 52 and 2 ^ 53, so q does not leave them. Assumes nothing.
+-- `floats::root::walk` meets its contract. The first loop ends where m * 2 ^ 52 is at most q * q + q, which the second keeps, and that ends where m * 2 ^ 52 is above q * q - q. A root of 53 digits lies between 2 ^ 52 and 2 ^ 53, so q does not leave them. Assumes nothing.
 use Prim.Native.Nat.{_≤_, _+_, _*_, _^_, _-_}
 use native.Mathlib.Omega.{arith}
 use Rattle.floats.proofs.root.Whole.{root-most, root-least, less}

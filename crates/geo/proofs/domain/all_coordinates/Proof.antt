@@ -1,4 +1,4 @@
--- `types::domain::all_coordinates` meets its contract: the loop's invariant is that what was found so far and the numbers left decide the whole answer. The measure is how many are left. Assumes nothing.
+-- `geo::domain::all_coordinates` meets its contract: the loop's invariant is that what was found so far and the numbers left decide the whole answer. The measure is how many are left. Assumes nothing.
 use mathlib.Core.Path.{_≡_, refl}
 use mathlib.Core.Logic.{⊎-elim}
 use mathlib.Core.Bool.{Bool, _&&_}

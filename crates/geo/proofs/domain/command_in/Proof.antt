@@ -1,4 +1,4 @@
--- `types::domain::command_in` meets its contract: by the command's case, then a conjunction that is left at the first test that fails. Assumes nothing.
+-- `geo::domain::command_in` meets its contract: by the command's case, then a conjunction that is left at the first test that fails. Assumes nothing.
 use mathlib.Core.Bool.{true}
 use Rattle.geo.specs.Domain.{commandIn}
 use Rattle.geo.proofs.And.{and-3, and-3-second, and-3-first}

@@ -1,4 +1,4 @@
--- `types::domain::commands_formed` meets its contract: the loop's invariant is that the commands left decide the whole answer. The measure is how many are left. Assumes nothing.
+-- `geo::domain::commands_formed` meets its contract: the loop's invariant is that the commands left decide the whole answer. The measure is how many are left. Assumes nothing.
 use mathlib.Core.Path.{_≡_, refl, _∙_}
 use Prim.Native.Nat.{_+_, _*_, _-_}
 use native.Mathlib.Omega.{arith}

@@ -1,4 +1,4 @@
--- `types::domain::commands_in` meets its contract: coordinates are finite too, so a list of coordinates has each command in the domain. Assumes nothing.
+-- `geo::domain::commands_in` meets its contract: coordinates are finite too, so a list of coordinates has each command in the domain. Assumes nothing.
 use mathlib.Core.Path.{sym, _∙_}
 use Rattle.geo.proofs.Coordinates.{all-in}
 use borrow.Author.Needs.{needs}

@@ -1,4 +1,4 @@
--- `types::domain::each_in` meets its contract: the loop's invariant is that the commands left decide the whole answer. The measure is how many are left. Assumes nothing.
+-- `geo::domain::each_in` meets its contract: the loop's invariant is that the commands left decide the whole answer. The measure is how many are left. Assumes nothing.
 use mathlib.Core.Path.{_≡_, refl, _∙_}
 use Prim.Native.Nat.{_-_}
 use native.Mathlib.Omega.{arith}

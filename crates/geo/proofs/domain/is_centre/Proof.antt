@@ -1,4 +1,4 @@
--- `types::domain::is_centre` meets its contract: its test is the definition, of the absolute value that `abs` promises. Assumes nothing.
+-- `geo::domain::is_centre` meets its contract: its test is the definition, of the absolute value that `abs` promises. Assumes nothing.
 use Rattle.geo.specs.Domain.{centre}
 use borrow.Author.Needs.{needs}
 use Rattle.geo.proofs.domain.is_centre.Statement.{statement}

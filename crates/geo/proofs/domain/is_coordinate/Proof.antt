@@ -1,4 +1,4 @@
--- `types::domain::is_coordinate` meets its contract: at most a million from zero is from minus a million to a million. Assumes nothing.
+-- `geo::domain::is_coordinate` meets its contract: at most a million from zero is from minus a million to a million. Assumes nothing.
 use mathlib.Core.Path.{_∙_}
 use Rattle.geo.proofs.Sides.{coordinate-between}
 use borrow.Author.Needs.{needs}

@@ -1,4 +1,4 @@
--- `types::domain::is_finite` meets its contract: one over zero is infinity, and what lies below it is finite. Assumes nothing.
+-- `geo::domain::is_finite` meets its contract: one over zero is infinity, and what lies below it is finite. Assumes nothing.
 use Rattle.geo.proofs.Zero.{finite-is}
 use borrow.Author.Needs.{needs}
 use Rattle.geo.proofs.domain.is_finite.Statement.{statement}

@@ -1,4 +1,4 @@
--- `types::domain::is_formed` meets its contract: by the kind, in the order of the tests. Assumes nothing.
+-- `geo::domain::is_formed` meets its contract: by the kind, in the order of the tests. Assumes nothing.
 use mathlib.Core.Bool.{true}
 use Rattle.geo.proofs.And.{and-2, and-2-first}
 use Rattle.geo.proofs.Formed.{formed-unused, formed-used}

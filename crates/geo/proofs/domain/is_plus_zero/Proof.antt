@@ -1,4 +1,4 @@
--- `types::domain::is_plus_zero` meets its contract: among what equals 0 the pattern tells +0 from -0. Assumes nothing.
+-- `geo::domain::is_plus_zero` meets its contract: among what equals 0 the pattern tells +0 from -0. Assumes nothing.
 use mathlib.Core.Path.{sym, subst}
 use lib.Dec.{T}
 use lib.Ieee.{binary64, fits}

@@ -1,4 +1,4 @@
--- `types::domain::is_within` meets its contract: each return is the definition with the test that led there. Assumes nothing.
+-- `geo::domain::is_within` meets its contract: each return is the definition with the test that led there. Assumes nothing.
 use Rattle.geo.specs.Domain.{within}
 use Rattle.geo.proofs.domain.is_within.Statement.{statement}
 use Rattle.geo.proofs.domain.is_within.Tie as tie

@@ -1,4 +1,4 @@
--- `types::domain::is_zero3` meets its contract: a conjunction, left at the first test that fails. Assumes nothing.
+-- `geo::domain::is_zero3` meets its contract: a conjunction, left at the first test that fails. Assumes nothing.
 use mathlib.Core.Bool.{true}
 use Rattle.geo.proofs.And.{and-3, and-3-second, and-3-first}
 use Rattle.geo.specs.Domain.{zero3}

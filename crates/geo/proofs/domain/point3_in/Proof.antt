@@ -1,4 +1,4 @@
--- `types::domain::point3_in` meets its contract: a conjunction, left at the first test that fails. Assumes nothing.
+-- `geo::domain::point3_in` meets its contract: a conjunction, left at the first test that fails. Assumes nothing.
 use mathlib.Core.Bool.{true}
 use Rattle.geo.proofs.And.{and-3, and-3-second, and-3-first}
 use Rattle.geo.specs.Domain.{point3In}

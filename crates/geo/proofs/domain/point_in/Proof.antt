@@ -1,4 +1,4 @@
--- `types::domain::point_in` meets its contract: a conjunction, left at the first test that fails. Assumes nothing.
+-- `geo::domain::point_in` meets its contract: a conjunction, left at the first test that fails. Assumes nothing.
 use mathlib.Core.Bool.{true}
 use Rattle.geo.specs.Domain.{pointIn}
 use Rattle.geo.proofs.And.{and-2, and-2-first}

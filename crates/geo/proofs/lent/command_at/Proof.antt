@@ -1,4 +1,4 @@
--- `types::lent::command_at` meets its contract: three points read, and a command made of them. Assumes nothing.
+-- `geo::lent::command_at` meets its contract: three points read, and a command made of them. Assumes nothing.
 use Rattle.geo.specs.Lent.{commandAt}
 use borrow.Author.Needs.{needs}
 use Rattle.geo.proofs.lent.command_at.Statement.{statement}

@@ -1,4 +1,4 @@
--- `types::lent::make_command` meets its contract: by the kind. Assumes nothing.
+-- `geo::lent::make_command` meets its contract: by the kind. Assumes nothing.
 use native.Mathlib.Omega.{arith}
 use Rattle.geo.proofs.Formed.{bezier-of}
 use Rattle.geo.specs.Lent.{commandOf}

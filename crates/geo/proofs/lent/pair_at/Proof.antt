@@ -1,4 +1,4 @@
--- `types::lent::pair_at` meets its contract: the definition reads the same places. Assumes nothing.
+-- `geo::lent::pair_at` meets its contract: the definition reads the same places. Assumes nothing.
 use mathlib.Core.Path.{refl}
 use Rattle.geo.specs.Lent.{pairAt}
 use borrow.Author.Needs.{needs}

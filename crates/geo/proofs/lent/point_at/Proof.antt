@@ -1,4 +1,4 @@
--- `types::lent::point_at` meets its contract: the definition reads the same places. Assumes nothing.
+-- `geo::lent::point_at` meets its contract: the definition reads the same places. Assumes nothing.
 use mathlib.Core.Path.{refl}
 use Rattle.geo.specs.Lent.{pointAt}
 use borrow.Author.Needs.{needs}

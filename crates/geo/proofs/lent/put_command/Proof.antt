@@ -1,4 +1,4 @@
--- `types::lent::put_command` meets its contract: by the command's case: its kind is stored, and its three points as one run. Assumes nothing.
+-- `geo::lent::put_command` meets its contract: by the command's case: its kind is stored, and its three points as one run. Assumes nothing.
 use mathlib.Core.Path.{refl}
 use Rattle.geo.specs.Lent.{kindOf, numbersOf}
 use borrow.Author.Needs.{needs}

@@ -1,4 +1,4 @@
--- `types::lent::put_pair` meets its contract: two stores are one run. Assumes nothing.
+-- `geo::lent::put_pair` meets its contract: two stores are one run. Assumes nothing.
 use Rattle.geo.proofs.Stores.{two}
 use borrow.Author.Needs.{needs}
 use Rattle.geo.proofs.lent.put_pair.Statement.{statement}

@@ -1,4 +1,4 @@
--- `types::lent::put_point` meets its contract: three stores are one run. Assumes nothing.
+-- `geo::lent::put_point` meets its contract: three stores are one run. Assumes nothing.
 use native.Mathlib.Omega.{arith}
 use lib.ListN.{length-set}
 use Rattle.geo.proofs.Stores.{three}

@@ -1,4 +1,4 @@
--- `types::lent::put_points` meets its contract: three runs of three stores are one run. Assumes nothing.
+-- `geo::lent::put_points` meets its contract: three runs of three stores are one run. Assumes nothing.
 use Rattle.geo.specs.Lent.{triple}
 use mathlib.Core.Path.{refl}
 use Rattle.geo.proofs.Stores.{thrice}

@@ -1,4 +1,4 @@
--- `types::point::get_distance` meets its contract: the length of the difference, as the definition has it. Assumes nothing.
+-- `geo::point::get_distance` meets its contract: the length of the difference, as the definition has it. Assumes nothing.
 use Rattle.geo.specs.Vector.{distance}
 use borrow.Author.Needs.{needs}
 use Rattle.geo.proofs.point.get_distance.Statement.{statement}

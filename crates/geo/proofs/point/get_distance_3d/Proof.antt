@@ -1,4 +1,4 @@
--- `types::point::get_distance_3d` meets its contract: the root of the sum of squares, as the definition has it. Assumes nothing.
+-- `geo::point::get_distance_3d` meets its contract: the root of the sum of squares, as the definition has it. Assumes nothing.
 use Rattle.geo.specs.Vector.{distance3}
 use borrow.Author.Needs.{needs}
 use Rattle.geo.proofs.point.get_distance_3d.Statement.{statement}
@@ -9,7 +9,7 @@ sqrt-requires c κs = search needs
 
 returns : tie.Need-returns
 unfolding distance3
-returns c = c .sqrt .ensures
+returns c = c .sqrt .ensures .0
 
 pub get-distance-3d-spec : {M : Type 1} → statement M
 get-distance-3d-spec = tie.close (tie.spec sqrt-requires returns)

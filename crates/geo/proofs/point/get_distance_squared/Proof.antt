@@ -1,4 +1,4 @@
--- `types::point::get_distance_squared` meets its contract: the definition's operations in the same order. Assumes nothing.
+-- `geo::point::get_distance_squared` meets its contract: the definition's operations in the same order. Assumes nothing.
 use mathlib.Core.Path.{refl}
 use Rattle.geo.specs.Vector.{distanceSq}
 use Rattle.geo.proofs.point.get_distance_squared.Statement.{statement}

@@ -1,4 +1,4 @@
--- `types::point::get_midpoint_3d` meets its contract: each return is the row of the table that its tests led to. Assumes nothing.
+-- `geo::point::get_midpoint_3d` meets its contract: each return is the row of the table that its tests led to. Assumes nothing.
 use Rattle.geo.specs.Midpoint.{midpointCall, midpointAnswer}
 use borrow.Author.Tests.{not-true, not-false}
 use borrow.Author.Needs.{needs}

@@ -1,4 +1,4 @@
--- `types::point::interpolate` meets its contract: the definition's operations in the same order. Assumes nothing.
+-- `geo::point::interpolate` meets its contract: the definition's operations in the same order. Assumes nothing.
 use mathlib.Core.Path.{refl}
 use Rattle.geo.specs.Vector.{lerp}
 use Rattle.geo.proofs.point.interpolate.Statement.{statement}

@@ -1,4 +1,4 @@
--- `types::point::midpoint_3d` meets its contract: the definition's operations in the same order. Assumes nothing.
+-- `geo::point::midpoint_3d` meets its contract: the definition's operations in the same order. Assumes nothing.
 use mathlib.Core.Path.{refl}
 use Rattle.geo.specs.Vector.{midpoint}
 use Rattle.geo.proofs.point.midpoint_3d.Statement.{statement}

@@ -26,7 +26,7 @@ passed-4 : (c : tie.Else4) → not (numbersIn coordinate (c .before .before .bef
 passed-4 c = not-passes _ _ (c .before .all-coordinates .ensures) (c .if4 .left)
 
 passed-5 : (c : tie.Else5) → not (tolerance (c .before .before .before .before .before .before .before .before .args .tolerance)) ≡ false
-passed-5 c = not-passes _ _ (c .before .is-within .ensures) (c .if5 .left)
+passed-5 c = not-passes _ _ (c .before .is-tolerance .ensures) (c .if5 .left)
 
 rem-if1 : tie.Need-rem-if1
 rem-if1 c = search needs
@@ -56,12 +56,12 @@ returns-4 : tie.Need-returns-4
 unfolding refusal
 returns-4 c = rw (passed-1 (c .before .before .before .before), passed-2 (c .before .before .before), passed-3 (c .before .before), not-fails _ _ (c .before .all-coordinates .ensures) (c .if4 .taken))
 
-is-within-requires : tie.Need-is-within-requires
-is-within-requires c κs = search needs
+is-tolerance-requires : tie.Need-is-tolerance-requires
+is-tolerance-requires c κs = search needs
 
 returns-5 : tie.Need-returns-5
 unfolding refusal
-returns-5 c = rw (passed-1 (c .before .before .before .before .before .before), passed-2 (c .before .before .before .before .before), passed-3 (c .before .before .before .before), passed-4 (c .before .before), not-fails _ _ (c .before .is-within .ensures) (c .if5 .taken))
+returns-5 c = rw (passed-1 (c .before .before .before .before .before .before), passed-2 (c .before .before .before .before .before), passed-3 (c .before .before .before .before), passed-4 (c .before .before), not-fails _ _ (c .before .is-tolerance .ensures) (c .if5 .taken))
 
 div-if6 : tie.Need-div-if6
 div-if6 c = search needs
@@ -89,7 +89,7 @@ refuse-points-spec =
     returns-3
     all-coordinates-requires
     returns-4
-    is-within-requires
+    is-tolerance-requires
     returns-5
     div-if6
     div-if6-2

@@ -36,7 +36,7 @@ step-deviation-requires c κs = search needs
 
 returns-2 : tie.Need-returns-2
 unfolding lengthOf
-returns-2 c = rw (c .step-deviation .ensures, c .before .sqrt .ensures)
+returns-2 c = rw (c .step-deviation .ensures, c .before .sqrt .ensures .0)
 
 pub deviation-of-step-spec : {M : Type 1} → statement M
 deviation-of-step-spec =

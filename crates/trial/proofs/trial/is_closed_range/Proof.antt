@@ -16,7 +16,7 @@ sqrt-requires c κs = search needs
 
 returns-2 : tie.Need-returns-2
 unfolding closedRange lengthOf
-returns-2 c = rw (c .sqrt .ensures)
+returns-2 c = rw (c .sqrt .ensures .0)
 
 pub is-closed-range-spec : {M : Type 1} → statement M
 is-closed-range-spec = tie.close (tie.spec returns sqrt-requires returns-2)

@@ -20,7 +20,7 @@ sqrt-requires c κs = search needs
 
 returns-3 : tie.Need-returns-3
 unfolding sagittaOf cosine
-returns-3 c = rw (c .before .before .before .before .before .before .before .before .before .before .if1 .left, c .before .before .before .before .before .before .before .before .if2 .left, c .sqrt .ensures, c .before .clamp .ensures)
+returns-3 c = rw (c .before .before .before .before .before .before .before .before .before .before .if1 .left, c .before .before .before .before .before .before .before .before .if2 .left, c .sqrt .ensures .0, c .before .clamp .ensures)
 
 pub sagitta-spec : {M : Type 1} → statement M
 sagitta-spec = tie.close (tie.spec returns returns-2 clamp-requires sqrt-requires returns-3)

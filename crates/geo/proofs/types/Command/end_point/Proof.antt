@@ -1,4 +1,4 @@
--- `types::types::Command::end_point` meets its contract: by the command's case. Assumes nothing.
+-- `geo::types::Command::end_point` meets its contract: by the command's case. Assumes nothing.
 use Rattle.geo.specs.Lent.{endOf}
 use borrow.Author.Needs.{needs}
 use Rattle.geo.proofs.types.Command.end_point.Statement.{statement}
