@@ -6,13 +6,17 @@ use Rattle.geo.specs.Vector.{dot}
 use Rattle.geo.specs.declared.types.Point3D.{Point3D}
 use Rattle.geo.specs.declared.types.Point.{Point}
 
+-- a chord whose square is below this has no bisector
+abbrev pub noBisector : Float
+noBisector = pico
+
 -- by the direction and its square
 unfoldable pub movedBy : Float → Float → Float → Point3D → Point3D → Point → Point
 movedBy dx dy sq a b m =
     let vx = m .x ⊖ (a .x ⊕ b .x) ⊘ two in
     let vy = m .y ⊖ (a .y ⊕ b .y) ⊘ two in
     let k = dot vx vy dx dy ⊘ sq in
-    if sq ≺ pico then m else record { x = m .x ⊖ dx ⊗ k; y = m .y ⊖ dy ⊗ k }
+    if sq ≺ noBisector then m else record { x = m .x ⊖ dx ⊗ k; y = m .y ⊖ dy ⊗ k }
 
 unfoldable pub projected : Point3D → Point3D → Point → Point
 projected a b m =

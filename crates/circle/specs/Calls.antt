@@ -2,6 +2,7 @@
 use Prim.Native.Nat.{_-_, _/_}
 use mathlib.Core.Bool.{Bool, true, not, _&&_}
 use mathlib.Core.List.{List, [], _∷_}
+use mathlib.Core.Option.{Option, none, some}
 use lib.ListN.{length}
 use lib.Dec.{ltb}
 use lib.Ieee.{Float}
@@ -16,8 +17,8 @@ use Rattle.circle.specs.declared.circle.CircleThrough as through
 use Rattle.circle.specs.declared.circle.FittedCircle as fitted
 use Rattle.circle.specs.declared.circle.Projected as moved
 use Rattle.circle.specs.Collinear.{collinear}
-use Rattle.circle.specs.Three.{throughThree}
-use Rattle.circle.specs.Kasa.{kasaCircle}
+use Rattle.circle.specs.Three.{Circle, throughThree}
+use Rattle.circle.specs.Kasa.{LeastSquares, kasaCircle}
 use Rattle.circle.specs.Bisector.{projected}
 
 -- the rows of a list of triples alone
@@ -47,23 +48,25 @@ collinearAnswer (refused n) = answer.the-variants.Refused n
 collinearAnswer (gives b) = answer.the-variants.Is b
 
 -- ---- fit_circle_to_3_points
-unfoldable pub throughCall : Point3D → Point3D → Point3D → Outcome through.CircleThrough
+unfoldable pub throughCall : Point3D → Point3D → Point3D → Outcome (Option Circle)
 unfolding refusal unless throughThree
 throughCall a b c = unless (refusal (row 5 (not (point3In a && point3In b && point3In c)) ∷ [])) (throughThree a b c)
 
-unfoldable pub throughAnswer : Outcome through.CircleThrough → through.CircleThrough
+unfoldable pub throughAnswer : Outcome (Option Circle) → through.CircleThrough
 throughAnswer (refused n) = through.the-variants.Refused n
-throughAnswer (gives c) = c
+throughAnswer (gives none) = through.the-variants.None
+throughAnswer (gives (some c)) = through.the-variants.Around (c .center) (c .radius)
 
 -- ---- fit_circle_to_points_3d: none below three points
-unfoldable pub fittedCall : List Float → Outcome fitted.FittedCircle
+unfoldable pub fittedCall : List Float → Outcome (Option LeastSquares)
 unfolding refusal unless pointsRows kasaCircle
 fittedCall s =
-    unless (refusal (pointsRows s)) (if ltb (length s / 3) 3 then fitted.the-variants.None else kasaCircle (pointAt s) 0 (length s / 3 - 1))
+    unless (refusal (pointsRows s)) (if ltb (length s / 3) 3 then none else kasaCircle (pointAt s) 0 (length s / 3 - 1))
 
-unfoldable pub fittedAnswer : Outcome fitted.FittedCircle → fitted.FittedCircle
+unfoldable pub fittedAnswer : Outcome (Option LeastSquares) → fitted.FittedCircle
 fittedAnswer (refused n) = fitted.the-variants.Refused n
-fittedAnswer (gives c) = c
+fittedAnswer (gives none) = fitted.the-variants.None
+fittedAnswer (gives (some c)) = fitted.the-variants.Circle (c .center) (c .radius) (c .error)
 
 -- ---- project_circle_center_to_bisector
 unfoldable pub projectedCall : Point3D → Point3D → Point → Outcome Point

@@ -11,6 +11,10 @@ use Rattle.geo.specs.declared.types.Point3D.{Point3D}
 use Rattle.geo.specs.Domain.{everyFrom}
 use Rattle.circle.specs.declared.circle.Chord.{Chord}
 
+-- a chord shorter than this has no line
+abbrev pub shortChord : Float
+shortChord = nano
+
 unfoldable pub endsChord : Point3D → Point3D → Chord
 endsChord a b =
     let dx = b .x ⊖ a .x in
@@ -35,7 +39,7 @@ allBeside c tol at lo hi = everyFrom (λ i. besideOf c tol (at i)) (hi - (lo + 1
 
 -- by the chord of the ends
 unfoldable pub collinearBy : Chord → Float → (ℕ → Point3D) → ℕ → ℕ → Bool
-collinearBy c tol at lo hi = if c .len ≺ nano then allNear c tol at lo hi else allBeside c tol at lo hi
+collinearBy c tol at lo hi = if c .len ≺ shortChord then allNear c tol at lo hi else allBeside c tol at lo hi
 
 unfoldable pub collinear : Float → (ℕ → Point3D) → ℕ → ℕ → Bool
 collinear tol at lo hi = if ltb (hi - lo) 2 then true else collinearBy (endsChord (at lo) (at hi)) tol at lo hi

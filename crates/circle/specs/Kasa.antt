@@ -1,6 +1,7 @@
 -- Kasa's least squares: sums, normal equations, centre, radius, greatest error. Definitions only.
 use Prim.Native.Nat.{ℕ, _+_, _-_}
 use mathlib.Core.List.{List, [], _∷_}
+use mathlib.Core.Option.{Option, none, some}
 use lib.IntN.{pos}
 use lib.ListN.{getD}
 use lib.Ieee.{Float, nan, binary64, ofInt}
@@ -17,9 +18,20 @@ use Rattle.circle.specs.declared.circle.Sums.{Sums}
 use Rattle.circle.specs.declared.circle.Axes.{Axes}
 use Rattle.circle.specs.declared.circle.Solution as solution
 use Rattle.circle.specs.declared.circle.Center as center
-use Rattle.circle.specs.declared.circle.FittedCircle as fitted
 use Rattle.circle.specs.Collinear.{collinear}
 use Rattle.circle.specs.Three.{radiusFrom}
+
+-- ---- the limits: points that lie on a line within this have no circle
+abbrev pub onOneLine : Float
+onOneLine = hundredth
+
+-- a matrix whose determinant is below this has no inverse
+abbrev pub noInverse : Float
+noInverse = femto
+
+-- a squared radius below this is none
+abbrev pub noRadius : Float
+noRadius = tenthNano
 
 -- ---- the sums
 
@@ -84,7 +96,7 @@ inverseTimes a k b =
 
 unfoldable pub solved : List (List Float) → Point3D → solution.Solution
 solved m b =
-    if absOf (detOf m) ≺ femto then solution.the-variants.None
+    if absOf (detOf m) ≺ noInverse then solution.the-variants.None
     else solution.the-variants.At (inverseTimes (axesOf m) (one ⊘ detOf m) b)
 
 -- ---- the circle
@@ -103,12 +115,12 @@ squaredRadius v = v .x ⊗ v .x ⊕ v .y ⊗ v .y ⊕ v .z
 unfoldable pub centered : solution.Solution → center.Center
 centered solution.the-variants.None = center.the-variants.None
 centered (solution.the-variants.At v) =
-    if squaredRadius v ≺ tenthNano then center.the-variants.None
+    if squaredRadius v ≺ noRadius then center.the-variants.None
     else center.the-variants.At (record { x = v .x; y = v .y }) (squaredRadius v)
 
 unfoldable pub kasaCenter : (ℕ → Point3D) → ℕ → ℕ → center.Center
 kasaCenter at lo hi =
-    if collinear hundredth at lo hi then center.the-variants.None
+    if collinear onOneLine at lo hi then center.the-variants.None
     else let s = sumsOf at lo hi in centered (solved (matrixOf s (hi - lo + 1)) (sidesOf s))
 
 -- how far p is off the circle
@@ -118,10 +130,18 @@ errorOf m r p = absOf (radiusFrom m p ⊖ r)
 unfoldable pub worstError : Point → Float → (ℕ → Point3D) → ℕ → ℕ → Deviation
 worstError m r at lo hi = worst (λ i. errorOf m r (at i)) (hi + 1 - lo) lo (record { dist = +0; index = lo })
 
-unfoldable pub fittedTo : (ℕ → Point3D) → ℕ → ℕ → center.Center → fitted.FittedCircle
-fittedTo at lo hi center.the-variants.None = fitted.the-variants.None
-fittedTo at lo hi (center.the-variants.At m q) =
-    fitted.the-variants.Circle m (rootOf q) (worstError m (rootOf q) at lo hi .dist)
+-- the circle of least squares and its greatest error
+pub record LeastSquares : Type 0 where
+  pub center : Point
+  pub radius : Float
+  pub error : Float
 
-unfoldable pub kasaCircle : (ℕ → Point3D) → ℕ → ℕ → fitted.FittedCircle
+-- by the centre and the squared radius
+unfoldable pub fittedTo : (ℕ → Point3D) → ℕ → ℕ → center.Center → Option LeastSquares
+fittedTo at lo hi center.the-variants.None = none
+fittedTo at lo hi (center.the-variants.At m q) =
+    some (record { center = m; radius = rootOf q; error = worstError m (rootOf q) at lo hi .dist })
+
+-- the circle, or none
+unfoldable pub kasaCircle : (ℕ → Point3D) → ℕ → ℕ → Option LeastSquares
 kasaCircle at lo hi = fittedTo at lo hi (kasaCenter at lo hi)

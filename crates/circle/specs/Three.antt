@@ -1,4 +1,5 @@
 -- The circle through three points. Definitions only.
+use mathlib.Core.Option.{Option, none, some}
 use lib.Ieee.{Float, neg}
 use Rattle.floats.specs.Float.{absOf}
 use Rattle.floats.specs.Ops.{_⊕_, _⊖_, _⊗_, _⊘_, _≺_, if_then_else_, two}
@@ -6,9 +7,15 @@ use Rattle.geo.specs.Vector.{dot, perpDot, lengthOf}
 use Rattle.geo.specs.declared.types.Point3D.{Point3D}
 use Rattle.geo.specs.declared.types.Point.{Point}
 use Rattle.circle.specs.declared.circle.CenterThrough as center
-use Rattle.circle.specs.declared.circle.CircleThrough.{CircleThrough}
-use Rattle.circle.specs.declared.circle.CircleThrough.the-variants.{Around, None}
 use Rattle.floats.specs.Limits.{nano}
+
+-- three points whose area or whose turn is below this have no circle
+abbrev pub flatTriangle : Float
+flatTriangle = nano
+
+pub record Circle : Type 0 where
+  pub center : Point
+  pub radius : Float
 
 unfoldable pub areaOf : Point3D → Point3D → Point3D → Float
 areaOf a b c = a .x ⊗ (b .y ⊖ c .y) ⊕ b .x ⊗ (c .y ⊖ a .y) ⊕ c .x ⊗ (a .y ⊖ b .y)
@@ -36,16 +43,19 @@ radiusFrom m p = lengthOf (p .x ⊖ m .x) (p .y ⊖ m .y)
 -- by the area and the turn
 unfoldable pub centerBy : Float → Float → Point3D → Point3D → Point3D → center.CenterThrough
 centerBy area d a b c =
-    if absOf area ≺ nano then center.the-variants.None else if absOf d ≺ nano then center.the-variants.None else center.the-variants.At (center3 a b c d)
+    if absOf area ≺ flatTriangle then center.the-variants.None
+    else if absOf d ≺ flatTriangle then center.the-variants.None
+    else center.the-variants.At (center3 a b c d)
 
 -- the centre of the circle, where there is one
 unfoldable pub centerThree : Point3D → Point3D → Point3D → center.CenterThrough
 centerThree a b c = centerBy (areaOf a b c) (turnOf a b c) a b c
 
 -- its radius is measured to the point p
-unfoldable pub circleRound : Point3D → center.CenterThrough → CircleThrough
-circleRound p (center.the-variants.At m) = Around m (radiusFrom m p)
-circleRound p center.the-variants.None = None
+unfoldable pub circleRound : Point3D → center.CenterThrough → Option Circle
+circleRound p (center.the-variants.At m) = some (record { center = m; radius = radiusFrom m p })
+circleRound p center.the-variants.None = none
 
-unfoldable pub throughThree : Point3D → Point3D → Point3D → CircleThrough
+-- the circle, or none
+unfoldable pub throughThree : Point3D → Point3D → Point3D → Option Circle
 throughThree a b c = circleRound a (centerThree a b c)

@@ -14,7 +14,7 @@ ghost use mathlib.Core.Path.{_≡_};
 ghost use Prim.Native.Nat.{_+_, _*_, _<_, _≤_};
 ghost use lib.ListN.{length};
 ghost use Rattle.geo.specs.Lent.{pointAt};
-ghost use Rattle.geo.specs.Outcome.{refusal};
+ghost use Rattle.geo.specs.Outcome.{refusal, gives};
 ghost use Rattle.circle.specs.Worst.{worse};
 ghost use Rattle.circle.specs.Collinear.{endsChord, nearTo, besideOf, allNear, allBeside, collinear};
 ghost use Rattle.circle.specs.Three.{areaOf, turnOf, center3, radiusFrom, centerThree, throughThree};
@@ -50,12 +50,12 @@ pub struct Chord {
 
 impl Chord {
     // A chord shorter than this has no line.
-    pub const SHORT: f64 = 1e-9;
+    const SHORT: f64 = 1e-9;
 
     // A chord whose square is below this has no bisector.
-    pub const DEGENERATE: f64 = 1e-12;
+    const DEGENERATE: f64 = 1e-12;
 
-    pub fn new(a: Point3D, b: Point3D) -> Self
+    fn new(a: Point3D, b: Point3D) -> Self
         ensures { λ r. ⌜ r ≡ endsChord a b ⌝ }
     {
         let dx = b.x - a.x;
@@ -69,14 +69,14 @@ impl Chord {
     }
 
     // Whether p lies nearer than the tolerance to the chord's first point.
-    pub fn near(self, p: Point3D, tolerance: f64) -> bool
+    fn near(self, p: Point3D, tolerance: f64) -> bool
         ensures { λ r. ⌜ r ≡ nearTo self tolerance p ⌝ }
     {
         get_length(p.x - self.a.x, p.y - self.a.y) < tolerance
     }
 
     // Whether p lies no farther than the tolerance from the endless line.
-    pub fn beside(self, p: Point3D, tolerance: f64) -> bool
+    fn beside(self, p: Point3D, tolerance: f64) -> bool
         ensures { λ r. ⌜ r ≡ besideOf self tolerance p ⌝ }
     {
         let vx = p.x - self.a.x;
@@ -125,27 +125,8 @@ fn is_collinear(points: &[f64], start: usize, end: usize, tolerance: f64) -> boo
     all_beside(points, start, end, c, tolerance)
 }
 
-// A circle through three points, or none.
-pub enum CircleThrough {
-    Around { center: Point, radius: f64 },
-    None,
-    Refused(u32),
-}
-
-impl CircleThrough {
-    // The circle round a centre through p.
-    pub fn around(center: Point, p: Point3D) -> Self
-        ensures { λ r. ⌜ r ≡ CircleThrough.Around center (radiusFrom center p) ⌝ }
-    {
-        CircleThrough::Around {
-            center,
-            radius: get_radius(center, p),
-        }
-    }
-}
-
 // The distance of p from a centre.
-pub fn get_radius(center: Point, p: Point3D) -> f64
+fn get_radius(center: Point, p: Point3D) -> f64
     ensures { λ r. ⌜ r ≡ radiusFrom center p ⌝ }
 {
     get_length(p.x - center.x, p.y - center.y)
@@ -186,31 +167,43 @@ pub enum CenterThrough {
 
 impl CenterThrough {
     // Three points whose area or whose turn is below this have no circle.
-    pub const FLAT: f64 = 1e-9;
+    const FLAT: f64 = 1e-9;
+
+    // By the perpendicular bisector method.
+    pub fn of(a: Point3D, b: Point3D, c: Point3D) -> Self
+        ensures { λ r. ⌜ r ≡ centerThree a b c ⌝ }
+    {
+        if abs(area(a, b, c)) < CenterThrough::FLAT {
+            return CenterThrough::None;
+        }
+        let d = turn(a, b, c);
+        if abs(d) < CenterThrough::FLAT {
+            return CenterThrough::None;
+        }
+        CenterThrough::At(center_of(a, b, c, d))
+    }
 }
 
-// The centre of the circle through three points, by the perpendicular bisector method.
-pub fn center_through(a: Point3D, b: Point3D, c: Point3D) -> CenterThrough
-    ensures { λ r. ⌜ r ≡ centerThree a b c ⌝ }
-{
-    if abs(area(a, b, c)) < CenterThrough::FLAT {
-        return CenterThrough::None;
-    }
-    let d = turn(a, b, c);
-    if abs(d) < CenterThrough::FLAT {
-        return CenterThrough::None;
-    }
-    CenterThrough::At(center_of(a, b, c, d))
+// The answer of `fit_circle_to_3_points`: the circle through three points, or none.
+pub enum CircleThrough {
+    Around { center: Point, radius: f64 },
+    None,
+    Refused(u32),
 }
 
-// The circle through three points.
-pub fn circle_through(a: Point3D, b: Point3D, c: Point3D) -> CircleThrough
-    ensures { λ r. ⌜ r ≡ throughThree a b c ⌝ }
-{
-    let t = center_through(a, b, c);
-    match t {
-        CenterThrough::At(center) => CircleThrough::around(center, a),
-        CenterThrough::None => CircleThrough::None,
+impl CircleThrough {
+    // Its radius is measured to the first point.
+    fn of(a: Point3D, b: Point3D, c: Point3D) -> Self
+        ensures { λ r. ⌜ r ≡ throughAnswer (gives (throughThree a b c)) ⌝ }
+    {
+        let t = CenterThrough::of(a, b, c);
+        match t {
+            CenterThrough::At(center) => CircleThrough::Around {
+                center,
+                radius: get_radius(center, a),
+            },
+            CenterThrough::None => CircleThrough::None,
+        }
     }
 }
 
@@ -227,7 +220,7 @@ pub struct Sums {
 }
 
 impl Sums {
-    pub fn new() -> Self
+    fn new() -> Self
         ensures { λ r. ⌜ r ≡ noSums ⌝ }
     {
         Self {
@@ -243,7 +236,7 @@ impl Sums {
     }
 
     // One point more. Only this order of operations gives the Rust's bits.
-    pub fn add(self, p: Point3D) -> Self
+    fn add(self, p: Point3D) -> Self
         ensures { λ r. ⌜ r ≡ plus p self ⌝ }
     {
         let x = p.x;
@@ -260,17 +253,18 @@ impl Sums {
             b: self.b + x2y2,
         }
     }
-}
 
-fn sum_up(points: &[f64], start: usize, end: usize) -> Sums
-    requires { ⌜ (start ≤ end) × (3 * end + 2 < length (now points)) ⌝ }
-    ensures { λ r. ⌜ r ≡ sumsOf (pointAt (now (points .entry))) start end ⌝ }
-{
-    let mut s = Sums::new();
-    for i in start..end + 1 {
-        s = s.add(point_at(points, i));
+    // Of the points from start to end.
+    fn of(points: &[f64], start: usize, end: usize) -> Self
+        requires { ⌜ (start ≤ end) × (3 * end + 2 < length (now points)) ⌝ }
+        ensures { λ r. ⌜ r ≡ sumsOf (pointAt (now (points .entry))) start end ⌝ }
+    {
+        let mut s = Sums::new();
+        for i in start..end + 1 {
+            s = s.add(point_at(points, i));
+        }
+        s
     }
-    s
 }
 
 // Three rows as vectors. The matrix is symmetric, so a row is a column too.
@@ -280,25 +274,27 @@ pub struct Axes {
     pub z: Point3D,
 }
 
-fn rows(m: [[f64; 3]; 3]) -> Axes
-    ensures { λ r. ⌜ r ≡ axesOf m ⌝ }
-{
-    Axes {
-        x: Point3D {
-            x: m[0][0],
-            y: m[0][1],
-            z: m[0][2],
-        },
-        y: Point3D {
-            x: m[1][0],
-            y: m[1][1],
-            z: m[1][2],
-        },
-        z: Point3D {
-            x: m[2][0],
-            y: m[2][1],
-            z: m[2][2],
-        },
+impl Axes {
+    fn rows(m: [[f64; 3]; 3]) -> Self
+        ensures { λ r. ⌜ r ≡ axesOf m ⌝ }
+    {
+        Self {
+            x: Point3D {
+                x: m[0][0],
+                y: m[0][1],
+                z: m[0][2],
+            },
+            y: Point3D {
+                x: m[1][0],
+                y: m[1][1],
+                z: m[1][2],
+            },
+            z: Point3D {
+                x: m[2][0],
+                y: m[2][1],
+                z: m[2][2],
+            },
+        }
     }
 }
 
@@ -331,40 +327,42 @@ fn scale(u: Point3D, k: f64) -> Point3D
 fn determinant(m: [[f64; 3]; 3]) -> f64
     ensures { λ r. ⌜ r ≡ detOf m ⌝ }
 {
-    let a = rows(m);
+    let a = Axes::rows(m);
     dot(a.z, cross(a.x, a.y))
 }
 
+// The solution of three linear equations, or none.
 pub enum Solution {
     At(Point3D),
     None,
 }
 
 impl Solution {
-    // A determinant below this has no inverse.
-    pub const SINGULAR: f64 = 1e-15;
-}
+    // A matrix whose determinant is below this has no inverse.
+    const SINGULAR: f64 = 1e-15;
 
-// The inverse, cross products times 1 / determinant, times b.
-fn solve_3x3(m: [[f64; 3]; 3], b: Point3D) -> Solution
-    ensures { λ r. ⌜ r ≡ solved m b ⌝ }
-{
-    let det = determinant(m);
-    if abs(det) < Solution::SINGULAR {
-        return Solution::None;
+    // The inverse, cross products times 1 / determinant, times b.
+    fn solve_3x3(m: [[f64; 3]; 3], b: Point3D) -> Self
+        ensures { λ r. ⌜ r ≡ solved m b ⌝ }
+    {
+        let det = determinant(m);
+        if abs(det) < Solution::SINGULAR {
+            return Solution::None;
+        }
+        let k = 1.0 / det;
+        let a = Axes::rows(m);
+        let u = scale(cross(a.y, a.z), k);
+        let v = scale(cross(a.z, a.x), k);
+        let w = scale(cross(a.x, a.y), k);
+        Solution::At(Point3D {
+            x: dot(u, b),
+            y: dot(v, b),
+            z: dot(w, b),
+        })
     }
-    let k = 1.0 / det;
-    let a = rows(m);
-    let u = scale(cross(a.y, a.z), k);
-    let v = scale(cross(a.z, a.x), k);
-    let w = scale(cross(a.x, a.y), k);
-    Solution::At(Point3D {
-        x: dot(u, b),
-        y: dot(v, b),
-        z: dot(w, b),
-    })
 }
 
+// The centre of the circle of least squares, and its radius squared; or none.
 pub enum Center {
     At { center: Point, square: f64 },
     None,
@@ -372,41 +370,41 @@ pub enum Center {
 
 impl Center {
     // Points that lie on a line within this have no circle, whatever the tolerance of the fit.
-    pub const COLLINEAR: f64 = 0.01;
+    const COLLINEAR: f64 = 0.01;
 
     // A squared radius below this is none.
-    pub const LEAST_SQUARE: f64 = 1e-10;
-}
+    const LEAST_SQUARE: f64 = 1e-10;
 
-// The centre of the circle of least squares, and its radius squared.
-pub fn least_squares(points: &[f64], start: usize, end: usize) -> Center
-    requires { ⌜ (start ≤ end) × (end < 2048) × (3 * end + 2 < length (now points)) ⌝ }
-    ensures { λ r. ⌜ r ≡ kasaCenter (pointAt (now (points .entry))) start end ⌝ }
-{
-    if is_collinear(points, start, end, Center::COLLINEAR) {
-        return Center::None;
-    }
-    let s = sum_up(points, start, end);
-    let n = (end - start + 1) as f64;
-    let ata = [[s.xx, s.xy, s.x], [s.xy, s.yy, s.y], [s.x, s.y, n]];
-    let atb = Point3D {
-        x: s.xb,
-        y: s.yb,
-        z: s.b,
-    };
-    let t = solve_3x3(ata, atb);
-    match t {
-        Solution::At(v) => {
-            let r_sq = v.x * v.x + v.y * v.y + v.z;
-            if r_sq < Center::LEAST_SQUARE {
-                return Center::None;
-            }
-            Center::At {
-                center: Point { x: v.x, y: v.y },
-                square: r_sq,
-            }
+    // By Kasa's normal equations.
+    pub fn of(points: &[f64], start: usize, end: usize) -> Self
+        requires { ⌜ (start ≤ end) × (end < 2048) × (3 * end + 2 < length (now points)) ⌝ }
+        ensures { λ r. ⌜ r ≡ kasaCenter (pointAt (now (points .entry))) start end ⌝ }
+    {
+        if is_collinear(points, start, end, Center::COLLINEAR) {
+            return Center::None;
         }
-        Solution::None => Center::None,
+        let s = Sums::of(points, start, end);
+        let n = (end - start + 1) as f64;
+        let ata = [[s.xx, s.xy, s.x], [s.xy, s.yy, s.y], [s.x, s.y, n]];
+        let atb = Point3D {
+            x: s.xb,
+            y: s.yb,
+            z: s.b,
+        };
+        let t = Solution::solve_3x3(ata, atb);
+        match t {
+            Solution::At(v) => {
+                let r_sq = v.x * v.x + v.y * v.y + v.z;
+                if r_sq < Center::LEAST_SQUARE {
+                    return Center::None;
+                }
+                Center::At {
+                    center: Point { x: v.x, y: v.y },
+                    square: r_sq,
+                }
+            }
+            Solution::None => Center::None,
+        }
     }
 }
 
@@ -432,6 +430,7 @@ fn worst_error(points: &[f64], start: usize, end: usize, center: Point, r: f64) 
     worst
 }
 
+// The answer of `fit_circle_to_points_3d`: the circle of least squares and its greatest error, or none.
 pub enum FittedCircle {
     Circle {
         center: Point,
@@ -442,23 +441,24 @@ pub enum FittedCircle {
     Refused(u32),
 }
 
-// The circle of least squares, its radius and its greatest error.
-fn circle_of(points: &[f64], start: usize, end: usize) -> FittedCircle
-    requires { ⌜ (start ≤ end) × (end < 2048) × (3 * end + 2 < length (now points)) ⌝ }
-    ensures { λ r. ⌜ r ≡ kasaCircle (pointAt (now (points .entry))) start end ⌝ }
-{
-    let t = least_squares(points, start, end);
-    match t {
-        Center::At { center, square } => {
-            let r = sqrt(square);
-            let w = worst_error(points, start, end, center, r);
-            FittedCircle::Circle {
-                center,
-                radius: r,
-                error: w.dist,
+impl FittedCircle {
+    fn of(points: &[f64], start: usize, end: usize) -> Self
+        requires { ⌜ (start ≤ end) × (end < 2048) × (3 * end + 2 < length (now points)) ⌝ }
+        ensures { λ r. ⌜ r ≡ fittedAnswer (gives (kasaCircle (pointAt (now (points .entry))) start end)) ⌝ }
+    {
+        let t = Center::of(points, start, end);
+        match t {
+            Center::At { center, square } => {
+                let r = sqrt(square);
+                let w = worst_error(points, start, end, center, r);
+                FittedCircle::Circle {
+                    center,
+                    radius: r,
+                    error: w.dist,
+                }
             }
+            Center::None => FittedCircle::None,
         }
-        Center::None => FittedCircle::None,
     }
 }
 
@@ -538,7 +538,7 @@ pub fn fit_circle_to_3_points(p1: Point3D, p2: Point3D, p3: Point3D) -> CircleTh
     if !point3_in(p3) {
         return CircleThrough::Refused(5);
     }
-    circle_through(p1, p2, p3)
+    CircleThrough::of(p1, p2, p3)
 }
 
 // Fits a circle to a set of points using Kasa's least-squares method.
@@ -553,7 +553,7 @@ pub fn fit_circle_to_points_3d(points: &[f64]) -> FittedCircle
     if n < 3 {
         return FittedCircle::None;
     }
-    circle_of(points, 0, n - 1)
+    FittedCircle::of(points, 0, n - 1)
 }
 
 // Projects a circle center onto the perpendicular bisector of the chord from p1 to p2.

@@ -20,14 +20,14 @@ use Rattle.geo.specs.declared.types.Point.{Point}
 use Rattle.geo.specs.declared.types.Point3D.{Point3D}
 use Rattle.geo.specs.Vector.{dot}
 use Rattle.geo.specs.Walk.{fold}
-use Rattle.circle.specs.declared.circle.CircleThrough as through
+use mathlib.Core.Option.{Option, none, some}
 use Rattle.circle.specs.declared.circle.Center as center
 use Rattle.circle.specs.declared.circle.Solution as solution
 use Rattle.circle.specs.declared.circle.Sums.{Sums}
 use Rattle.circle.specs.declared.circle.Axes.{Axes}
 use Rattle.floats.specs.Limits.{hundredth, nano, tenthNano, pico, femto}
 use Rattle.circle.specs.Collinear.{collinear}
-use Rattle.circle.specs.Three.{areaOf, squareOf, turnOf, center3, centerBy, centerThree, circleRound, throughThree}
+use Rattle.circle.specs.Three.{areaOf, squareOf, turnOf, center3, centerBy, centerThree, Circle, circleRound, throughThree}
 use Rattle.circle.specs.Kasa.{noSums, plus, sumsOf, axesOf, cross3, dot3, scaled, detOf, inverseTimes, solved, matrixOf, sidesOf, squaredRadius, centered, kasaCenter}
 use Rattle.circle.specs.Bisector.{movedBy, projected}
 
@@ -107,10 +107,9 @@ module _ {a b c : Point3D} (A : Placed 27 a) (B : Placed 27 b) (C : Placed 27 c)
       (sub-below (omega arith) (mul-below (omega arith) (apart (B .in-x) (A .in-x)) (apart (C .in-y) (B .in-y)))
       (mul-below (omega arith) (apart (B .in-y) (A .in-y)) (apart (C .in-x) (B .in-x))))
 
-  abbrev pub Through : through.CircleThrough → Type 0
-  Through (through.the-variants.Around m r) = Flat 115 m
-  Through through.the-variants.None = Unit
-  Through (through.the-variants.Refused n) = Unit
+  abbrev pub Through : Option Circle → Type 0
+  Through (some c) = Flat 115 (c .center)
+  Through none = Unit
 
   -- The centre of the circle through three points is at most 2 ^ 115 from zero.
   pub three-flat : Through (throughThree a b c)

@@ -19,9 +19,9 @@ use Rattle.geo.specs.declared.types.Command.{Command}
 use Rattle.geo.specs.Lent.{pointAt, triple, flat, origin, numbersOf}
 use Rattle.geo.specs.Domain.{isFinite}
 use Rattle.geo.proofs.Flat.{flat-length}
-use Rattle.circle.specs.declared.circle.CircleThrough as through
+use mathlib.Core.Option.{Option, none, some}
 use Rattle.circle.specs.declared.circle.Center as center
-use Rattle.circle.specs.Three.{radiusFrom, throughThree}
+use Rattle.circle.specs.Three.{Circle, radiusFrom, throughThree}
 use Rattle.circle.specs.Kasa.{kasaCenter}
 use Rattle.circle.specs.Bisector.{projected}
 use Rattle.trial.specs.declared.trial.Trial.{Trial}
@@ -81,11 +81,10 @@ module _ (tol : Float) (at : ℕ → Point3D) (lo hi : ℕ) where
     unfolding trialOf
     tried-of m h = tried-round (projected (at lo) (at hi) m) (projected-flat first-placed last-placed h)
 
-    tried-circle : (b : Point3D) (B : Placed 27 b) (c : through.CircleThrough) → Through first-placed B last-placed c → Tried (ofCircle at lo hi tol c)
+    tried-circle : (b : Point3D) (B : Placed 27 b) (c : Option Circle) → Through first-placed B last-placed c → Tried (ofCircle at lo hi tol c)
     unfolding ofCircle
-    tried-circle b B (through.the-variants.Around m r) h = tried-of m (flat-more 335 (omega arith) h)
-    tried-circle b B through.the-variants.None h = tt
-    tried-circle b B (through.the-variants.Refused n) h = tt
+    tried-circle b B (some c) h = tried-of (c .center) (flat-more 335 (omega arith) h)
+    tried-circle b B none h = tt
 
     tried-three : hi - lo ≡ 2 → Tried (trialThree at lo hi tol)
     unfolding trialThree

@@ -1,8 +1,9 @@
 -- What an outcome was, from the case of the answer that it gave. Assumes nothing.
 use Prim.Native.Nat.{ℕ, zero, suc, _-_, _/_}
-use mathlib.Core.Path.{_≡_, sym, _∙_}
-use mathlib.Core.Bool.{Bool, true, false, cond, not, _&&_}
-use mathlib.Core.List.{List, [], _∷_}
+use mathlib.Core.Path.{_≡_, refl, sym, _∙_}
+use mathlib.Core.Bool.{Bool, true, false, cond, not}
+use mathlib.Core.List.{List}
+use mathlib.Core.Option.{Option, none, some}
 use native.Mathlib.Omega.{arith}
 use lib.Dec.{ltb, eqb}
 use lib.ListN.{length}
@@ -12,10 +13,9 @@ use Rattle.geo.specs.declared.types.Point3D.{Point3D}
 use Rattle.geo.specs.declared.types.CubicBezier.{CubicBezier}
 use Rattle.geo.specs.declared.point.Midpoint.{Midpoint}
 use Rattle.geo.specs.declared.point.Midpoint.the-variants as Midpoint·
-use Rattle.geo.specs.Outcome.{row, refusal, Outcome, refused, gives, unless}
+use Rattle.geo.specs.Outcome.{refusal, Outcome, refused, gives, unless}
 use Rattle.geo.specs.Midpoint.{midpointAnswer}
-use Rattle.geo.specs.Domain.{point3In}
-use Rattle.geo.specs.Lent.{pairAt, pointAt}
+use Rattle.geo.specs.Lent.{pairAt}
 use Rattle.bezier.specs.declared.bezier.BezierPoint.{BezierPoint}
 use Rattle.bezier.specs.declared.bezier.BezierPoint.the-variants as Point·
 use Rattle.bezier.specs.declared.bezier.BezierSplit.{BezierSplit}
@@ -32,20 +32,16 @@ use Rattle.arc.specs.declared.arc.Direction.the-variants as Direction·
 use Rattle.arc.specs.Direction.{directionAnswer}
 use Rattle.circle.specs.declared.circle.Collinear.{Collinear}
 use Rattle.circle.specs.declared.circle.Collinear.the-variants as Collinear·
-use Rattle.circle.specs.declared.circle.CenterThrough.{CenterThrough}
-use Rattle.circle.specs.declared.circle.CenterThrough.the-variants as Middle·
 use Rattle.circle.specs.declared.circle.CircleThrough.{CircleThrough}
 use Rattle.circle.specs.declared.circle.CircleThrough.the-variants as Through·
 use Rattle.circle.specs.declared.circle.FittedCircle.{FittedCircle}
 use Rattle.circle.specs.declared.circle.FittedCircle.the-variants as Circle·
-use Rattle.circle.specs.declared.circle.Center.{Center}
-use Rattle.circle.specs.declared.circle.Center.the-variants as Center·
 use Rattle.circle.specs.declared.circle.Projected.{Projected}
 use Rattle.circle.specs.declared.circle.Projected.the-variants as Projected·
 use Rattle.circle.specs.declared.circle.Deviation.{Deviation}
-use Rattle.circle.specs.Three.{centerThree, circleRound, throughThree}
-use Rattle.circle.specs.Kasa.{kasaCenter, fittedTo, kasaCircle}
-use Rattle.circle.specs.Calls.{pointsRows, collinearAnswer, throughCall, throughAnswer, fittedCall, fittedAnswer, projectedAnswer}
+use Rattle.circle.specs.Three.{Circle}
+use Rattle.circle.specs.Kasa.{LeastSquares}
+use Rattle.circle.specs.Calls.{collinearAnswer, throughAnswer, fittedAnswer, projectedAnswer}
 use Rattle.fitting.specs.declared.fitting.LineDeviation.{LineDeviation}
 use Rattle.fitting.specs.declared.fitting.LineDeviation.the-variants as Line·
 use Rattle.fitting.specs.declared.fitting.ArcDeviation.{ArcDeviation}
@@ -182,57 +178,49 @@ unfolding arcAnswer
 arc-refused (refused m) r n e h = cc
 arc-refused (gives q) r n e h = absurd (let z : _≡_ {A = ℕ} 0 1 = cc in omega arith)
 
--- ---- fit_circle_to_3_points, whose accepted answer is a circle or none, and never a refusal
-pub through-gives : (o : Outcome CircleThrough) (r : CircleThrough) (m : Point) (q : Float) → r ≡ throughAnswer o → r ≡ Through·.Around m q → o ≡ gives (Through·.Around m q)
+-- ---- fit_circle_to_3_points, whose accepted answer is a circle or none
+pub through-gives : (o : Outcome (Option Circle)) (r : CircleThrough) (m : Point) (q : Float) → r ≡ throughAnswer o → r ≡ Through·.Around m q
+    → o ≡ gives (some (record { center = m; radius = q }))
 unfolding throughAnswer
 through-gives (refused n) r m q e h = absurd (let z : _≡_ {A = ℕ} 0 1 = cc in omega arith)
-through-gives (gives c) r m q e h = cc
+through-gives (gives none) r m q e h = absurd (let z : _≡_ {A = ℕ} 0 1 = cc in omega arith)
+through-gives (gives (some c)) r m q e h =
+    let a : m ≡ c .center = cc in
+    let b : q ≡ c .radius = cc in
+    rw (a, b)
 
-pub through-none : (o : Outcome CircleThrough) (r : CircleThrough) → r ≡ throughAnswer o → r ≡ Through·.None → o ≡ gives Through·.None
+pub through-none : (o : Outcome (Option Circle)) (r : CircleThrough) → r ≡ throughAnswer o → r ≡ Through·.None → o ≡ gives none
 unfolding throughAnswer
 through-none (refused n) r e h = absurd (let z : _≡_ {A = ℕ} 0 1 = cc in omega arith)
-through-none (gives c) r e h = cc
+through-none (gives none) r e h = refl
+through-none (gives (some c)) r e h = absurd (let z : _≡_ {A = ℕ} 0 1 = cc in omega arith)
 
-never-through : (a b c : Point3D) (k : ℕ) → throughThree a b c ≡ Through·.Refused k → ⊥
-unfolding throughThree circleRound
-never-through a b c k h = go (centerThree a b c) h
-  where
-    go : (t : CenterThrough) → circleRound a t ≡ Through·.Refused k → ⊥
-    go (Middle·.At m) h = let w : _≡_ {A = ℕ} 0 1 = cc in omega arith
-    go Middle·.None h = let w : _≡_ {A = ℕ} 0 1 = cc in omega arith
-
-pub through-refused : (a b c : Point3D) (r : CircleThrough) (n : ℕ) → r ≡ throughAnswer (throughCall a b c) → r ≡ Through·.Refused n → throughCall a b c ≡ refused n
-unfolding throughCall throughAnswer unless
-through-refused a b c r n e h = go (refusal (row 5 (not (point3In a && point3In b && point3In c)) ∷ [])) (throughThree a b c) (never-through a b c n) e
-  where
-    go : (k : ℕ) (x : CircleThrough) → (x ≡ Through·.Refused n → ⊥) → r ≡ throughAnswer (unless k x) → unless k x ≡ refused n
-    go zero x f e = absurd (f (sym e ∙ h))
-    go (suc k) x f e = cc
+pub through-refused : (o : Outcome (Option Circle)) (r : CircleThrough) (n : ℕ) → r ≡ throughAnswer o → r ≡ Through·.Refused n → o ≡ refused n
+unfolding throughAnswer
+through-refused (refused m) r n e h = cc
+through-refused (gives none) r n e h = absurd (let z : _≡_ {A = ℕ} 0 1 = cc in omega arith)
+through-refused (gives (some c)) r n e h = absurd (let z : _≡_ {A = ℕ} 0 1 = cc in omega arith)
 
 -- ---- fit_circle_to_points_3d, likewise
-pub fitted-gives : (o : Outcome FittedCircle) (r : FittedCircle) (m : Point) (q w : Float) → r ≡ fittedAnswer o → r ≡ Circle·.Circle m q w → o ≡ gives (Circle·.Circle m q w)
+pub fitted-gives : (o : Outcome (Option LeastSquares)) (r : FittedCircle) (m : Point) (q w : Float) → r ≡ fittedAnswer o → r ≡ Circle·.Circle m q w
+    → o ≡ gives (some (record { center = m; radius = q; error = w }))
 unfolding fittedAnswer
 fitted-gives (refused n) r m q w e h = absurd (let z : _≡_ {A = ℕ} 0 1 = cc in omega arith)
-fitted-gives (gives c) r m q w e h = cc
+fitted-gives (gives none) r m q w e h = absurd (let z : _≡_ {A = ℕ} 0 1 = cc in omega arith)
+fitted-gives (gives (some c)) r m q w e h =
+    let x : m ≡ c .center = cc in
+    let y : q ≡ c .radius = cc in
+    let z : w ≡ c .error = cc in
+    rw (x, y, z)
 
-pub fitted-none : (o : Outcome FittedCircle) (r : FittedCircle) → r ≡ fittedAnswer o → r ≡ Circle·.None → o ≡ gives Circle·.None
+pub fitted-none : (o : Outcome (Option LeastSquares)) (r : FittedCircle) → r ≡ fittedAnswer o → r ≡ Circle·.None → o ≡ gives none
 unfolding fittedAnswer
 fitted-none (refused n) r e h = absurd (let z : _≡_ {A = ℕ} 0 1 = cc in omega arith)
-fitted-none (gives c) r e h = cc
+fitted-none (gives none) r e h = refl
+fitted-none (gives (some c)) r e h = absurd (let z : _≡_ {A = ℕ} 0 1 = cc in omega arith)
 
-never-fitted : (at : ℕ → Point3D) (lo hi : ℕ) (b : Bool) (k : ℕ) → cond b Circle·.None (kasaCircle at lo hi) ≡ Circle·.Refused k → ⊥
-unfolding kasaCircle fittedTo
-never-fitted at lo hi true k h = let w : _≡_ {A = ℕ} 0 1 = cc in omega arith
-never-fitted at lo hi false k h = go (kasaCenter at lo hi) h
-  where
-    go : (c : Center) → fittedTo at lo hi c ≡ Circle·.Refused k → ⊥
-    go Center·.None h = let w : _≡_ {A = ℕ} 0 1 = cc in omega arith
-    go (Center·.At m q) h = let w : _≡_ {A = ℕ} 0 1 = cc in omega arith
-
-pub fitted-refused : (s : List Float) (r : FittedCircle) (n : ℕ) → r ≡ fittedAnswer (fittedCall s) → r ≡ Circle·.Refused n → fittedCall s ≡ refused n
-unfolding fittedCall fittedAnswer unless
-fitted-refused s r n e h = go (refusal (pointsRows s)) (cond (ltb (length s / 3) 3) Circle·.None (kasaCircle (pointAt s) 0 (length s / 3 - 1))) (never-fitted (pointAt s) 0 (length s / 3 - 1) (ltb (length s / 3) 3) n) e
-  where
-    go : (k : ℕ) (x : FittedCircle) → (x ≡ Circle·.Refused n → ⊥) → r ≡ fittedAnswer (unless k x) → unless k x ≡ refused n
-    go zero x f e = absurd (f (sym e ∙ h))
-    go (suc k) x f e = cc
+pub fitted-refused : (o : Outcome (Option LeastSquares)) (r : FittedCircle) (n : ℕ) → r ≡ fittedAnswer o → r ≡ Circle·.Refused n → o ≡ refused n
+unfolding fittedAnswer
+fitted-refused (refused m) r n e h = cc
+fitted-refused (gives none) r n e h = absurd (let z : _≡_ {A = ℕ} 0 1 = cc in omega arith)
+fitted-refused (gives (some c)) r n e h = absurd (let z : _≡_ {A = ℕ} 0 1 = cc in omega arith)

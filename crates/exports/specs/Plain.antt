@@ -3,6 +3,7 @@ use Prim.Native.Nat.{ℕ}
 use mathlib.Core.Path.{_≡_}
 use mathlib.Core.Bool.{Bool, true, false}
 use mathlib.Core.List.{List, [], _++_, map}
+use mathlib.Core.Option.{Option, none, some}
 use lib.ListN.{length}
 use lib.Seq.{sets}
 use lib.Ieee.{Float}
@@ -19,10 +20,8 @@ use Rattle.bezier.specs.declared.bezier.Tolerance.{Tolerance}
 use Rattle.bezier.specs.declared.bezier.Tolerance.the-variants.{Given, Default}
 use Rattle.bezier.specs.declared.bezier.FittedCubic.{FittedCubic}
 use Rattle.bezier.specs.declared.bezier.FittedCubic.the-variants.{Curve, None, Refused}
-use Rattle.circle.specs.declared.circle.CircleThrough.{CircleThrough}
-use Rattle.circle.specs.declared.circle.CircleThrough.the-variants as Through·
-use Rattle.circle.specs.declared.circle.FittedCircle.{FittedCircle}
-use Rattle.circle.specs.declared.circle.FittedCircle.the-variants as Fitted·
+use Rattle.circle.specs.Three.{Circle}
+use Rattle.circle.specs.Kasa.{LeastSquares}
 
 -- ---- points from their numbers
 abbrev pub point : Float → Float → Point
@@ -49,27 +48,20 @@ curveNumbers (Curve q) = eight q
 curveNumbers None = []
 curveNumbers (Refused n) = []
 
--- the circle through three points, if there is one: centre and radius
-unfoldable pub isThrough : CircleThrough → Bool
-isThrough (Through·.Around m r) = true
-isThrough Through·.None = false
-isThrough (Through·.Refused n) = false
+-- a circle, or none: whether there is one
+unfoldable pub isFound : {A : Type 0} → Option A → Bool
+isFound (some a) = true
+isFound none = false
 
-unfoldable pub throughNumbers : CircleThrough → List Float
-throughNumbers (Through·.Around m r) = triple (point3 (m .x) (m .y) r)
-throughNumbers Through·.None = []
-throughNumbers (Through·.Refused n) = []
+-- the circle through three points: centre and radius
+unfoldable pub throughNumbers : Option Circle → List Float
+throughNumbers (some c) = triple (point3 (c .center .x) (c .center .y) (c .radius))
+throughNumbers none = []
 
--- the circle of least squares, if there is one: centre, radius and greatest error
-unfoldable pub isCircle : FittedCircle → Bool
-isCircle (Fitted·.Circle m r e) = true
-isCircle Fitted·.None = false
-isCircle (Fitted·.Refused n) = false
-
-unfoldable pub circleNumbers : FittedCircle → List Float
-circleNumbers (Fitted·.Circle m r e) = pair m ++ pair (point r e)
-circleNumbers Fitted·.None = []
-circleNumbers (Fitted·.Refused n) = []
+-- the circle of least squares: centre, radius and greatest error
+unfoldable pub circleNumbers : Option LeastSquares → List Float
+circleNumbers (some c) = pair (c .center) ++ pair (point (c .radius) (c .error))
+circleNumbers none = []
 
 -- ---- a tolerance that is given, or else the source's
 unfoldable pub toleranceBy : Bool → Float → Tolerance

@@ -10,7 +10,7 @@ use geo::types::Point;
 use geo::types::Point3D;
 ghost use Rattle.geo.specs.Lent.{pair};
 ghost use Rattle.circle.specs.Calls.{collinearCall, throughCall, fittedCall, projectedCall};
-ghost use Rattle.exports.specs.Plain.{point, point3, isThrough, throughNumbers, isCircle, circleNumbers, Gave, Told};
+ghost use Rattle.exports.specs.Plain.{point, point3, isFound, throughNumbers, circleNumbers, Gave, Told};
 
 // Whether points lie on a straight line.
 #[no_mangle]
@@ -46,7 +46,7 @@ pub extern "C" fn rt_fit_circle_to_3_points(
     found: &mut bool,
     answer: &mut [f64; 3],
 ) -> u32
-    ensures found { λ r. ⌜ Told isThrough (throughCall (point3 p1x p1y p1z) (point3 p2x p2y p2z) (point3 p3x p3y p3z)) (now (found .entry)) (now (found .exit)) r ⌝ }
+    ensures found { λ r. ⌜ Told isFound (throughCall (point3 p1x p1y p1z) (point3 p2x p2y p2z) (point3 p3x p3y p3z)) (now (found .entry)) (now (found .exit)) r ⌝ }
     ensures answer { λ r. ⌜ Gave throughNumbers (throughCall (point3 p1x p1y p1z) (point3 p2x p2y p2z) (point3 p3x p3y p3z)) (now (answer .entry)) (now (answer .exit)) r ⌝ }
 {
     let p1 = Point3D {
@@ -91,7 +91,7 @@ pub extern "C" fn rt_fit_circle_to_points_3d(
     found: &mut bool,
     answer: &mut [f64; 4],
 ) -> u32
-    ensures found { λ r. ⌜ Told isCircle (fittedCall (now (points .entry))) (now (found .entry)) (now (found .exit)) r ⌝ }
+    ensures found { λ r. ⌜ Told isFound (fittedCall (now (points .entry))) (now (found .entry)) (now (found .exit)) r ⌝ }
     ensures answer { λ r. ⌜ Gave circleNumbers (fittedCall (now (points .entry))) (now (answer .entry)) (now (answer .exit)) r ⌝ }
 {
     let a = circle::circle::fit_circle_to_points_3d(points);

@@ -12,9 +12,9 @@ use Rattle.floats.specs.Ops.{_≺_, +0}
 use Rattle.floats.proofs.Order.{either}
 use Rattle.geo.specs.declared.types.Point.{Point}
 use Rattle.geo.specs.declared.types.Point3D.{Point3D}
-use Rattle.circle.specs.declared.circle.CircleThrough as through
+use mathlib.Core.Option.{Option, none, some}
 use Rattle.circle.specs.declared.circle.Center as center
-use Rattle.circle.specs.Three.{radiusFrom, throughThree}
+use Rattle.circle.specs.Three.{Circle, radiusFrom, throughThree}
 use Rattle.circle.specs.Kasa.{kasaCenter}
 use Rattle.circle.specs.Bisector.{projected}
 use Rattle.trial.specs.declared.trial.Trial.{Trial}
@@ -40,11 +40,10 @@ module _ (tol : Float) (at : ℕ → Point3D) (lo hi : ℕ) where
       (λ h. rw h (⊎-elim (λ g. rw g h) (λ g. rw g tt) (either (traverses c at lo hi))))
       (λ h. rw h tt) (either (lt (arcDeviation c (radiusFrom c (at lo)) at lo hi .dist) tol))
 
-  near-circle : (c : through.CircleThrough) → Near tol at lo hi (ofCircle at lo hi tol c)
+  near-circle : (c : Option Circle) → Near tol at lo hi (ofCircle at lo hi tol c)
   unfolding ofCircle trialOf
-  near-circle (through.the-variants.Around c r) = near-round (projected (at lo) (at hi) c)
-  near-circle through.the-variants.None = tt
-  near-circle (through.the-variants.Refused n) = tt
+  near-circle (some c) = near-round (projected (at lo) (at hi) (c .center))
+  near-circle none = tt
 
   near-center : (c : center.Center) → Near tol at lo hi (ofCenter at lo hi tol c)
   unfolding ofCenter trialOf

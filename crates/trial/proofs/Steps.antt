@@ -24,9 +24,9 @@ unfolding stepBetween
 step-is m r p q p′ q′ s t len d ep eq es et el ed = rw (ed, el, es, et, ep, eq)
 
 -- the length of the spoke to a point is its distance from the centre
-pub spoke-length : (m : Point) (p p′ : Point3D) (s : Spoke) → p ≡ p′ → s ≡ spokeOf m p → s .len ≡ radiusFrom m p′
+pub spoke-length : (m : Point) (p : Point3D) (s : Spoke) → s ≡ spokeOf m p → s .len ≡ radiusFrom m p
 unfolding spokeOf radiusFrom
-spoke-length m p p′ s ep es = rw (es, ep)
+spoke-length m p s es = rw es
 
 -- and the root of its own square
 pub spoke-root : (m : Point) (p : Point3D) (s : Spoke) → s ≡ spokeOf m p → s .len ≡ rootOf (lengthSq (s .x) (s .y))

@@ -12,6 +12,10 @@ use Rattle.floats.specs.Limits.{nano}
 use Rattle.circle.specs.Worst.{worst}
 use Rattle.trial.specs.declared.trial.Spoke.{Spoke}
 
+-- a step or a spoke shorter than this has no direction
+abbrev pub noDirection : Float
+noDirection = nano
+
 -- p seen from the centre m: its offset and its distance
 unfoldable pub spokeOf : Point → Point3D → Spoke
 spokeOf m p = record { x = p .x ⊖ m .x; y = p .y ⊖ m .y; len = lengthOf (p .x ⊖ m .x) (p .y ⊖ m .y) }
@@ -24,8 +28,8 @@ cosine s t = clampOf (dot (s .x) (s .y) (t .x) (t .y) ⊘ (s .len ⊗ t .len)) (
 unfoldable pub sagittaOf : Float → Spoke → Spoke → Float
 unfolding cosine
 sagittaOf r s t =
-    if s .len ≺ nano then +0
-    else if t .len ≺ nano then +0
+    if s .len ≺ noDirection then +0
+    else if t .len ≺ noDirection then +0
     else r ⊗ (one ⊖ rootOf ((one ⊕ cosine s t) ⊘ two))
 
 -- the greater distance of the two ends from the circle
@@ -36,7 +40,7 @@ endsOf r s t = maxOf (absOf (s .len ⊖ r)) (absOf (t .len ⊖ r))
 unfoldable pub stepOf : Float → Float → Spoke → Spoke → Float
 unfolding sagittaOf endsOf
 stepOf r len s t =
-    if len ≺ nano then absOf (s .len ⊖ r)
+    if len ≺ noDirection then absOf (s .len ⊖ r)
     else if two ⊗ r ≺ len then endsOf r s t
     else maxOf (sagittaOf r s t) (endsOf r s t)
 

@@ -1,7 +1,7 @@
 -- Whether points go round a centre by less than a whole turn: document 01's count W (its "Traversal"). Definitions only.
-use Prim.Native.Nat.{ℕ, _+_, _-_}
+use Prim.Native.Nat.{ℕ, zero, suc, _+_, _-_}
 use mathlib.Core.Bool.{Bool, true, false, not, _&&_}
-use lib.Dec.{eqb}
+use lib.IntN.{ℤ, pos, negsuc, _+ℤ_, _-ℤ_}
 use lib.Ieee.{Float, neg, eq}
 use Rattle.floats.specs.Limits.{thousandth}
 use Rattle.floats.specs.Ops.{_⊖_, _⊗_, _≺_, _≼_, if_then_else_, +0}
@@ -10,7 +10,10 @@ use Rattle.geo.specs.declared.types.Point3D.{Point3D}
 use Rattle.geo.specs.Vector.{dot, perpDot}
 use Rattle.geo.specs.Walk.{fold}
 use Rattle.geo.specs.Domain.{everyFrom}
-use Rattle.trial.specs.declared.trial.Turns.{Turns}
+
+-- how near the last point may come to the first, as a share of a radius
+abbrev pub nearShare : Float
+nearShare = thousandth
 
 -- q: a point minus the centre m
 unfoldable pub offsetOf : Point → Point3D → Point
@@ -31,34 +34,34 @@ unfoldable pub halfOf : Point → Point → Bool
 unfolding crossOf dotOf
 halfOf q0 q = if +0 ≺ crossOf q0 q then true else if eq (crossOf q0 q) +0 then +0 ≺ dotOf q0 q else false
 
--- W is `up` less `down`: a step with cross ≥ 0 from half 1 to half 0 adds 1, a step with cross < 0 from half 0 to half 1 takes 1 off
-unfoldable pub turned : Bool → Bool → Float → Turns → Turns
-turned true true c t = t
-turned true false c t = if c ≺ +0 then record { up = t .up; down = t .down + 1 } else t
-turned false true c t = if +0 ≼ c then record { up = t .up + 1; down = t .down } else t
-turned false false c t = t
+-- W, a whole number, after a step of cross c from one half to another, true being half 0: a step with cross ≥ 0 from half 1 to half 0 adds 1,
+-- a step with cross < 0 from half 0 to half 1 takes 1 off
+unfoldable pub turned : Bool → Bool → Float → ℤ → ℤ
+turned false true c w = if +0 ≼ c then w +ℤ pos 1 else w
+turned true false c w = if c ≺ +0 then w -ℤ pos 1 else w
+turned true true c w = w
+turned false false c w = w
 
--- over the steps from lo to hi; q i is the offset of point i
-unfoldable pub turnsOf : (ℕ → Point) → ℕ → ℕ → Turns
+-- W over the steps from lo to hi; q i is the offset of point i
+unfoldable pub turnsOf : (ℕ → Point) → ℕ → ℕ → ℤ
 unfolding fold turned halfOf
 turnsOf q lo hi =
-    fold (λ i. turned (halfOf (q lo) (q i)) (halfOf (q lo) (q (i + 1))) (crossOf (q i) (q (i + 1)))) (hi - lo) lo
-    (record { up = 0; down = 0 })
+    fold (λ i. turned (halfOf (q lo) (q i)) (halfOf (q lo) (q (i + 1))) (crossOf (q i) (q (i + 1)))) (hi - lo) lo (pos 0)
 
 -- with c and d the cross and dot of q0 and the last q: d > 0, c < 0, −c ≤ 0.001 × d; and d > 0, c ≥ 0, c ≤ 0.001 × d
 unfoldable pub justBehind : Float → Float → Bool
-justBehind c d = (+0 ≺ d) && ((c ≺ +0) && (neg c ≼ thousandth ⊗ d))
+justBehind c d = (+0 ≺ d) && ((c ≺ +0) && (neg c ≼ nearShare ⊗ d))
 
 unfoldable pub justAhead : Float → Float → Bool
-justAhead c d = (+0 ≺ d) && ((+0 ≼ c) && (c ≼ thousandth ⊗ d))
+justAhead c d = (+0 ≺ d) && ((+0 ≼ c) && (c ≼ nearShare ⊗ d))
 
--- W = 0 and not just behind, or W = −1 and not just ahead
-unfoldable pub passesBy : Turns → Point → Point → Bool
+-- W = 0 and not just behind, or W = −1 (`negsuc 0`) and not just ahead
+unfoldable pub passesBy : ℤ → Point → Point → Bool
 unfolding justBehind justAhead
-passesBy t q0 q =
-    if eqb (t .up) (t .down) then not (justBehind (crossOf q0 q) (dotOf q0 q))
-    else if eqb (t .up + 1) (t .down) then not (justAhead (crossOf q0 q) (dotOf q0 q))
-    else false
+passesBy (pos zero) q0 q = not (justBehind (crossOf q0 q) (dotOf q0 q))
+passesBy (negsuc zero) q0 q = not (justAhead (crossOf q0 q) (dotOf q0 q))
+passesBy (pos (suc n)) q0 q = false
+passesBy (negsuc (suc n)) q0 q = false
 
 -- no point is at the centre
 unfoldable pub awayFrom : (ℕ → Point) → ℕ → ℕ → Bool

@@ -1,6 +1,7 @@
 -- The two arc trials of a range from lo to hi, whose Line's first farthest point is k. Definitions only.
 use Prim.Native.Nat.{ℕ, _+_, _-_}
 use mathlib.Core.Bool.{Bool, _&&_}
+use mathlib.Core.Option.{Option, none, some}
 use lib.Dec.{ltb, eqb}
 use lib.Ieee.{Float}
 use Rattle.floats.specs.Ops.{_⊖_, _⊗_, _⊘_, _≺_, if_then_else_, half}
@@ -8,16 +9,23 @@ use Rattle.geo.specs.declared.types.Point.{Point}
 use Rattle.geo.specs.declared.types.Point3D.{Point3D}
 use Rattle.geo.specs.Vector.{dot, lengthOf, flatten}
 use Rattle.arc.specs.Direction.{clockwise}
-use Rattle.circle.specs.declared.circle.CircleThrough as through
 use Rattle.circle.specs.declared.circle.Center as center
-use Rattle.floats.specs.Limits.{nano, millionth}
-use Rattle.circle.specs.Three.{radiusFrom, throughThree}
+use Rattle.floats.specs.Limits.{millionth}
+use Rattle.circle.specs.Three.{Circle, radiusFrom, throughThree}
 use Rattle.circle.specs.Kasa.{kasaCenter}
 use Rattle.circle.specs.Bisector.{projected}
 use Rattle.trial.specs.declared.trial.Trial.{Trial}
 use Rattle.trial.specs.declared.trial.Trial.the-variants.{Arc, None}
-use Rattle.trial.specs.Deviation.{arcDeviation}
+use Rattle.trial.specs.Deviation.{noDirection, arcDeviation}
 use Rattle.trial.specs.Traversal.{traverses}
+
+-- the cosine of a sharp turn is below this
+abbrev pub sharpCosine : Float
+sharpCosine = half
+
+-- the ends of a closed range are nearer than this
+abbrev pub closedWithin : Float
+closedWithin = millionth
 
 -- the cosine of the turn from one step to the next is below 0.5, and both steps have a length
 unfoldable pub sharpTurn : Point3D → Point3D → Point3D → Bool
@@ -26,7 +34,8 @@ sharpTurn a b c =
     let dy1 = b .y ⊖ a .y in
     let dx2 = c .x ⊖ b .x in
     let dy2 = c .y ⊖ b .y in
-    (nano ≺ lengthOf dx1 dy1) && ((nano ≺ lengthOf dx2 dy2) && (dot dx1 dy1 dx2 dy2 ⊘ (lengthOf dx1 dy1 ⊗ lengthOf dx2 dy2) ≺ half))
+    (noDirection ≺ lengthOf dx1 dy1)
+    && ((noDirection ≺ lengthOf dx2 dy2) && (dot dx1 dy1 dx2 dy2 ⊘ (lengthOf dx1 dy1 ⊗ lengthOf dx2 dy2) ≺ sharpCosine))
 
 -- at the split point k, where it lies strictly inside the range
 unfoldable pub sharpAt : (ℕ → Point3D) → ℕ → ℕ → ℕ → Bool
@@ -34,7 +43,7 @@ sharpAt at lo hi k = ltb lo k && (ltb k hi && sharpTurn (at (k - 1)) (at k) (at 
 
 -- a range whose ends are nearer than 1e-6 is closed
 unfoldable pub closedRange : Point3D → Point3D → Bool
-closedRange a b = lengthOf (a .x ⊖ b .x) (a .y ⊖ b .y) ≺ millionth
+closedRange a b = lengthOf (a .x ⊖ b .x) (a .y ⊖ b .y) ≺ closedWithin
 
 -- the arc round m, which is on the bisector already: its deviation is below the tolerance, and it goes less than a whole turn.
 -- The radius is measured again, from m to the first point.
@@ -48,11 +57,10 @@ trialRound at lo hi tol m =
 unfoldable pub trialOf : (ℕ → Point3D) → ℕ → ℕ → Float → Point → Trial
 trialOf at lo hi tol m = trialRound at lo hi tol (projected (at lo) (at hi) m)
 
--- where there is a circle
-unfoldable pub ofCircle : (ℕ → Point3D) → ℕ → ℕ → Float → through.CircleThrough → Trial
-ofCircle at lo hi tol (through.the-variants.Around m r) = trialOf at lo hi tol m
-ofCircle at lo hi tol through.the-variants.None = None
-ofCircle at lo hi tol (through.the-variants.Refused n) = None
+-- where there is a circle: its own radius is not used
+unfoldable pub ofCircle : (ℕ → Point3D) → ℕ → ℕ → Float → Option Circle → Trial
+ofCircle at lo hi tol (some c) = trialOf at lo hi tol (c .center)
+ofCircle at lo hi tol none = None
 
 unfoldable pub ofCenter : (ℕ → Point3D) → ℕ → ℕ → Float → center.Center → Trial
 ofCenter at lo hi tol (center.the-variants.At m q) = trialOf at lo hi tol m

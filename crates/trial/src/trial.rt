@@ -4,8 +4,6 @@ use arc::arc::turn;
 use circle::circle::Center;
 use circle::circle::CenterThrough;
 use circle::circle::Deviation;
-use circle::circle::center_through;
-use circle::circle::least_squares;
 use circle::circle::to_bisector;
 use floats::float::abs;
 use floats::float::clamp;
@@ -19,6 +17,7 @@ ghost use mathlib.Core.Path.{_≡_};
 ghost use Prim.Native.Nat.{_+_, _*_, _<_, _≤_};
 ghost use lib.ListN.{length};
 ghost use lib.Ieee.{lt};
+ghost use lib.Signed.{mag};
 ghost use Rattle.floats.specs.Ops.{_⊖_};
 ghost use Rattle.floats.specs.Root.{rootOf};
 ghost use Rattle.geo.specs.Vector.{flatten, lengthOf};
@@ -27,7 +26,7 @@ ghost use Rattle.arc.specs.Direction.{clockwise};
 ghost use Rattle.circle.specs.Three.{radiusFrom};
 ghost use Rattle.trial.specs.Deviation.{spokeOf, sagittaOf, endsOf, stepOf, arcDeviation};
 ghost use Rattle.trial.specs.Traversal.{offsetOf, crossOf, dotOf, atCentre, halfOf, turned, justBehind, justAhead, passesBy, traverses};
-ghost use Rattle.trial.specs.Trial.{sharpTurn, sharpAt, closedRange, trialOf, trialThree, trialLeast, tryArcs};
+ghost use Rattle.trial.specs.Trial.{sharpTurn, sharpAt, closedRange, trialOf, trialThree, trialLeast, orElse, tryArcs};
 
 // A point seen from a centre: its offset and its distance.
 pub struct Spoke {
@@ -38,11 +37,12 @@ pub struct Spoke {
 
 impl Spoke {
     // A step or a spoke shorter than this has no direction.
-    pub const SHORT: f64 = 1e-9;
-    // The root of this is above SHORT: a step whose square is at least this is not short.
-    pub const SHORT_SQUARE: f64 = 1e-17;
+    const SHORT: f64 = 1e-9;
 
-    pub fn new(m: Point, p: Point3D) -> Self
+    // The root of this is above SHORT: a step whose square is at least this is not short.
+    const SHORT_SQUARE: f64 = 1e-17;
+
+    fn new(m: Point, p: Point3D) -> Self
         ensures { λ r. ⌜ r ≡ spokeOf m p ⌝ }
     {
         let x = p.x - m.x;
@@ -130,10 +130,17 @@ pub fn arc_deviation(points: &[f64], start: usize, end: usize, m: Point, r: f64)
     worst
 }
 
-// Whether that deviation is below the tolerance, where the radius is the first point's distance from the centre: the walk
-// ends at the first step that is not.
-fn is_arc_within(points: &[f64], start: usize, end: usize, m: Point, tolerance: f64) -> bool
-    requires { ⌜ (start ≤ end) × (3 * end + 2 < length (now points)) ⌝ }
+// Whether that deviation is below the tolerance, where `first` is the first point's spoke and its length the radius: the
+// walk ends at the first step that is not.
+fn is_arc_within(
+    points: &[f64],
+    start: usize,
+    end: usize,
+    m: Point,
+    first: Spoke,
+    tolerance: f64,
+) -> bool
+    requires { ⌜ (first ≡ spokeOf m (pointAt (now points) start)) × ((start ≤ end) × (3 * end + 2 < length (now points))) ⌝ }
     ensures { λ b. ⌜ b ≡ lt (arcDeviation m (radiusFrom m (pointAt (now (points .entry)) start)) (pointAt (now (points .entry))) start end .dist) tolerance ⌝ }
 {
     let mut worst = Deviation {
@@ -141,9 +148,9 @@ fn is_arc_within(points: &[f64], start: usize, end: usize, m: Point, tolerance: 
         index: start,
     };
     let mut p = point_at(points, start);
-    let mut s = Spoke::new(m, p);
-    let r = s.len;
-    let square = s.x * s.x + s.y * s.y;
+    let mut s = first;
+    let r = first.len;
+    let square = first.x * first.x + first.y * first.y;
     for i in start..end {
         let q = point_at(points, i + 1);
         let t = Spoke::new(m, q);
@@ -193,42 +200,25 @@ fn half(q0: Point, q: Point) -> bool
     false
 }
 
-// Document 01's W is up less down.
-pub struct Turns {
-    pub up: usize,
-    pub down: usize,
-}
-
-impl Turns {
-    // How near the last point may come to the first, as a share of a radius.
-    pub const NEAR: f64 = 0.001;
-}
-
-// One step more, of cross c, from half h to half k; true is half 0.
-fn turn_by(t: Turns, h: bool, k: bool, c: f64) -> Turns
-    requires { ⌜ (t .up < 2048) × (t .down < 2048) ⌝ }
-    ensures { λ r. ⌜ r ≡ turned h k c t ⌝ }
+// W after one step more, of cross c, from half h to half k; true is half 0.
+fn turn_by(w: i64, h: bool, k: bool, c: f64) -> i64
+    requires { ⌜ mag w < 2048 ⌝ }
+    ensures { λ r. ⌜ r ≡ turned h k c w ⌝ }
 {
     if h {
         if !k {
             if c < 0.0 {
-                return Turns {
-                    up: t.up,
-                    down: t.down + 1,
-                };
+                return w - 1;
             }
         }
-        return t;
+        return w;
     }
     if k {
         if c >= 0.0 {
-            return Turns {
-                up: t.up + 1,
-                down: t.down,
-            };
+            return w + 1;
         }
     }
-    t
+    w
 }
 
 fn just_behind(c: f64, d: f64) -> bool
@@ -236,7 +226,7 @@ fn just_behind(c: f64, d: f64) -> bool
 {
     if d > 0.0 {
         if c < 0.0 {
-            return -c <= Turns::NEAR * d;
+            return -c <= Trial::NEAR * d;
         }
     }
     false
@@ -247,23 +237,22 @@ fn just_ahead(c: f64, d: f64) -> bool
 {
     if d > 0.0 {
         if c >= 0.0 {
-            return c <= Turns::NEAR * d;
+            return c <= Trial::NEAR * d;
         }
     }
     false
 }
 
 // Whether less than a whole turn was gone, by W and by where the last point lies.
-fn passes(t: Turns, q0: Point, q: Point) -> bool
-    requires { ⌜ t .up ≤ 2048 ⌝ }
-    ensures { λ r. ⌜ r ≡ passesBy t q0 q ⌝ }
+fn passes(w: i64, q0: Point, q: Point) -> bool
+    ensures { λ r. ⌜ r ≡ passesBy w q0 q ⌝ }
 {
     let c = cross(q0, q);
     let d = dot(q0, q);
-    if t.up == t.down {
+    if w == 0 {
         return !just_behind(c, d);
     }
-    if t.up + 1 == t.down {
+    if w == -1 {
         return !just_ahead(c, d);
     }
     false
@@ -289,7 +278,7 @@ fn traversal_passes(points: &[f64], start: usize, end: usize, m: Point) -> bool
     }
     let mut q = q0;
     let mut h = half(q0, q0);
-    let mut t = Turns { up: 0, down: 0 };
+    let mut w: i64 = 0;
     for i in start..end {
         let n = offset(m, point_at(points, i + 1));
         if at_centre(n) {
@@ -297,11 +286,11 @@ fn traversal_passes(points: &[f64], start: usize, end: usize, m: Point) -> bool
         }
         let k = half(q0, n);
         let c = cross(q, n);
-        t = turn_by(t, h, k, c);
+        w = turn_by(w, h, k, c);
         q = n;
         h = k;
     }
-    passes(t, q0, q)
+    passes(w, q0, q)
 }
 
 // Whether they go clockwise.
@@ -330,7 +319,7 @@ fn sharp_turn(a: Point3D, b: Point3D, c: Point3D) -> bool
     let len2 = get_length(dx2, dy2);
     if len1 > Spoke::SHORT {
         if len2 > Spoke::SHORT {
-            return (dx1 * dx2 + dy1 * dy2) / (len1 * len2) < 0.5;
+            return (dx1 * dx2 + dy1 * dy2) / (len1 * len2) < Trial::SHARP;
         }
     }
     false
@@ -359,10 +348,76 @@ pub enum Trial {
 }
 
 impl Trial {
+    // The cosine of a turn that is sharp is below this.
+    const SHARP: f64 = 0.5;
+
     // A range whose ends are nearer than this is closed.
-    pub const CLOSED: f64 = 1e-6;
+    const CLOSED: f64 = 1e-6;
+
     // The root of this is above CLOSED: a range is not closed where the square of its ends' distance is at least this.
-    pub const CLOSED_SQUARE: f64 = 1e-11;
+    const CLOSED_SQUARE: f64 = 1e-11;
+
+    // How near the last point may come to the first, as a share of a radius.
+    const NEAR: f64 = 0.001;
+
+    // The arc round a fitted centre, moved to the bisector of the range's ends. Its radius is measured again from there.
+    fn round(points: &[f64], start: usize, end: usize, tolerance: f64, fitted: Point) -> Self
+        requires { ⌜ (start ≤ end) × (end < 2048) × (3 * end + 2 < length (now points)) ⌝ }
+        ensures { λ r. ⌜ r ≡ trialOf (pointAt (now (points .entry))) start end tolerance fitted ⌝ }
+    {
+        let a = point_at(points, start);
+        let center = to_bisector(a, point_at(points, end), fitted);
+        let first = Spoke::new(center, a);
+        if !is_arc_within(points, start, end, center, first, tolerance) {
+            return Trial::None;
+        }
+        if !traversal_passes(points, start, end, center) {
+            return Trial::None;
+        }
+        let clockwise = goes_clockwise(points, start, end, center);
+        Trial::Arc { center, clockwise }
+    }
+
+    // By the circle through the range's first, second and last point.
+    fn of_three(points: &[f64], start: usize, end: usize, tolerance: f64) -> Self
+        requires { ⌜ (start < end) × (end < 2048) × (3 * end + 2 < length (now points)) ⌝ }
+        ensures { λ r. ⌜ r ≡ trialThree (pointAt (now (points .entry))) start end tolerance ⌝ }
+    {
+        let a = point_at(points, start);
+        let b = point_at(points, start + 1);
+        let c = point_at(points, end);
+        let t = CenterThrough::of(a, b, c);
+        match t {
+            CenterThrough::At(center) => Trial::round(points, start, end, tolerance, center),
+            CenterThrough::None => Trial::None,
+        }
+    }
+
+    // By the circle of least squares.
+    fn of_least_squares(points: &[f64], start: usize, end: usize, tolerance: f64) -> Self
+        requires { ⌜ (start ≤ end) × (end < 2048) × (3 * end + 2 < length (now points)) ⌝ }
+        ensures { λ r. ⌜ r ≡ trialLeast (pointAt (now (points .entry))) start end tolerance ⌝ }
+    {
+        let t = Center::of(points, start, end);
+        match t {
+            Center::At { center, square: _ } => {
+                Trial::round(points, start, end, tolerance, center)
+            }
+            Center::None => Trial::None,
+        }
+    }
+
+    // By the first of the two that passes.
+    fn of_either(points: &[f64], start: usize, end: usize, tolerance: f64) -> Self
+        requires { ⌜ (start < end) × (end < 2048) × (3 * end + 2 < length (now points)) ⌝ }
+        ensures { λ r. ⌜ r ≡ orElse (trialThree (pointAt (now (points .entry))) start end tolerance) (trialLeast (pointAt (now (points .entry))) start end tolerance) ⌝ }
+    {
+        let t = Trial::of_three(points, start, end, tolerance);
+        match t {
+            Trial::Arc { center, clockwise } => Trial::Arc { center, clockwise },
+            Trial::None => Trial::of_least_squares(points, start, end, tolerance),
+        }
+    }
 }
 
 // Whether the range's ends all but meet.
@@ -378,48 +433,6 @@ fn is_closed_range(a: Point3D, b: Point3D) -> bool
     sqrt(l) < Trial::CLOSED
 }
 
-// The arc round a fitted centre, moved to the bisector of the range's ends. Its radius is measured again from there.
-fn trial_of(points: &[f64], start: usize, end: usize, tolerance: f64, fitted: Point) -> Trial
-    requires { ⌜ (start ≤ end) × (end < 2048) × (3 * end + 2 < length (now points)) ⌝ }
-    ensures { λ r. ⌜ r ≡ trialOf (pointAt (now (points .entry))) start end tolerance fitted ⌝ }
-{
-    let a = point_at(points, start);
-    let center = to_bisector(a, point_at(points, end), fitted);
-    if !is_arc_within(points, start, end, center, tolerance) {
-        return Trial::None;
-    }
-    if !traversal_passes(points, start, end, center) {
-        return Trial::None;
-    }
-    let clockwise = goes_clockwise(points, start, end, center);
-    Trial::Arc { center, clockwise }
-}
-
-fn trial_of_three(points: &[f64], start: usize, end: usize, tolerance: f64) -> Trial
-    requires { ⌜ (start < end) × (end < 2048) × (3 * end + 2 < length (now points)) ⌝ }
-    ensures { λ r. ⌜ r ≡ trialThree (pointAt (now (points .entry))) start end tolerance ⌝ }
-{
-    let a = point_at(points, start);
-    let b = point_at(points, start + 1);
-    let c = point_at(points, end);
-    let t = center_through(a, b, c);
-    match t {
-        CenterThrough::At(center) => trial_of(points, start, end, tolerance, center),
-        CenterThrough::None => Trial::None,
-    }
-}
-
-fn trial_of_least_squares(points: &[f64], start: usize, end: usize, tolerance: f64) -> Trial
-    requires { ⌜ (start ≤ end) × (end < 2048) × (3 * end + 2 < length (now points)) ⌝ }
-    ensures { λ r. ⌜ r ≡ trialLeast (pointAt (now (points .entry))) start end tolerance ⌝ }
-{
-    let t = least_squares(points, start, end);
-    match t {
-        Center::At { center, square: _ } => trial_of(points, start, end, tolerance, center),
-        Center::None => Trial::None,
-    }
-}
-
 // The arc of the first trial that passes. A sharp turn at the split point or a closed range blocks both trials.
 pub fn try_arcs(points: &[f64], start: usize, end: usize, split: usize, tolerance: f64) -> Trial
     requires { ⌜ (start ≤ end) × (end < 2048) × (3 * end + 2 < length (now points)) ⌝ }
@@ -432,15 +445,7 @@ pub fn try_arcs(points: &[f64], start: usize, end: usize, split: usize, toleranc
         return Trial::None;
     }
     if end - start == 2 {
-        let t = trial_of_three(points, start, end, tolerance);
-        match t {
-            Trial::Arc { center, clockwise } => {
-                return Trial::Arc { center, clockwise };
-            }
-            Trial::None => {
-                return trial_of_least_squares(points, start, end, tolerance);
-            }
-        }
+        return Trial::of_either(points, start, end, tolerance);
     }
-    trial_of_least_squares(points, start, end, tolerance)
+    Trial::of_least_squares(points, start, end, tolerance)
 }

@@ -26,12 +26,12 @@ returns-3 : tie.Need-returns-3
 unfolding throughCall throughAnswer
 returns-3 c = rw (← c .before .before .before .before .before .point3-in .ensures, not-false (c .before .before .before .before .before .point3-in .result) (c .before .before .before .before .if1 .left), ← c .before .before .before .point3-in2 .ensures, not-false (c .before .before .before .point3-in2 .result) (c .before .before .if2 .left), ← c .before .point3-in3 .ensures, not-true (c .before .point3-in3 .result) (c .if3 .taken))
 
-circle-through-requires : tie.Need-circle-through-requires
-circle-through-requires c κs = search needs
+of-requires : tie.Need-of-requires
+of-requires c κs = search needs
 
 returns-4 : tie.Need-returns-4
 unfolding throughCall throughAnswer
-returns-4 c = rw (← c .before .before .before .before .before .before .point3-in .ensures, not-false (c .before .before .before .before .before .before .point3-in .result) (c .before .before .before .before .before .if1 .left), ← c .before .before .before .before .point3-in2 .ensures, not-false (c .before .before .before .before .point3-in2 .result) (c .before .before .before .if2 .left), ← c .before .before .point3-in3 .ensures, not-false (c .before .before .point3-in3 .result) (c .before .if3 .left)) (c .circle-through .ensures)
+returns-4 c = rw (← c .before .before .before .before .before .before .point3-in .ensures, not-false (c .before .before .before .before .before .before .point3-in .result) (c .before .before .before .before .before .if1 .left), ← c .before .before .before .before .point3-in2 .ensures, not-false (c .before .before .before .before .point3-in2 .result) (c .before .before .before .if2 .left), ← c .before .before .point3-in3 .ensures, not-false (c .before .before .point3-in3 .result) (c .before .if3 .left)) (c .of .ensures)
 
 pub fit-circle-to-3-points-spec : {M : Type 1} → statement M
 fit-circle-to-3-points-spec =
@@ -43,5 +43,5 @@ fit-circle-to-3-points-spec =
     returns-2
     point3-in-requires-3
     returns-3
-    circle-through-requires
+    of-requires
     returns-4)

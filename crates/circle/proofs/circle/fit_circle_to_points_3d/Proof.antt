@@ -19,18 +19,18 @@ returns-2 : tie.Need-returns-2
 unfolding fittedCall fittedAnswer
 returns-2 c = rw (← accepted _ _ (c .before .before .check-points .ensures) (c .before .if1 .left), lt-ltb _ _ (c .if2 .taken))
 
-sub-circle-of : tie.Need-sub-circle-of
-sub-circle-of c = search needs
+sub-of : tie.Need-sub-of
+sub-of c = search needs
 
-circle-of-requires : tie.Need-circle-of-requires
-circle-of-requires c κs = let f = points-passed (c .before .before .before .before .args .points .now) (accepted _ _ (c .before .before .check-points .ensures) (c .before .if1 .left)) in
+of-requires : tie.Need-of-requires
+of-requires c κs = let f = points-passed (c .before .before .before .before .args .points .now) (accepted _ _ (c .before .before .check-points .ensures) (c .before .if1 .left)) in
     omega arith
 
 returns-3 : tie.Need-returns-3
 unfolding fittedCall fittedAnswer
-returns-3 c = rw (← accepted _ _ (c .before .before .before .check-points .ensures) (c .before .before .if1 .left), le-ltb _ _ (c .before .if2 .left)) (c .circle-of .ensures)
+returns-3 c = rw (← accepted _ _ (c .before .before .before .check-points .ensures) (c .before .before .if1 .left), le-ltb _ _ (c .before .if2 .left)) (c .of .ensures)
 
 pub fit-circle-to-points-3d-spec : {M : Type 1} → statement M
 fit-circle-to-points-3d-spec =
     tie.close
-    (tie.spec check-points-requires returns returns-2 sub-circle-of circle-of-requires returns-3)
+    (tie.spec check-points-requires returns returns-2 sub-of of-requires returns-3)

@@ -1,6 +1,6 @@
--- `exports::circles::rt_fit_circle_to_3_points` meets its contract: by the answer's case; a refusal is the call's own, since no circle gives one. Assumes nothing.
+-- `exports::circles::rt_fit_circle_to_3_points` meets its contract: by the answer's case. Assumes nothing.
 use mathlib.Core.Path.{refl}
-use Rattle.exports.specs.Plain.{isThrough, throughNumbers}
+use Rattle.exports.specs.Plain.{isFound, throughNumbers}
 use Rattle.exports.proofs.Answers.{through-gives, through-none, through-refused}
 use Rattle.exports.proofs.Plain.{gave, gave-nothing, tells, tells-nothing}
 use borrow.Author.Needs.{needs}
@@ -23,18 +23,18 @@ enum-known-a-2 : tie.Need-enum-known-a-2
 enum-known-a-2 c = search needs
 
 returns : tie.Need-returns
-unfolding isThrough throughNumbers
+unfolding isFound throughNumbers
 returns c = let e = through-gives _ _ _ _ (c .before .before .before .before .before .fit-circle-to-3-points .ensures) (c .before .before .before .a .given .1) in
-    (tells isThrough _ (c .before .before .before .before .before .before .args .found .now) _ _ e refl, gave throughNumbers _ (c .before .before .before .before .before .before .args .answer .now) _ _ e (c .put-point .ensures))
+    (tells isFound _ (c .before .before .before .before .before .before .args .found .now) _ _ e refl, gave throughNumbers _ (c .before .before .before .before .before .before .args .answer .now) _ _ e (c .put-point .ensures))
 
 returns-2 : tie.Need-returns-2
-unfolding isThrough throughNumbers
+unfolding isFound throughNumbers
 returns-2 c = let e = through-none _ _ (c .before .before .fit-circle-to-3-points .ensures) (c .enum-told .given .1) in
-    (tells isThrough _ (c .before .before .before .args .found .now) _ _ e refl, gave throughNumbers _ (c .before .before .before .args .answer .now) _ _ e refl)
+    (tells isFound _ (c .before .before .before .args .found .now) _ _ e refl, gave throughNumbers _ (c .before .before .before .args .answer .now) _ _ e refl)
 
 returns-3 : tie.Need-returns-3
-returns-3 c = let e = through-refused _ _ _ _ _ (c .before .before .before .fit-circle-to-3-points .ensures) (c .before .a2 .given .1) in
-    (tells-nothing isThrough _ (c .before .before .before .before .args .found .now) _ e, gave-nothing throughNumbers _ (c .before .before .before .before .args .answer .now) _ e)
+returns-3 c = let e = through-refused _ _ _ (c .before .before .before .fit-circle-to-3-points .ensures) (c .before .a2 .given .1) in
+    (tells-nothing isFound _ (c .before .before .before .before .args .found .now) _ e, gave-nothing throughNumbers _ (c .before .before .before .before .args .answer .now) _ e)
 
 pub rt-fit-circle-to-3-points-spec : {M : Type 1} → statement M
 rt-fit-circle-to-3-points-spec =

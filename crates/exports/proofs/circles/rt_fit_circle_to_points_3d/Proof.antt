@@ -1,7 +1,7 @@
--- `exports::circles::rt_fit_circle_to_points_3d` meets its contract: by the answer's case; a refusal is the call's own, since no circle gives one. Assumes nothing.
+-- `exports::circles::rt_fit_circle_to_points_3d` meets its contract: by the answer's case. Assumes nothing.
 use mathlib.Core.Path.{refl}
 use Rattle.geo.specs.Lent.{pair}
-use Rattle.exports.specs.Plain.{isCircle, circleNumbers}
+use Rattle.exports.specs.Plain.{isFound, circleNumbers}
 use Rattle.exports.proofs.Answers.{fitted-gives, fitted-none, fitted-refused}
 use Rattle.exports.proofs.Plain.{gave, gave-nothing, tells, tells-nothing}
 use Rattle.exports.proofs.Runs.{two-runs}
@@ -28,18 +28,18 @@ enum-known-a-2 : tie.Need-enum-known-a-2
 enum-known-a-2 c = search needs
 
 returns : tie.Need-returns
-unfolding isCircle circleNumbers
+unfolding isFound circleNumbers
 returns c = let e = fitted-gives _ _ _ _ _ (c .before .before .before .before .before .before .before .fit-circle-to-points-3d .ensures) (c .before .before .before .before .before .a .given .1) in
-    (tells isCircle _ (c .before .before .before .before .before .before .before .before .before .args .found .now) _ _ e refl, gave circleNumbers _ (c .before .before .before .before .before .before .before .before .before .args .answer .now) _ _ e (two-runs (c .before .before .before .before .before .before .before .before .before .args .answer .now) 0 2 (pair _) (pair _) _ _ refl (c .before .before .put-pair .ensures) (c .put-pair2 .ensures)))
+    (tells isFound _ (c .before .before .before .before .before .before .before .before .before .args .found .now) _ _ e refl, gave circleNumbers _ (c .before .before .before .before .before .before .before .before .before .args .answer .now) _ _ e (two-runs (c .before .before .before .before .before .before .before .before .before .args .answer .now) 0 2 (pair _) (pair _) _ _ refl (c .before .before .put-pair .ensures) (c .put-pair2 .ensures)))
 
 returns-2 : tie.Need-returns-2
-unfolding isCircle circleNumbers
+unfolding isFound circleNumbers
 returns-2 c = let e = fitted-none _ _ (c .before .before .fit-circle-to-points-3d .ensures) (c .enum-told .given .1) in
-    (tells isCircle _ (c .before .before .before .before .args .found .now) _ _ e refl, gave circleNumbers _ (c .before .before .before .before .args .answer .now) _ _ e refl)
+    (tells isFound _ (c .before .before .before .before .args .found .now) _ _ e refl, gave circleNumbers _ (c .before .before .before .before .args .answer .now) _ _ e refl)
 
 returns-3 : tie.Need-returns-3
 returns-3 c = let e = fitted-refused _ _ _ (c .before .before .before .fit-circle-to-points-3d .ensures) (c .before .a2 .given .1) in
-    (tells-nothing isCircle _ (c .before .before .before .before .before .args .found .now) _ e, gave-nothing circleNumbers _ (c .before .before .before .before .before .args .answer .now) _ e)
+    (tells-nothing isFound _ (c .before .before .before .before .before .args .found .now) _ e, gave-nothing circleNumbers _ (c .before .before .before .before .before .args .answer .now) _ e)
 
 pub rt-fit-circle-to-points-3d-spec : {M : Type 1} → statement M
 rt-fit-circle-to-points-3d-spec =

@@ -1,4 +1,4 @@
--- `trial::trial::is_arc_within` meets its contract: as for `arc_deviation`, with the first spoke's length for a radius; and a greatest deviation that is not below the tolerance stays so, so the walk may end there. Assumes nothing.
+-- `trial::trial::is_arc_within` meets its contract: as for `arc_deviation`, with the length of the spoke that is handed in for a radius; and a greatest deviation that is not below the tolerance stays so, so the walk may end there. Assumes nothing.
 use mathlib.Core.Path.{_≡_, refl, ap, _∙_}
 use Prim.Native.Nat.{_+_, _-_, _≤_}
 use native.Mathlib.Omega.{arith}
@@ -25,12 +25,11 @@ abbrev μ-loop : tie.MeasureT-loop
 point-at-requires : tie.Need-point-at-requires Inv-loop μ-loop
 point-at-requires c κs = omega arith
 
-new-requires : tie.Need-new-requires Inv-loop μ-loop
-new-requires c κs = search needs
-
 loop-holds : tie.Need-loop-holds Inv-loop μ-loop
 unfolding arcDeviation worstOf
-loop-holds c = let a = c .before .before .before .before .before .args in (omega arith, omega arith, c .before .before .before .point-at .ensures, c .before .before .new .ensures ∙ ap (spokeOf _) (c .before .before .before .point-at .ensures), ap (λ (r : Float). arcDeviation (a .m) r (pointAt (a .points .now)) (a .start) (a .end)) (spoke-length (a .m) _ _ _ (c .before .before .before .point-at .ensures) (c .before .before .new .ensures)))
+loop-holds c = let e = c .before .before .before .before in
+    let a = e .args in
+    (omega arith, omega arith, c .before .before .point-at .ensures, e .pre .0, ap (λ (r : Float). arcDeviation (a .m) r (pointAt (a .points .now)) (a .start) (a .end)) (spoke-length (a .m) _ (a .first) (e .pre .0)))
 
 add-point-at : tie.Need-add-point-at Inv-loop μ-loop
 add-point-at c = omega arith
@@ -38,39 +37,41 @@ add-point-at c = omega arith
 point-at-requires-2 : tie.Need-point-at-requires-2 Inv-loop μ-loop
 point-at-requires-2 c κs = omega arith
 
-new-requires-2 : tie.Need-new-requires-2 Inv-loop μ-loop
-new-requires-2 c κs = search needs
+new-requires : tie.Need-new-requires Inv-loop μ-loop
+new-requires c κs = search needs
 
 deviation-of-step-requires : tie.Need-deviation-of-step-requires Inv-loop μ-loop
-deviation-of-step-requires c κs = spoke-root _ _ _ (c .before .before .before .before .before .before .new .ensures)
+deviation-of-step-requires c κs = spoke-root _ _ _ (c .before .before .before .before .before .before .before .before .pre .0)
 
 or-requires : tie.Need-or-requires Inv-loop μ-loop
 or-requires c κs = search needs
 
 returns : tie.Need-returns Inv-loop μ-loop
-returns c = let a = c .before .before .before .before .before .before .before .before .before .before .before .before .before .args in
+returns c = let a = c .before .before .before .before .before .before .before .before .before .before .before .before .args in
     let l = c .before .before .before .before .before .before .before .loop in
     let v = l .inv in
-    let d = step-is (a .m) (c .before .before .before .before .before .before .before .before .before .before .new .result .len) _ _ _ _ _ _ _ _ (v .2) (c .before .before .before .before .before .point-at2 .ensures) (v .3) (c .before .before .before .before .new2 .ensures) refl (c .before .before .before .deviation-of-step .ensures) in
+    let d = step-is (a .m) (a .first .len) _ _ _ _ _ _ _ _ (v .2) (c .before .before .before .before .before .point-at2 .ensures) (v .3) (c .before .before .before .before .new .ensures) refl (c .before .before .before .deviation-of-step .ensures) in
     let n = ap (λ (x : Float). worse x (l .i) (l .worst)) d in
-    too-far _ _ _ _ _ _ (not-true (lt (c .before .before .or .result .dist) (a .tolerance)) (c .if1 .taken)) (fold-turn _ (a .end) _ _ _ _ (c .before .before .before .before .before .before .loop-test .taken) (c .before .before .or .ensures ∙ n) (v .4))
+    let f = fold-turn _ (a .end) _ _ _ _ (c .before .before .before .before .before .before .loop-test .taken) (c .before .before .or .ensures ∙ n) (v .4) in
+    too-far _ _ _ _ _ _ (not-true (lt (c .before .before .or .result .dist) (a .tolerance)) (c .if1 .taken)) f
 
 add-i : tie.Need-add-i Inv-loop μ-loop
-add-i c = omega (arith, c .before .before .before .before .before .before .loop-test .taken, c .before .before .before .before .before .before .before .before .before .before .before .before .before .fits)
+add-i c = omega (arith, c .before .before .before .before .before .before .loop-test .taken, c .before .before .before .before .before .before .before .before .before .before .before .before .fits)
 
 loop-less : tie.Need-loop-less Inv-loop μ-loop
 loop-less c = omega arith
 
 loop-again : tie.Need-loop-again Inv-loop μ-loop
-loop-again c = let a = c .before .before .before .before .before .before .before .before .before .before .before .before .before .args in
+loop-again c = let a = c .before .before .before .before .before .before .before .before .before .before .before .before .args in
     let l = c .before .before .before .before .before .before .before .loop in
     let v = l .inv in
-    let d = step-is (a .m) (c .before .before .before .before .before .before .before .before .before .before .new .result .len) _ _ _ _ _ _ _ _ (v .2) (c .before .before .before .before .before .point-at2 .ensures) (v .3) (c .before .before .before .before .new2 .ensures) refl (c .before .before .before .deviation-of-step .ensures) in
+    let d = step-is (a .m) (a .first .len) _ _ _ _ _ _ _ _ (v .2) (c .before .before .before .before .before .point-at2 .ensures) (v .3) (c .before .before .before .before .new .ensures) refl (c .before .before .before .deviation-of-step .ensures) in
     let n = ap (λ (x : Float). worse x (l .i) (l .worst)) d in
-    (omega arith, omega arith, c .before .before .before .before .before .point-at2 .ensures, c .before .before .before .before .new2 .ensures ∙ ap (spokeOf _) (c .before .before .before .before .before .point-at2 .ensures), fold-turn _ (a .end) _ _ _ _ (c .before .before .before .before .before .before .loop-test .taken) (c .before .before .or .ensures ∙ n) (v .4))
+    let f = fold-turn _ (a .end) _ _ _ _ (c .before .before .before .before .before .before .loop-test .taken) (c .before .before .or .ensures ∙ n) (v .4) in
+    (omega arith, omega arith, c .before .before .before .before .before .point-at2 .ensures, c .before .before .before .before .new .ensures ∙ ap (spokeOf _) (c .before .before .before .before .before .point-at2 .ensures), f)
 
 returns-2 : tie.Need-returns-2 Inv-loop μ-loop
-returns-2 c = let a = c .before .before .before .before .before .before .before .before .args in
+returns-2 c = let a = c .before .before .before .before .before .before .before .args in
     ap (λ (w : Deviation). lt (w .dist) (a .tolerance)) (fold-done _ (a .end) _ _ _ (c .before .loop-test .left) (c .before .before .loop .inv .4))
 
 pub is-arc-within-spec : {M : Type 1} → statement M
@@ -80,11 +81,10 @@ is-arc-within-spec =
     Inv-loop
     μ-loop
     point-at-requires
-    new-requires
     loop-holds
     add-point-at
     point-at-requires-2
-    new-requires-2
+    new-requires
     deviation-of-step-requires
     or-requires
     returns

@@ -1,7 +1,7 @@
 -- `trial::trial::passes` meets its contract: by the tests on W. Assumes nothing.
-use borrow.Author.Tests.{eq-eqb, ne-eqb}
-use Rattle.trial.specs.Traversal.{passesBy}
 use borrow.Author.Needs.{needs}
+use Rattle.trial.specs.Traversal.{passesBy}
+use Rattle.trial.proofs.Whole.{is-zero, is-minus-one, is-neither}
 use Rattle.trial.proofs.trial.passes.Statement.{statement}
 use Rattle.trial.proofs.trial.passes.Tie as tie
 
@@ -16,21 +16,19 @@ just-behind-requires c κs = search needs
 
 returns : tie.Need-returns
 unfolding passesBy
-returns c = rw (eq-eqb _ _ (c .before .if1 .taken), c .just-behind .ensures, c .before .before .before .before .cross .ensures, c .before .before .before .dot .ensures)
-
-add-if2 : tie.Need-add-if2
-add-if2 c = search needs
+returns c = let e = c .before .before .before .before in
+    rw (is-zero (e .args .w) (e .fits .w) (c .before .if1 .taken), c .just-behind .ensures, c .before .before .before .cross .ensures, c .before .before .dot .ensures)
 
 just-ahead-requires : tie.Need-just-ahead-requires
 just-ahead-requires c κs = search needs
 
 returns-2 : tie.Need-returns-2
 unfolding passesBy
-returns-2 c = rw (ne-eqb _ _ (c .before .before .before .before .if1 .left), eq-eqb _ _ (c .before .if2 .taken), c .just-ahead .ensures, c .before .before .before .before .before .before .before .cross .ensures, c .before .before .before .before .before .before .dot .ensures)
+returns-2 c = let e = c .before .before .before .before .before in
+    rw (is-minus-one (e .args .w) (e .fits .w) (c .before .if2 .taken), c .just-ahead .ensures, c .before .before .before .before .cross .ensures, c .before .before .before .dot .ensures)
 
 returns-3 : tie.Need-returns-3
-unfolding passesBy
-returns-3 c = rw (ne-eqb _ _ (c .before .before .before .if1 .left), ne-eqb _ _ (c .if2 .left))
+returns-3 c = let e = c .before .before .before .before in is-neither (e .args .w) _ _ (c .before .if1 .left) (c .if2 .left)
 
 pub passes-spec : {M : Type 1} → statement M
 passes-spec =
@@ -40,7 +38,6 @@ passes-spec =
     dot-requires
     just-behind-requires
     returns
-    add-if2
     just-ahead-requires
     returns-2
     returns-3)

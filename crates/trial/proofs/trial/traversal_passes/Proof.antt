@@ -1,19 +1,21 @@
--- `trial::trial::traversal_passes` meets its contract: the loop's invariant is a record of where the walk stands: the offset, the half and the count so far, and no point at the centre. The measure is how many steps are left. Assumes nothing.
+-- `trial::trial::traversal_passes` meets its contract: the loop's invariant is a record of where the walk stands: the offset, the half and the count W so far, and no point at the centre. The measure is how many steps are left. Assumes nothing.
 use mathlib.Core.Path.{_≡_, ap, _∙_}
 use Prim.Native.Nat.{_-_}
 use native.Mathlib.Omega.{arith}
+use mir.Syntax.{w64}
+use mir.Val.{toZ}
 use borrow.Author.Needs.{needs}
 use Rattle.geo.specs.Lent.{pointAt}
 use Rattle.trial.specs.Traversal.{offsetOf}
-use Rattle.trial.proofs.Going.{Going, go-start, go-turn, go-first, go-stop, go-done}
+use Rattle.trial.proofs.Going.{Going, go-start, go-turn, go-kept, go-first, go-stop, go-done}
 use Rattle.trial.proofs.trial.traversal_passes.Statement.{statement}
 use Rattle.trial.proofs.trial.traversal_passes.Tie as tie
 
 abbrev Inv-loop : tie.InvT-loop
-Inv-loop points start end m q0 q₀ h₀ t₀ i₀ q h t i = (q0 ≡ offsetOf m (pointAt points start)) × Going (λ j. offsetOf m (pointAt points j)) start end q h t i
+Inv-loop points start end m q0 q₀ h₀ w₀ i₀ q h w i = (q0 ≡ offsetOf m (pointAt points start)) × Going (λ j. offsetOf m (pointAt points j)) start end q h (toZ w64 w) i
 
 abbrev μ-loop : tie.MeasureT-loop
-μ-loop points start end m q0 q₀ h₀ t₀ i₀ q h t i = end - i
+μ-loop points start end m q0 q₀ h₀ w₀ i₀ q h w i = end - i
 
 point-at-requires : tie.Need-point-at-requires Inv-loop μ-loop
 point-at-requires c κs = omega arith
@@ -57,7 +59,7 @@ cross-requires : tie.Need-cross-requires Inv-loop μ-loop
 cross-requires c κs = search needs
 
 turn-by-requires : tie.Need-turn-by-requires Inv-loop μ-loop
-turn-by-requires c κs = let g = c .before .before .before .before .before .before .before .loop .inv .1 in omega (arith, g .ups, g .downs)
+turn-by-requires c κs = let g = c .before .before .before .before .before .before .before .loop .inv .1 in omega (arith, g .small, g .to)
 
 add-i : tie.Need-add-i Inv-loop μ-loop
 add-i c = omega arith
@@ -69,10 +71,11 @@ loop-again : tie.Need-loop-again Inv-loop μ-loop
 loop-again c = let a = c .before .before .before .before .before .before .before .before .before .before .before .before .before .before .before .args in
     let v = c .before .before .before .before .before .before .before .before .loop .inv in
     let n = c .before .before .before .before .before .offset2 .ensures ∙ ap (offsetOf _) (c .before .before .before .before .before .before .point-at2 .ensures) in
-    (v .0, go-turn (λ j. offsetOf (a .m) (pointAt (a .points .now) j)) (a .start) (a .end) _ _ _ _ _ _ _ _ _ _ (v .1) (c .before .before .before .before .before .before .before .loop-test .taken) (v .0) n (c .before .before .half2 .ensures) (c .before .cross .ensures) (c .turn-by .ensures) (c .before .before .before .before .at-centre2 .ensures) (c .before .before .before .if2 .left))
+    let g = go-turn (λ j. offsetOf (a .m) (pointAt (a .points .now) j)) (a .start) (a .end) _ _ _ _ _ _ _ _ _ _ (v .1) (c .before .before .before .before .before .before .before .loop-test .taken) (v .0) n (c .before .before .half2 .ensures) (c .before .cross .ensures) (c .turn-by .ensures) (c .before .before .before .before .at-centre2 .ensures) (c .before .before .before .if2 .left) in
+    (v .0, go-kept (λ j. offsetOf (a .m) (pointAt (a .points .now) j)) (a .start) (a .end) _ _ _ _ (omega arith) g)
 
 passes-requires : tie.Need-passes-requires Inv-loop μ-loop
-passes-requires c κs = let g = c .before .loop .inv .1 in omega (arith, g .ups, g .to)
+passes-requires c κs = search needs
 
 returns-3 : tie.Need-returns-3 Inv-loop μ-loop
 returns-3 c = let a = c .before .before .before .before .before .before .before .before .before .args in go-done (a .m) (pointAt (a .points .now)) (a .start) (a .end) _ _ _ _ _ _ (c .before .before .loop .inv .1) (c .before .loop-test .left) (c .before .before .loop .inv .0) (c .passes .ensures)

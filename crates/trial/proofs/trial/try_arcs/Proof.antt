@@ -1,6 +1,6 @@
 -- `trial::trial::try_arcs` meets its contract: by the tests, in the order of the definition. Assumes nothing.
 use borrow.Author.Tests.{eq-eqb, ne-eqb}
-use Rattle.trial.specs.Trial.{tryArcs, orElse}
+use Rattle.trial.specs.Trial.{tryArcs}
 use borrow.Author.Needs.{needs}
 use Rattle.trial.proofs.trial.try_arcs.Statement.{statement}
 use Rattle.trial.proofs.trial.try_arcs.Tie as tie
@@ -9,7 +9,7 @@ is-sharp-requires : tie.Need-is-sharp-requires
 is-sharp-requires c κs = search needs
 
 returns : tie.Need-returns
-unfolding tryArcs orElse
+unfolding tryArcs
 returns c = rw (← c .before .is-sharp .ensures, c .if1 .taken)
 
 point-at-requires : tie.Need-point-at-requires
@@ -22,38 +22,25 @@ is-closed-range-requires : tie.Need-is-closed-range-requires
 is-closed-range-requires c κs = search needs
 
 returns-2 : tie.Need-returns-2
-unfolding tryArcs orElse
+unfolding tryArcs
 returns-2 c = rw (← c .before .before .before .before .before .is-sharp .ensures, c .before .before .before .before .if1 .left, ← c .before .before .before .point-at .ensures, ← c .before .before .point-at2 .ensures, ← c .before .is-closed-range .ensures, c .if2 .taken)
 
 sub-if3 : tie.Need-sub-if3
 sub-if3 c = search needs
 
-trial-of-three-requires : tie.Need-trial-of-three-requires
-trial-of-three-requires c κs = search needs
-
-enum-known-t : tie.Need-enum-known-t
-enum-known-t c = search needs
+of-either-requires : tie.Need-of-either-requires
+of-either-requires c κs = search needs
 
 returns-3 : tie.Need-returns-3
-unfolding tryArcs orElse
-returns-3 c = rw (← c .before .before .before .before .before .before .before .before .before .before .is-sharp .ensures, c .before .before .before .before .before .before .before .before .before .if1 .left, ← c .before .before .before .before .before .before .before .before .point-at .ensures, ← c .before .before .before .before .before .before .before .point-at2 .ensures, ← c .before .before .before .before .before .before .is-closed-range .ensures, c .before .before .before .before .before .if2 .left, eq-eqb _ _ (c .before .before .before .before .if3 .taken), ← c .before .before .before .trial-of-three .ensures, c .before .t .given .1)
+unfolding tryArcs
+returns-3 c = rw (← c .before .before .before .before .before .before .before .is-sharp .ensures, c .before .before .before .before .before .before .if1 .left, ← c .before .before .before .before .before .point-at .ensures, ← c .before .before .before .before .point-at2 .ensures, ← c .before .before .before .is-closed-range .ensures, c .before .before .if2 .left, eq-eqb _ _ (c .before .if3 .taken)) (c .of-either .ensures)
 
-enum-told : tie.Need-enum-told
-enum-told c = search needs
-
-trial-of-least-squares-requires : tie.Need-trial-of-least-squares-requires
-trial-of-least-squares-requires c κs = search needs
+of-least-squares-requires : tie.Need-of-least-squares-requires
+of-least-squares-requires c κs = search needs
 
 returns-4 : tie.Need-returns-4
-unfolding tryArcs orElse
-returns-4 c = rw (← c .before .before .before .before .before .before .before .before .before .before .is-sharp .ensures, c .before .before .before .before .before .before .before .before .before .if1 .left, ← c .before .before .before .before .before .before .before .before .point-at .ensures, ← c .before .before .before .before .before .before .before .point-at2 .ensures, ← c .before .before .before .before .before .before .is-closed-range .ensures, c .before .before .before .before .before .if2 .left, eq-eqb _ _ (c .before .before .before .before .if3 .taken), ← c .before .before .before .trial-of-three .ensures, c .before .enum-told .given .1) (c .trial-of-least-squares .ensures)
-
-trial-of-least-squares-requires-2 : tie.Need-trial-of-least-squares-requires-2
-trial-of-least-squares-requires-2 c κs = search needs
-
-returns-5 : tie.Need-returns-5
-unfolding tryArcs orElse
-returns-5 c = rw (← c .before .before .before .before .before .before .before .is-sharp .ensures, c .before .before .before .before .before .before .if1 .left, ← c .before .before .before .before .before .point-at .ensures, ← c .before .before .before .before .point-at2 .ensures, ← c .before .before .before .is-closed-range .ensures, c .before .before .if2 .left, ne-eqb _ _ (c .before .if3 .left)) (c .trial-of-least-squares2 .ensures)
+unfolding tryArcs
+returns-4 c = rw (← c .before .before .before .before .before .before .before .is-sharp .ensures, c .before .before .before .before .before .before .if1 .left, ← c .before .before .before .before .before .point-at .ensures, ← c .before .before .before .before .point-at2 .ensures, ← c .before .before .before .is-closed-range .ensures, c .before .before .if2 .left, ne-eqb _ _ (c .before .if3 .left)) (c .of-least-squares .ensures)
 
 pub try-arcs-spec : {M : Type 1} → statement M
 try-arcs-spec =
@@ -66,11 +53,7 @@ try-arcs-spec =
     is-closed-range-requires
     returns-2
     sub-if3
-    trial-of-three-requires
-    enum-known-t
+    of-either-requires
     returns-3
-    enum-told
-    trial-of-least-squares-requires
-    returns-4
-    trial-of-least-squares-requires-2
-    returns-5)
+    of-least-squares-requires
+    returns-4)

@@ -1,8 +1,8 @@
--- `circle::circle::center_through` meets its contract: by the tests on the area and on the turn. Assumes nothing.
+-- `circle::circle::CenterThrough::of` meets its contract: by the tests on the area and on the turn. Assumes nothing.
 use Rattle.circle.specs.Three.{centerThree, centerBy}
 use borrow.Author.Needs.{needs}
-use Rattle.circle.proofs.circle.center_through.Statement.{statement}
-use Rattle.circle.proofs.circle.center_through.Tie as tie
+use Rattle.circle.proofs.circle.CenterThrough.of.Statement.{statement}
+use Rattle.circle.proofs.circle.CenterThrough.of.Tie as tie
 
 area-requires : tie.Need-area-requires
 area-requires c κs = search needs
@@ -31,8 +31,8 @@ returns-3 : tie.Need-returns-3
 unfolding centerThree centerBy
 returns-3 c = rw (← c .before .before .before .before .before .before .area .ensures, ← c .before .before .before .before .before .abs .ensures, c .before .before .before .before .if1 .left, ← c .before .before .before .turn .ensures, ← c .before .before .abs2 .ensures, c .before .if2 .left, c .center-of .ensures)
 
-pub center-through-spec : {M : Type 1} → statement M
-center-through-spec =
+pub of-spec : {M : Type 1} → statement M
+of-spec =
     tie.close
     (tie.spec
     area-requires

@@ -1,9 +1,9 @@
--- `circle::circle::rows` meets its contract: the definition reads the same places. Assumes nothing.
+-- `circle::circle::Axes::rows` meets its contract: the definition reads the same places. Assumes nothing.
 use mathlib.Core.Path.{refl}
 use Rattle.circle.specs.Kasa.{axesOf}
 use borrow.Author.Needs.{needs}
-use Rattle.circle.proofs.circle.rows.Statement.{statement}
-use Rattle.circle.proofs.circle.rows.Tie as tie
+use Rattle.circle.proofs.circle.Axes.rows.Statement.{statement}
+use Rattle.circle.proofs.circle.Axes.rows.Tie as tie
 
 index-1-t7 : tie.Need-index-1-t7
 index-1-t7 c = search needs

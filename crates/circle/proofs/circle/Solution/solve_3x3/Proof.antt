@@ -1,8 +1,8 @@
--- `circle::circle::solve_3x3` meets its contract: by the test on the determinant. Assumes nothing.
+-- `circle::circle::Solution::solve_3x3` meets its contract: by the test on the determinant. Assumes nothing.
 use Rattle.circle.specs.Kasa.{solved, inverseTimes}
 use borrow.Author.Needs.{needs}
-use Rattle.circle.proofs.circle.solve_3x3.Statement.{statement}
-use Rattle.circle.proofs.circle.solve_3x3.Tie as tie
+use Rattle.circle.proofs.circle.Solution.solve_3x3.Statement.{statement}
+use Rattle.circle.proofs.circle.Solution.solve_3x3.Tie as tie
 
 determinant-requires : tie.Need-determinant-requires
 determinant-requires c κs = search needs

@@ -1,4 +1,4 @@
--- `circle::circle::sum_up` meets its contract: the loop's invariant is that the points left decide the whole sums. The measure is how many are left. Assumes nothing.
+-- `circle::circle::Sums::of` meets its contract: the loop's invariant is that the points left decide the whole sums. The measure is how many are left. Assumes nothing.
 use mathlib.Core.Path.{_≡_, _∙_}
 use Prim.Native.Nat.{_+_, _-_}
 use native.Mathlib.Omega.{arith}
@@ -7,8 +7,8 @@ use Rattle.geo.specs.Lent.{pointAt}
 use Rattle.geo.specs.Walk.{fold}
 use Rattle.geo.proofs.Walk.{fold-turn, fold-done}
 use Rattle.circle.specs.Kasa.{plus, sumsOf}
-use Rattle.circle.proofs.circle.sum_up.Statement.{statement}
-use Rattle.circle.proofs.circle.sum_up.Tie as tie
+use Rattle.circle.proofs.circle.Sums.of.Statement.{statement}
+use Rattle.circle.proofs.circle.Sums.of.Tie as tie
 
 abbrev Inv-loop : tie.InvT-loop
 Inv-loop points start end s₀ i₀ i-end s i = fold (λ k. plus (pointAt points k)) (end + 1 - i) i s ≡ sumsOf (pointAt points) start end
@@ -46,8 +46,8 @@ returns : tie.Need-returns Inv-loop μ-loop
 returns c = let a = c .before .before .before .before .args in
     fold-done _ (a .end + 1) _ _ _ (c .loop-test .left) (c .before .loop .inv)
 
-pub sum-up-spec : {M : Type 1} → statement M
-sum-up-spec =
+pub of-spec : {M : Type 1} → statement M
+of-spec =
     tie.close
     (tie.spec
     Inv-loop
