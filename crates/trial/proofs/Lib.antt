@@ -2,3 +2,4 @@
 pub mod Squares
 pub mod Steps
 pub mod Going
+pub mod Tried
