@@ -22,6 +22,7 @@ use Rattle.simplify.specs.Flags.{Copied}
 use Rattle.fitting.specs.Pieces.{piecesBy}
 use Rattle.fitting.specs.Commands.{fitIn, keptOf}
 use Rattle.fitting.specs.Written.{FitPlaced}
+use Rattle.fitting.proofs.Own.{point-later}
 use Rattle.fitting.proofs.Fitted.{fit-length}
 use Rattle.fitting.proofs.Chain.{kept-few, kept-front, kept-wide}
 use Rattle.course.specs.declared.course.Flush.{Flush}
@@ -90,13 +91,6 @@ list-same : {A : Type 0} (f g : ℕ → A) → ((j : ℕ) → f j ≡ g j) → (
 unfolding listFrom
 list-same f g e zero i = refl
 list-same f g e (suc n) i = ap (λ (x : _). x ∷ listFrom f n (i + 1)) (e i) ∙ ap (λ (l : List _). g i ∷ l) (list-same f g e n (i + 1))
-
-point-later : (p : Point3D) (ps : List Point3D) (j : ℕ) → pointAt (flat triple (p ∷ ps)) (j + 1) ≡ pointAt (flat triple ps) j
-unfolding pointAt flat
-point-later p ps j =
-    let x : 3 * (j + 1) ≡ suc (suc (suc (3 * j))) = omega arith in
-    let y : 3 * (j + 1) + 1 ≡ suc (suc (suc (3 * j + 1))) = omega arith in
-    let z : 3 * (j + 1) + 2 ≡ suc (suc (suc (3 * j + 2))) = omega arith in rw (y, z, x)
 
 points-after : (p : Point3D) (ps : List Point3D) → listFrom (pointAt (flat triple ps)) (length ps) 0 ≡ ps → listFrom (pointAt (flat triple (p ∷ ps))) (length ps) 1 ≡ ps
 points-after p ps r =

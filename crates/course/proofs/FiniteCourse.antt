@@ -16,7 +16,7 @@ use Rattle.geo.specs.Lent.{pointAt, triple, flat, origin, endOf, numbersOf, com
 use Rattle.geo.proofs.Every.{every-at}
 use Rattle.geo.specs.Domain.{coordinate, isFinite, numbersIn, point3In, finite3, commandIn, commandsIn}
 use Rattle.geo.specs.Walk.{listFrom}
-use Rattle.geo.specs.Outcome.{refusal, gives, unless}
+use Rattle.geo.specs.Outcome.{refusal, gives}
 use Rattle.geo.proofs.Rows.{row-passed}
 use Rattle.geo.proofs.Walk.{list-length}
 use Rattle.geo.proofs.Flat.{flat-length}
@@ -26,6 +26,7 @@ use Rattle.simplify.specs.Simplify.{commandRows}
 use Rattle.circle.specs.Calls.{pointsRows}
 use Rattle.fitting.specs.Commands.{fitIn, keptOf, chainFit}
 use Rattle.fitting.specs.Calls.{fitRows, fitCall, primitivesCall}
+use Rattle.fitting.proofs.Own.{unless-given}
 use Rattle.fitting.proofs.Accepted.{fit-accepted}
 use Rattle.course.specs.Parts.{Join, adds, ends, closed, carried, partsFrom, partFit, partMost, mostOf, fitOf}
 use Rattle.floats.specs.Limits.{quarter}
@@ -143,17 +144,11 @@ lent-in : (ks : List ℕ) (ns : List Float) → commandsIn ks ns ≡ true → Co
 unfolding commandsIn
 lent-in ks ns h = commands-in ks ns (length ks) 0 (λ j a b. every-at (λ i. commandIn (commandAt ks ns i)) (length ks) 0 h j a b)
 
--- a call that gives xs was not refused, and xs is what it worked out
-given : {A : Type 0} (n : ℕ) (a x : A) → unless n a ≡ gives x → (0 ≡ n) × (a ≡ x)
-unfolding unless
-given zero a x e = (refl, cc)
-given (suc n) a x e = absurd (let z : _≡_ {A = ℕ} 0 1 = cc in omega arith)
-
 -- Every number that `fit_points_recursive` gives is finite.
 pub fit-points-finite : (s : List Float) (tol : Float) (lo hi kinds numbers : ℕ) (xs : List Command) → fitCall s tol lo hi kinds numbers ≡ gives xs → FiniteNumbers xs
 unfolding fitCall fitRows pointsRows
 fit-points-finite s tol lo hi kinds numbers xs e =
-    let g = given (refusal (fitRows s tol lo hi kinds numbers)) (fitIn lineSq tol (pointAt s) lo hi) xs e in
+    let g = unless-given (refusal (fitRows s tol lo hi kinds numbers)) (fitIn lineSq tol (pointAt s) lo hi) xs e in
     let acc = fit-accepted s tol lo hi kinds numbers 0 (g .0) refl in
     let a = row-passed 0 _ _ (g .0) in
     let b = row-passed 0 _ _ (a .1) in
@@ -169,7 +164,7 @@ primitives-finite s tol kinds numbers xs e = fit-points-finite s tol 0 (length s
 pub arcs-finite : (ks : List ℕ) (ns : List Float) (tol : Float) (kinds numbers : ℕ) (xs : List Command) → arcsCall ks ns tol kinds numbers ≡ gives xs → FiniteNumbers xs
 unfolding arcsCall arcsRows inputRows
 arcs-finite ks ns tol kinds numbers xs e =
-    let g = given (refusal (arcsRows ks ns tol kinds numbers)) (courseFit tol (lentCourse ks ns)) xs e in
+    let g = unless-given (refusal (arcsRows ks ns tol kinds numbers)) (courseFit tol (lentCourse ks ns)) xs e in
     let acc = arcs-accepted ks ns tol kinds numbers 0 (g .0) refl in
     let a = row-passed 0 _ _ (g .0) in
     let b = row-passed 0 _ _ (a .1) in
@@ -219,7 +214,7 @@ pub optimize-finite : (ks : List ℕ) (ns : List Float) (tol : Float) (arcs : Bo
     → optimizeCall ks ns tol arcs kinds numbers ≡ gives xs → FiniteNumbers xs
 unfolding optimizeCall
 optimize-finite ks ns tol arcs kinds numbers xs e =
-    let g = given (refusal (commandRows ks ns tol kinds numbers)) (optimized arcs tol (lentCourse ks ns)) xs e in
+    let g = unless-given (refusal (commandRows ks ns tol kinds numbers)) (optimized arcs tol (lentCourse ks ns)) xs e in
     let a = row-passed 0 _ _ (g .0) in
     let b = row-passed 0 _ _ (a .1) in
     let c = row-passed 1 _ _ (b .1) in

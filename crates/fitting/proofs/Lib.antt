@@ -1,3 +1,4 @@
+pub mod Own
 pub mod Recursion
 pub mod Fitted
 pub mod Pieces

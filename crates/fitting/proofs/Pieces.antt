@@ -1,87 +1,40 @@
 -- The laws of the pieces of a fit, each stated alone, over any measure, for a tolerance above zero. Assumes nothing.
 use Prim.Native.Nat.{ℕ, zero, suc, _+_, _-_, _*_, _≤_, _<_}
-use mathlib.Core.Path.{_≡_, refl, sym, subst}
-use mathlib.Core.Logic.{⊎-elim}
-use mathlib.Core.Bool.{true}
-use mathlib.Core.List.{List, [], _∷_, _++_}
+use mathlib.Core.Path.{_≡_, refl, sym, ap, _∙_, subst}
+use mathlib.Core.Logic.{_⊎_, inl, inr, ⊎-elim}
+use mathlib.Core.Bool.{Bool, true, false}
+use mathlib.Core.List.{List, [], _∷_, _++_, map}
 use native.Mathlib.Omega.{arith}
+use borrow.Author.Tests.{lt-ltb, le-ltb, le-leb, lt-leb}
 use lib.ListN.{length, length-append}
-use lib.Dec.{eqb}
-use lib.Ieee.{Float, lt}
-use Rattle.floats.specs.Ops.{_≺_, +0}
-use Rattle.floats.proofs.Order.{either}
+use lib.Ieee.{Float, lt, neg}
+use Rattle.floats.specs.Ops.{_⊖_, _≺_, if_then_else_, +0, one}
+use Rattle.floats.proofs.Order.{either, lt-or-ge}
 use Rattle.geo.specs.declared.types.Point.{Point}
 use Rattle.geo.specs.declared.types.Point3D.{Point3D}
-use mathlib.Core.Option.{Option, none, some}
-use Rattle.circle.specs.declared.circle.Center as center
-use Rattle.circle.specs.Three.{Circle, radiusFrom, throughThree}
-use Rattle.circle.specs.Kasa.{kasaCenter}
-use Rattle.circle.specs.Bisector.{projected}
+use Rattle.geo.specs.declared.types.Command as command
+use Rattle.circle.specs.Three.{radiusFrom}
 use Rattle.trial.specs.declared.trial.Trial.{Trial}
 use Rattle.trial.specs.declared.trial.Trial.the-variants.{Arc, None}
-use Rattle.trial.specs.Deviation.{arcDeviation}
-use Rattle.trial.specs.Traversal.{traverses}
-use Rattle.trial.specs.Trial.{sharpAt, closedRange, trialRound, trialOf, ofCircle, ofCenter, trialThree, trialLeast, orElse, tryArcs}
+use Rattle.trial.specs.Trial.{threeTried, leastTried, tryArcs}
+use Rattle.trial.specs.Laws.{ArcPasses}
+use Rattle.trial.proofs.Tried.{three-passes, least-passes, first-tried, second-tried}
 use Rattle.simplify.specs.Measure.{Measure}
-use Rattle.fitting.specs.Pieces.{lineDeviation, arc, Piece, Choice, whole, cutAt, arcOrCut, chooseBy, choice, follow, piecesBy, piecesIn, rangesOf, rangesBy, rangesIn}
-use Rattle.fitting.specs.Laws.{Covers, Below, AllBelow, AllFail}
-use Rattle.fitting.proofs.Recursion.{Inside, inside}
-
--- ---- an arc that a trial found is near enough
-abbrev Near : Float → (ℕ → Point3D) → ℕ → ℕ → Trial → Type 0
-Near tol at lo hi (Arc c d) = (arcDeviation c (radiusFrom c (at lo)) at lo hi .dist ≺ tol) ≡ true
-Near tol at lo hi None = Unit
-
-module _ (tol : Float) (at : ℕ → Point3D) (lo hi : ℕ) where
-  near-round : (c : Point) → Near tol at lo hi (trialRound at lo hi tol c)
-  unfolding trialRound
-  near-round c =
-      ⊎-elim
-      (λ h. rw h (⊎-elim (λ g. rw g h) (λ g. rw g tt) (either (traverses c at lo hi))))
-      (λ h. rw h tt) (either (lt (arcDeviation c (radiusFrom c (at lo)) at lo hi .dist) tol))
-
-  near-circle : (c : Option Circle) → Near tol at lo hi (ofCircle at lo hi tol c)
-  unfolding ofCircle trialOf
-  near-circle (some c) = near-round (projected (at lo) (at hi) (c .center))
-  near-circle none = tt
-
-  near-center : (c : center.Center) → Near tol at lo hi (ofCenter at lo hi tol c)
-  unfolding ofCenter trialOf
-  near-center (center.the-variants.At c q) = near-round (projected (at lo) (at hi) c)
-  near-center center.the-variants.None = tt
-
-  near-least : Near tol at lo hi (trialLeast at lo hi tol)
-  unfolding trialLeast
-  near-least = near-center (kasaCenter at lo hi)
-
-  near-or : (t u : Trial) → Near tol at lo hi t → Near tol at lo hi u → Near tol at lo hi (orElse t u)
-  unfolding orElse
-  near-or (Arc c d) u p q = p
-  near-or None u p q = q
-
-  near-three : Near tol at lo hi (trialThree at lo hi tol)
-  unfolding trialThree
-  near-three = near-circle (throughThree (at lo) (at (lo + 1)) (at hi))
-
-  near-tried : (k : ℕ) → Near tol at lo hi (tryArcs at lo hi k tol)
-  unfolding tryArcs
-  near-tried k =
-      ⊎-elim (λ h. rw h tt)
-      (λ h. rw h
-      (⊎-elim (λ g. rw g tt)
-      (λ g. rw g
-      (⊎-elim (λ e. rw e (near-or (trialThree at lo hi tol) (trialLeast at lo hi tol) near-three near-least)) (λ e. rw e near-least) (either (eqb (hi - lo) 2))))
-      (either (closedRange (at lo) (at hi)))))
-      (either (sharpAt at lo hi k))
+use Rattle.fitting.specs.Pieces.{lineDeviation, Shape, line, arc, Piece, Choice, whole, cutAt, arcOrCut, chooseBy, choice, follow, piecesBy, piecesIn, rangesOf, rangesBy, rangesIn}
+use Rattle.fitting.specs.Commands.{normalOf, shaped, pieceCommand, fitIn}
+use Rattle.fitting.specs.Laws.{Covers, holding, LinePasses, LineFails, NewArc, WrittenAs, as-line, as-first, as-second, AllWritten, AllFail, CutThere, Uncut, RangeFitted}
+use Rattle.fitting.proofs.Own.{line-answered, arc-answered, direction-answered}
+use Rattle.fitting.proofs.Recursion.{Inside, inside, farthest-inside, pieces-follow}
 
 -- ---- lists of pieces, one behind the other
 covers-append : (lo k hi : ℕ) (ps qs : List Piece) → Covers lo ps k → Covers k qs hi → Covers lo (ps ++ qs) hi
 covers-append lo k hi [] qs p q = subst (λ (i : ℕ). Covers i qs hi) (sym p) q
 covers-append lo k hi (x ∷ ps) qs p q = (p .0, p .1, covers-append (x .to) k hi ps qs (p .2) q)
 
-below-append : (m : Measure Point3D) (tol : Float) (at : ℕ → Point3D) (ps qs : List Piece) → AllBelow m tol at ps → AllBelow m tol at qs → AllBelow m tol at (ps ++ qs)
-below-append m tol at [] qs p q = q
-below-append m tol at (x ∷ ps) qs p q = (p .0, below-append m tol at ps qs (p .1) q)
+written-append : (m : Measure Point3D) (tol : Float) (at : ℕ → Point3D) (f : Piece → command.Command) (ps qs : List Piece)
+    → AllWritten m tol at ps (map f ps) → AllWritten m tol at qs (map f qs) → AllWritten m tol at (ps ++ qs) (map f (ps ++ qs))
+written-append m tol at f [] qs p q = q
+written-append m tol at f (x ∷ ps) qs p q = (p .0, written-append m tol at f ps qs (p .1) q)
 
 module _ (m : Measure Point3D) (tol : Float) (pos : (+0 ≺ tol) ≡ true) (at : ℕ → Point3D) where
   covers-choice : (f : ℕ → ℕ → List Piece) (lo hi : ℕ) (c : Choice) → lo < hi → Inside m tol pos at lo hi c
@@ -100,38 +53,137 @@ module _ (m : Measure Point3D) (tol : Float) (pos : (+0 ≺ tol) ≡ true) (at :
   pub pieces-cover : (lo hi : ℕ) → lo < hi → Covers lo (piecesIn m tol at lo hi) hi
   pieces-cover lo hi h = covers-by (hi - lo) lo hi h (omega arith)
 
-  -- ---- deviations
-  abbrev Fine : ℕ → ℕ → Choice → Type 0
-  Fine lo hi (whole s) = Below m tol at lo hi s
-  Fine lo hi (cutAt k) = Unit
+-- ---- a step lies in exactly one of the pieces that follow one another
+none-before : (i lo hi : ℕ) (ps : List Piece) → Covers lo ps hi → i < lo → holding i ps ≡ 0
+unfolding holding
+none-before i lo hi [] v h = refl
+none-before i lo hi (p ∷ ps) v h =
+    let a = v .0 in
+    let b = v .1 in
+    let r = none-before i (p .to) hi ps (v .2) (omega arith) in rw (lt-leb (p .from) i (omega arith), r)
 
-  fine-or : (lo hi k : ℕ) (t : Trial) → Near tol at lo hi t → Fine lo hi (arcOrCut t k)
-  unfolding arcOrCut
-  fine-or lo hi k (Arc c d) p = p
-  fine-or lo hi k None p = tt
+exactly-one : (i lo hi : ℕ) (ps : List Piece) → Covers lo ps hi → lo ≤ i → i < hi → holding i ps ≡ 1
+unfolding holding
+exactly-one i lo hi [] v h g = absurd (let e = v in omega arith)
+exactly-one i lo hi (p ∷ ps) v h g =
+    let a = v .0 in
+    ⊎-elim
+    (λ t. let r = none-before i (p .to) hi ps (v .2) t in rw (le-leb (p .from) i (omega arith), lt-ltb i (p .to) t, r))
+    (λ t. let r = exactly-one i (p .to) hi ps (v .2) t g in rw (le-leb (p .from) i (omega arith), le-ltb i (p .to) t, r)) (lt-or-ge i (p .to))
 
-  fine : (lo hi : ℕ) → Fine lo hi (choice m tol at lo hi)
+-- ---- what a piece is written as
+module _ (m : Measure Point3D) (tol : Float) (at : ℕ → Point3D) (lo hi : ℕ) (some : lo < hi) where
+  line-passes : (lineDeviation m at lo hi .dist ≺ tol) ≡ true → LinePasses m tol at lo hi
+  line-passes h =
+      record {
+        deviation = h;
+        answered = λ e w g. subst (λ (v : Float). (v ≺ tol) ≡ true) (ap (λ (n : Measure Point3D). lineDeviation n at lo hi .dist) e ∙ line-answered at lo hi some w g) h;
+      }
+
+  -- the command of an arc that passes
+  new-arc : (c : Point) (d : Bool) → ArcPasses tol at lo hi c d → NewArc tol at lo hi c d (shaped (at lo) (at hi) (arc c d))
+  new-arc c d p =
+      record {
+        written = turned d;
+        passes = p;
+        answered = λ v e. subst (λ (x : Float). (x ≺ tol) ≡ true) (arc-answered at lo hi some c (radiusFrom c (at lo)) v e) (p .deviation);
+        turning = λ b e. p .direction ∙ direction-answered at lo hi some c b e;
+      }
+    where
+      turned : (b : Bool) → shaped (at lo) (at hi) (arc c b)
+          ≡ command.the-variants.Arc (at hi) (record { x = c .x ⊖ at lo .x; y = c .y ⊖ at lo .y; z = +0 }) (record { x = +0; y = +0; z = if b then neg one else one })
+      turned true = unfold shaped normalOf in refl
+      turned false = unfold shaped normalOf in refl
+
+  -- ---- the choice by the tests
+  chosen-line : (lineDeviation m at lo hi .dist ≺ tol) ≡ true → choice m tol at lo hi ≡ whole line
   unfolding choice chooseBy
-  fine lo hi =
-      let w = lineDeviation m at lo hi in
-      ⊎-elim (λ h. rw h h) (λ h. rw h (fine-or lo hi (w .index) (tryArcs at lo hi (w .index) tol) (near-tried tol at lo hi (w .index))))
-      (either (lt (w .dist) tol))
+  chosen-line h = rw h
 
-  below-choice : (f : ℕ → ℕ → List Piece) (lo hi : ℕ) (c : Choice) → Inside m tol pos at lo hi c → Fine lo hi c
-      → ((a b : ℕ) → a < b → b - a < hi - lo → AllBelow m tol at (f a b)) → AllBelow m tol at (follow f lo hi c)
-  unfolding follow
-  below-choice f lo hi (whole s) v w e = (w, tt)
-  below-choice f lo hi (cutAt k) v w e = below-append m tol at (f lo k) (f k hi) (e lo k (v .0) (omega (arith, v .1))) (e k hi (v .1) (omega (arith, v .0)))
+  chosen-arc : LineFails m tol at lo hi → (c : Point) (d : Bool) → tryArcs at lo hi (lineDeviation m at lo hi .index) tol ≡ Arc c d → choice m tol at lo hi ≡ whole (arc c d)
+  unfolding choice chooseBy arcOrCut
+  chosen-arc h c d e = rw (h, e)
 
-  below-by : (n lo hi : ℕ) → lo < hi → hi - lo ≤ n → AllBelow m tol at (piecesBy m tol at n lo hi)
+  chosen-cut : AllFail m tol at lo hi → choice m tol at lo hi ≡ cutAt (lineDeviation m at lo hi .index)
+  unfolding choice chooseBy arcOrCut
+  chosen-cut f = let k = lineDeviation m at lo hi .index in rw (f .line-fails, second-tried at lo hi k tol (f .three-fails), f .least-fails)
+
+  -- a range is one piece, written as demand 3 says, or all fail
+  record Whole : Type 0 where
+    pub shape : Shape
+    pub chosen : choice m tol at lo hi ≡ whole shape
+    pub written : WrittenAs m tol at lo hi (shaped (at lo) (at hi) shape)
+
+  by-trials : LineFails m tol at lo hi → (t u : Trial) → threeTried at lo hi (lineDeviation m at lo hi .index) tol ≡ t
+      → leastTried at lo hi (lineDeviation m at lo hi .index) tol ≡ u → Whole ⊎ AllFail m tol at lo hi
+  by-trials h (Arc c d) u e f =
+      let k = lineDeviation m at lo hi .index in
+      inl (record { shape = arc c d; chosen = chosen-arc h c d (first-tried at lo hi k tol c d e); written = as-first c d h e (new-arc c d (three-passes tol at lo hi k c d e)) })
+  by-trials h None (Arc c d) e f =
+      let k = lineDeviation m at lo hi .index in
+      inl (record { shape = arc c d; chosen = chosen-arc h c d (second-tried at lo hi k tol e ∙ f); written = as-second c d h e f (new-arc c d (least-passes tol at lo hi k c d f)) })
+  by-trials h None None e f = inr (record { line-fails = h; three-fails = e; least-fails = f })
+
+  whole-or-cut : Whole ⊎ AllFail m tol at lo hi
+  unfolding shaped
+  whole-or-cut =
+      ⊎-elim (λ h. inl (record { shape = line; chosen = chosen-line h; written = as-line (line-passes h) refl })) (λ h. by-trials h _ _ refl refl) (either (lineDeviation m at lo hi .dist ≺ tol))
+
+  -- ---- the cut rule, for a tolerance above zero
+  module _ (pos : (+0 ≺ tol) ≡ true) where
+    -- A range whose Line and both arc trials fail is cut, at its Line's first farthest point.
+    pub cut-where-all-fail : AllFail m tol at lo hi → CutThere m tol at lo (lineDeviation m at lo hi .index) hi
+    unfolding follow
+    cut-where-all-fail f =
+        let i = farthest-inside m tol pos at lo hi (lineDeviation m at lo hi) refl (f .line-fails) in
+        record { behind = i .0; before = i .1; pieces = pieces-follow m tol pos at lo hi some ∙ rw (chosen-cut f) }
+
+    -- It is cut only there: where one of them passes it is one piece.
+    pub uncut-elsewhere : (AllFail m tol at lo hi → ⊥) → Uncut m tol at lo hi
+    unfolding follow
+    uncut-elsewhere n =
+        ⊎-elim
+        (λ w. record { piece = record { from = lo; to = hi; shape = w .shape }; from = refl; to = refl; pieces = pieces-follow m tol pos at lo hi some ∙ rw (w .chosen) })
+        (λ f. absurd (n f)) whole-or-cut
+
+-- ---- the commands of the pieces
+module _ (m : Measure Point3D) (tol : Float) (pos : (+0 ≺ tol) ≡ true) (at : ℕ → Point3D) where
+  abbrev Written : List Piece → Type 0
+  Written ps = AllWritten m tol at ps (map (pieceCommand at) ps)
+
+  written-cut : (f : ℕ → ℕ → List Piece) (lo k hi : ℕ) → lo < k → k < hi → ((a b : ℕ) → a < b → b - a < hi - lo → Written (f a b)) → Written (f lo k ++ f k hi)
+  written-cut f lo k hi g h e = written-append m tol at (pieceCommand at) (f lo k) (f k hi) (e lo k g (omega arith)) (e k hi h (omega arith))
+
+  written-choice : (f : ℕ → ℕ → List Piece) (lo hi : ℕ) → lo < hi
+      → ((a b : ℕ) → a < b → b - a < hi - lo → Written (f a b)) → Written (follow f lo hi (choice m tol at lo hi))
+  unfolding follow pieceCommand
+  written-choice f lo hi h e =
+      ⊎-elim (λ w. rw (w .chosen) (w .written, tt))
+      (λ g. let i = farthest-inside m tol pos at lo hi (lineDeviation m at lo hi) refl (g .line-fails) in
+      rw (chosen-cut m tol at lo hi h g) (written-cut f lo (lineDeviation m at lo hi .index) hi (i .0) (i .1) e))
+      (whole-or-cut m tol at lo hi h)
+
+  written-by : (n lo hi : ℕ) → lo < hi → hi - lo ≤ n → Written (piecesBy m tol at n lo hi)
   unfolding piecesBy
-  below-by zero lo hi h p = absurd (omega arith)
-  below-by (suc n) lo hi h p =
-      below-choice (piecesBy m tol at n) lo hi (choice m tol at lo hi) (inside m tol pos at lo hi) (fine lo hi) (λ a b g r. below-by n a b g (omega arith))
+  written-by zero lo hi h p = absurd (omega arith)
+  written-by (suc n) lo hi h p = written-choice (piecesBy m tol at n) lo hi h (λ a b g r. written-by n a b g (omega arith))
 
-  -- A Line's or a new Arc's computed deviation over its piece is below the tolerance.
-  pub pieces-below : (lo hi : ℕ) → lo < hi → AllBelow m tol at (piecesIn m tol at lo hi)
-  pieces-below lo hi h = below-by (hi - lo) lo hi h (omega arith)
+  -- Each piece of a range is written as demand 3 says: one command for each, in order.
+  pub pieces-written : (lo hi : ℕ) → lo < hi → AllWritten m tol at (piecesIn m tol at lo hi) (fitIn m tol at lo hi)
+  unfolding fitIn
+  pieces-written lo hi h = written-by (hi - lo) lo hi h (omega arith)
+
+  -- So each range, and what it gives, is as demand 3 says.
+  pub range-fitted : (lo hi : ℕ) → lo < hi → RangeFitted m tol at lo hi (fitIn m tol at lo hi)
+  range-fitted lo hi h =
+      let v = pieces-cover m tol pos at lo hi h in
+      record {
+        commands = pieces-written lo hi h;
+        steps = λ i a b. exactly-one i lo hi (piecesIn m tol at lo hi) v a b;
+        order = v;
+        cut = λ a b g f. cut-where-all-fail m tol at a b g pos f;
+        uncut = λ a b g n. uncut-elsewhere m tol at a b g pos n;
+      }
 
 -- ---- the ranges examined
 module _ (m : Measure Point3D) (tol : Float) (pos : (+0 ≺ tol) ≡ true) (at : ℕ → Point3D) where
@@ -153,25 +205,3 @@ module _ (m : Measure Point3D) (tol : Float) (pos : (+0 ≺ tol) ≡ true) (at :
   -- A fit examines twice as many ranges as it has pieces, less one.
   pub ranges-examined : (lo hi : ℕ) → lo < hi → rangesIn m tol at lo hi ≡ 2 * length (piecesIn m tol at lo hi) - 1
   ranges-examined lo hi h = let e = ranges-by (hi - lo) lo hi h (omega arith) in omega arith
-
--- ---- the cut rule
-module _ (m : Measure Point3D) (tol : Float) (at : ℕ → Point3D) (lo hi : ℕ) where
-  -- A range whose Line and both arc trials fail is cut, at its Line's first farthest point.
-  pub cut-where-all-fail : AllFail m tol at lo hi → choice m tol at lo hi ≡ cutAt (lineDeviation m at lo hi .index)
-  unfolding choice chooseBy arcOrCut
-  cut-where-all-fail f = rw (f .line-fails, f .arcs-fail)
-
-  cut-none : (t : Trial) (i k : ℕ) → arcOrCut t i ≡ cutAt k → (t ≡ None) × (i ≡ k)
-  unfolding arcOrCut
-  cut-none (Arc c d) i k e = absurd (let z : _≡_ {A = ℕ} 0 1 = cc in omega arith)
-  cut-none None i k e = (refl, cc)
-
-  -- A range is cut only there: its Line and both arc trials failed, and the cut is its Line's first farthest point.
-  pub cut-only-where-all-fail : (k : ℕ) → choice m tol at lo hi ≡ cutAt k → AllFail m tol at lo hi × (lineDeviation m at lo hi .index ≡ k)
-  unfolding choice chooseBy
-  cut-only-where-all-fail k e =
-      let w = lineDeviation m at lo hi in
-      ⊎-elim
-      (λ h. absurd (let z : _≡_ {A = ℕ} 0 1 = cc (rw h at e) in omega arith))
-      (λ h. let r = cut-none (tryArcs at lo hi (w .index) tol) (w .index) k (rw h at e) in (record { line-fails = h; arcs-fail = r .0 }, r .1))
-      (either (lt (w .dist) tol))

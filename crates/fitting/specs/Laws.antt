@@ -1,34 +1,112 @@
--- Demand 3's words about the pieces of a range, as propositions. Definitions only; proofs/Pieces.antt shows that they hold.
-use Prim.Native.Nat.{ℕ, _<_}
+-- Demand 3's words about the pieces of a range, as propositions, over any measure m and any points `at`. Definitions only; proofs/Pieces.antt shows that they hold.
+use Prim.Native.Nat.{ℕ, _+_, _-_, _≤_, _<_}
 use mathlib.Core.Path.{_≡_}
-use mathlib.Core.Bool.{true, false}
-use mathlib.Core.List.{List, [], _∷_}
-use lib.Ieee.{Float}
-use Rattle.floats.specs.Ops.{_≺_}
+use mathlib.Core.Bool.{Bool, true, false, _&&_}
+use mathlib.Core.List.{List, [], _∷_, _++_}
+use lib.Dec.{ltb, leb}
+use lib.Ieee.{Float, neg}
+use Rattle.floats.specs.Ops.{_⊖_, _≺_, if_then_else_, +0, one}
+use Rattle.geo.specs.declared.types.Point.{Point}
 use Rattle.geo.specs.declared.types.Point3D.{Point3D}
+use Rattle.geo.specs.declared.types.Command as command
+use Rattle.geo.specs.Vector.{flatten}
+use Rattle.geo.specs.Lent.{pair, triple, flat}
+use Rattle.geo.specs.Walk.{listFrom}
+use Rattle.geo.specs.Outcome.{gives}
+use Rattle.arc.specs.Direction.{directionCall}
+use Rattle.circle.specs.declared.circle.Deviation.{Deviation}
 use Rattle.circle.specs.Three.{radiusFrom}
-use Rattle.trial.specs.declared.trial.Trial.the-variants.{None}
-use Rattle.trial.specs.Deviation.{arcDeviation}
-use Rattle.trial.specs.Trial.{tryArcs}
-use Rattle.simplify.specs.Measure.{Measure}
-use Rattle.fitting.specs.Pieces.{lineDeviation, Shape, line, arc, Piece}
+use Rattle.trial.specs.declared.trial.Trial.the-variants.{Arc, None}
+use Rattle.trial.specs.Trial.{threeTried, leastTried}
+use Rattle.trial.specs.Laws.{ArcPasses}
+use Rattle.simplify.specs.Measure.{Measure, lineSq}
+use Rattle.fitting.specs.Pieces.{lineDeviation, Piece, piecesIn}
+use Rattle.fitting.specs.Calls.{lineCall, arcCall}
 
 -- The pieces follow one another from lo to hi, each at least one step long: so each step, from i to i + 1, lies in exactly one piece.
 abbrev pub Covers : ℕ → List Piece → ℕ → Type 0
 Covers lo [] hi = lo ≡ hi
 Covers lo (p ∷ ps) hi = (p .from ≡ lo) × (lo < p .to) × Covers (p .to) ps hi
 
--- A Line's or an Arc's deviation over its piece is below the tolerance, an Arc's with its trial's centre and the radius measured from there.
-abbrev pub Below : Measure Point3D → Float → (ℕ → Point3D) → ℕ → ℕ → Shape → Type 0
-Below m tol at lo hi line = (lineDeviation m at lo hi .dist ≺ tol) ≡ true
-Below m tol at lo hi (arc c d) = (arcDeviation c (radiusFrom c (at lo)) at lo hi .dist ≺ tol) ≡ true
+-- how many of the pieces hold the step from i to i + 1
+unfoldable pub holding : ℕ → List Piece → ℕ
+holding i [] = 0
+holding i (p ∷ ps) = (if leb (p .from) i && ltb i (p .to) then 1 else 0) + holding i ps
 
--- of each piece
-abbrev pub AllBelow : Measure Point3D → Float → (ℕ → Point3D) → List Piece → Type 0
-AllBelow m tol at [] = Unit
-AllBelow m tol at (p ∷ ps) = Below m tol at (p .from) (p .to) (p .shape) × AllBelow m tol at ps
+-- ---- the points from lo to hi, cut out as a list of their own: as triples, and as pairs
+abbrev pub ownPoints : (ℕ → Point3D) → ℕ → ℕ → List Float
+ownPoints at lo hi = flat triple (listFrom at (hi - lo + 1) lo)
 
--- The Line of a range and both its arc trials fail. A trial that is not made counts as failed.
+abbrev pub ownPairs : (ℕ → Point3D) → ℕ → ℕ → List Float
+ownPairs at lo hi = flat pair (listFrom (λ i. flatten (at i)) (hi - lo + 1) lo)
+
+-- a deviation of such a list, its index counted in the whole list again
+abbrev pub shifted : ℕ → Deviation → Deviation
+shifted lo w = record { dist = w .dist; index = lo + w .index }
+
+-- ---- what a piece is written as
+-- "A deviation is the deviation function's over the piece": the Line's is below the tolerance, and so is whatever `get_polyline_line_deviation`, which measures to the
+-- endless line, answers of the piece's own points
+pub record LinePasses (m : Measure Point3D) (tol : Float) (at : ℕ → Point3D) (lo hi : ℕ) : Type 0 where
+  pub deviation : (lineDeviation m at lo hi .dist ≺ tol) ≡ true
+  pub answered : m ≡ lineSq → (w : Deviation) → lineCall (ownPoints at lo hi) 0 (hi - lo) ≡ gives w → (w .dist ≺ tol) ≡ true
+
+abbrev pub LineFails : Measure Point3D → Float → (ℕ → Point3D) → ℕ → ℕ → Type 0
+LineFails m tol at lo hi = (lineDeviation m at lo hi .dist ≺ tol) ≡ false
+
+-- The new Arc x of the points from lo to hi, "an Arc's [deviation] with its trial's centre and radius": c is its trial's centre, d says whether it goes clockwise
+pub record NewArc (tol : Float) (at : ℕ → Point3D) (lo hi : ℕ) (c : Point) (d : Bool) (x : command.Command) : Type 0 where
+  -- it ends at the last point; its centre is given from the first; its normal is (0, 0, −1) clockwise, else (0, 0, 1)
+  pub written : x
+      ≡ command.the-variants.Arc (at hi) (record { x = c .x ⊖ at lo .x; y = c .y ⊖ at lo .y; z = +0 }) (record { x = +0; y = +0; z = if d then neg one else one })
+  pub passes : ArcPasses tol at lo hi c d
+  -- whatever `get_polyline_arc_deviation` and `is_arc_clockwise` answer of the piece's own points
+  pub answered : (v : Float) → arcCall (ownPoints at lo hi) c (radiusFrom c (at lo)) ≡ gives v → (v ≺ tol) ≡ true
+  pub turning : (b : Bool) → directionCall (ownPairs at lo hi) c ≡ gives b → d ≡ b
+
+-- "An uncut range is a piece, written to its last point as a Line if that passes, else as the Arc of the first arc trial that does": x is that command for the points from lo
+-- to hi, the first trial being by three points, the second by least squares
+pub data WrittenAs (m : Measure Point3D) (tol : Float) (at : ℕ → Point3D) (lo hi : ℕ) (x : command.Command) : Type 0 where
+  as-line : LinePasses m tol at lo hi → x ≡ command.the-variants.Line (at hi) → WrittenAs m tol at lo hi x
+  as-first : (c : Point) (d : Bool) → LineFails m tol at lo hi → threeTried at lo hi (lineDeviation m at lo hi .index) tol ≡ Arc c d
+      → NewArc tol at lo hi c d x → WrittenAs m tol at lo hi x
+  as-second : (c : Point) (d : Bool) → LineFails m tol at lo hi → threeTried at lo hi (lineDeviation m at lo hi .index) tol ≡ None
+      → leastTried at lo hi (lineDeviation m at lo hi .index) tol ≡ Arc c d → NewArc tol at lo hi c d x → WrittenAs m tol at lo hi x
+
+-- one command for each piece, in order
+abbrev pub AllWritten : Measure Point3D → Float → (ℕ → Point3D) → List Piece → List command.Command → Type 0
+AllWritten m tol at [] [] = Unit
+AllWritten m tol at [] (x ∷ xs) = ⊥
+AllWritten m tol at (p ∷ ps) [] = ⊥
+AllWritten m tol at (p ∷ ps) (x ∷ xs) = WrittenAs m tol at (p .from) (p .to) x × AllWritten m tol at ps xs
+
+-- ---- the cut rule
+-- The Line of a range and both its arc trials fail.
 pub record AllFail (m : Measure Point3D) (tol : Float) (at : ℕ → Point3D) (lo hi : ℕ) : Type 0 where
-  pub line-fails : (lineDeviation m at lo hi .dist ≺ tol) ≡ false
-  pub arcs-fail : tryArcs at lo hi (lineDeviation m at lo hi .index) tol ≡ None
+  pub line-fails : LineFails m tol at lo hi
+  pub three-fails : threeTried at lo hi (lineDeviation m at lo hi .index) tol ≡ None
+  pub least-fails : leastTried at lo hi (lineDeviation m at lo hi .index) tol ≡ None
+
+-- The range is cut at k, strictly inside: its pieces are those of the two ranges that share k.
+pub record CutThere (m : Measure Point3D) (tol : Float) (at : ℕ → Point3D) (lo k hi : ℕ) : Type 0 where
+  pub behind : lo < k
+  pub before : k < hi
+  pub pieces : piecesIn m tol at lo hi ≡ piecesIn m tol at lo k ++ piecesIn m tol at k hi
+
+-- It is not cut: it has one piece, itself.
+pub record Uncut (m : Measure Point3D) (tol : Float) (at : ℕ → Point3D) (lo hi : ℕ) : Type 0 where
+  pub piece : Piece
+  pub from : piece .from ≡ lo
+  pub to : piece .to ≡ hi
+  pub pieces : piecesIn m tol at lo hi ≡ piece ∷ []
+
+-- ---- what demand 3 says of a range from lo to hi and the commands xs that it gives, sentence by sentence
+pub record RangeFitted (m : Measure Point3D) (tol : Float) (at : ℕ → Point3D) (lo hi : ℕ) (xs : List command.Command) : Type 0 where
+  -- "in order, one Line or new Arc for each of its pieces", and "a Line's or new Arc's computed deviation over its piece is below the tolerance"
+  pub commands : AllWritten m tol at (piecesIn m tol at lo hi) xs
+  -- "each step [...] lies in exactly one piece"; and the pieces follow one another from the first point to the last
+  pub steps : (i : ℕ) → lo ≤ i → i < hi → holding i (piecesIn m tol at lo hi) ≡ 1
+  pub order : Covers lo (piecesIn m tol at lo hi) hi
+  -- "a range is cut exactly when its Line and both arc trials fail", at its Line's first farthest point
+  pub cut : (a b : ℕ) → a < b → AllFail m tol at a b → CutThere m tol at a (lineDeviation m at a b .index) b
+  pub uncut : (a b : ℕ) → a < b → (AllFail m tol at a b → ⊥) → Uncut m tol at a b

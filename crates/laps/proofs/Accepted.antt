@@ -1,13 +1,14 @@
 -- What an accepted fit has, and its fitted file read back. Assumes nothing.
-use Prim.Native.Nat.{ℕ, zero, suc, _≤_}
-use mathlib.Core.Path.{_≡_, refl, _∙_}
+use Prim.Native.Nat.{ℕ, _≤_}
+use mathlib.Core.Path.{_≡_, _∙_}
 use mathlib.Core.Bool.{true}
 use mathlib.Core.List.{List, map}
 use native.Mathlib.Omega.{arith}
 use lib.ListN.{length, length-map}
 use lib.Ieee.{Float}
-use Rattle.geo.specs.Outcome.{gives, unless, refusal}
+use Rattle.geo.specs.Outcome.{gives, refusal}
 use Rattle.geo.proofs.Tolerance.{tolerance-positive}
+use Rattle.fitting.proofs.Own.{unless-given}
 use Rattle.laps.specs.File.{Lap, lapCount, lapsOf, encode, tableOk}
 use Rattle.laps.specs.Fit.{fitLap, lapsMost}
 use Rattle.laps.specs.Calls.{fileFitRows, fitFile}
@@ -18,12 +19,6 @@ use Rattle.laps.proofs.Whole.{wholes-fit, length-encode}
 use Rattle.laps.proofs.Turns.{length-laps-of, total-most}
 use Rattle.laps.proofs.ReadBack.{lap-count-encode, laps-encode, table-encode}
 use Rattle.laps.proofs.Replaced.{somes-of, somes-fit}
-
--- what gives a value was refused by no row
-unless-given : {A : Type 0} (n : ℕ) (a b : A) → unless n a ≡ gives b → (0 ≡ n) × (a ≡ b)
-unfolding unless
-unless-given zero a b e = (refl, cc)
-unless-given (suc n) a b e = let z : _≡_ {A = ℕ} 0 1 = cc in absurd (omega arith)
 
 pub record Accepted (s : List ℕ) (tol : Float) (room : ℕ) (f : List ℕ) : Type 0 where
   pub passed : FitPassed s tol room

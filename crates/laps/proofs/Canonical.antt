@@ -67,6 +67,11 @@ mark-is s e h =
     let w = and-right (eqb (getD s 0 0) 0x4c && eqb (getD s 1 0) 0x41 && eqb (getD s 2 0) 0x50) _ e in
     four s 0 (omega arith) ∙ rw (eqb-true (getD s 0 0) 0x4c a, eqb-true (getD s 1 0) 0x41 u, eqb-true (getD s 2 0) 0x50 v, eqb-true (getD s 3 0) 0x53 w)
 
+-- of a file whose table is right
+pub marked : (s : List ℕ) → 8 ≤ length s → tableOk s ≡ true → take 4 s ≡ mark
+unfolding tableOk
+marked s h t = mark-is s (cond-false (hasMark s) _ t .0) h
+
 -- the table
 table-from : (s : List ℕ) (j at l n : ℕ) → Bytes s → n ≡ l - j → Here s j at l → table at (lapsAt s j at n) ≡ take (8 * n) (drop (8 + 8 * j) s)
 unfolding table lapsAt
@@ -100,8 +105,7 @@ joined m u t b s n e f g h = rw (e, f, g, h, ← take-add 4 4 s, ← take-add 8 
 pub canonical : (s : List ℕ) → Bytes s → 8 ≤ length s → tableOk s ≡ true → encode (lapsOf s) ≡ s
 unfolding encode
 canonical s b h t =
-    let g : hasMark s ≡ true = unfold tableOk in cond-false (hasMark s) _ t .0 in
-    let x = mark-is s g h in
+    let x = marked s h t in
     let y : u32Bytes (lapCount s) ≡ take 4 (drop 4 s) = laps-unread s b h in
     let z : table (8 + 8 * lapCount s) (lapsOf s) ≡ take (8 * lapCount s) (drop 8 s) = unfold lapsOf in table-from s 0 (8 + 8 * lapCount s) (lapCount s) (lapCount s) b (omega arith) (start s t) in
     let w : bodies (lapsOf s) ≡ drop (8 + 8 * lapCount s) s = unfold lapsOf in bodies-from s 0 (8 + 8 * lapCount s) (lapCount s) (lapCount s) (omega arith) (start s t) in

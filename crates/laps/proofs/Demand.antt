@@ -15,17 +15,18 @@ use Rattle.geo.proofs.Tolerance.{tolerance-positive}
 use Rattle.file.specs.Command.{decoded, enc, lentLap}
 use Rattle.file.proofs.Lent.{lent-commands, lent-length}
 use Rattle.course.specs.Course.{courseFit}
-use Rattle.course.proofs.Demand.{course-fitted}
+use Rattle.course.proofs.Demand.{course-gives}
 use Rattle.laps.specs.File.{Lap, lapCount, lapsOf, encode, short, big, tableOk, lapOk, lapsOk}
 use Rattle.laps.specs.Fit.{fitLap, lapsMost, fitNew, swap, mostNew}
 use Rattle.laps.specs.Calls.{row1, row2, row3, row4, row5, row7, replaceRows, replaceLap}
-use Rattle.laps.specs.Demand.{lapAt, courseWith, AllFull, commandCount, Canonical, ReadBack, OneCourse, LapsAreFitted, ChainsOfLaps, Fresh, ReplacedIsFresh, OthersStay, NewIsFitted, LentAsCommands, CommandsReplaced}
+use Rattle.laps.specs.Demand.{Bytes, lapAt, courseWith, AllFull, commandCount, Canonical, ReadBack, OneCourse, LapsAreFitted, EachLapGives, FitIsLapFile, Fresh, ReplacedIsFresh, OthersStay, NewIsFitted, LentAsCommands, CommandsReplaced}
 use Rattle.laps.proofs.Walks.{not-big}
 use Rattle.laps.proofs.Rows.{FilePassed, NewPassed, new-sizes, size-0}
 use Rattle.laps.proofs.Whole.{whole-lent, length-encode}
 use Rattle.laps.proofs.Turns.{length-laps-of}
 use Rattle.laps.proofs.Swap.{length-swap, wholes-of, wholes-swap}
 use Rattle.laps.proofs.ReadBack.{Somes, lap-count-encode, laps-encode}
+use Rattle.laps.proofs.ByteLists.{bytes-file}
 use Rattle.laps.proofs.Canonical as form
 use Rattle.laps.proofs.Replaced.{map-swap, new-ok, new-some, somes-of, most-swap, swap-other, swap-there, new-in-total, few-commands}
 use Rattle.laps.proofs.New.{length-lent, lent-most, lent-fit, lent-formed, lent-near}
@@ -61,9 +62,34 @@ lap-fitted s f tol q j a b =
 pub laps-are-fitted : LapsAreFitted
 laps-are-fitted s f tol room e = let q = fitted s tol room f (accepted s tol room f e) in (q .count, lap-fitted s f tol q)
 
--- Each chain of each lap of an accepted fit is as demand 3 says.
-pub chains-of-laps : ChainsOfLaps
-chains-of-laps s f tol room e j a b = course-fitted tol (tolerance-positive tol (accepted s tol room f e .passed .within)) (map decoded (lapAt s j))
+-- Each lap of an accepted fit is, in order, the kept commands of the recorded lap and what each of its chains gives, as demand 3 says.
+pub each-lap-gives : EachLapGives
+each-lap-gives s f tol room e =
+    let a = accepted s tol room f e in
+    let q = fitted s tol room f a in
+    let pos = tolerance-positive tol (a .passed .within) in (
+      q .count,
+      λ j g h. record {
+        commands = courseFit tol (map decoded (lapAt s j));
+        bytes = lap-fitted s f tol q j g h;
+        parts = course-gives tol pos (map decoded (lapAt s j));
+      },
+    )
+
+-- An accepted fit is a lap file.
+pub fit-is-lap-file : FitIsLapFile
+fit-is-lap-file s f tol room e =
+    let a = accepted s tol room f e in
+    let q = fitted s tol room f a in
+    record {
+      bytes = subst Bytes (a .bytes) (bytes-file tol (lapsOf s));
+      least = q .long;
+      greatest = q .size;
+      laps = subst (λ (n : ℕ). n ≤ 64) (sym (q .count)) (not-big s (a .passed .file .small) .1);
+      marked = form.marked f (q .long) (q .table);
+      table = q .table;
+      commands = few-commands f (q .table);
+    }
 
 -- ---- the course with lap k replaced is read back
 course-laps : (s : List ℕ) (k : ℕ) (ks : List ℕ) (ns : List Float) → tableOk s ≡ true → lapCount s ≤ 64 → length (courseWith s k ks ns) ≤ 65536

@@ -11,6 +11,7 @@ pub mod Turns
 pub mod Swap
 pub mod Rows
 pub mod ReadBack
+pub mod ByteLists
 pub mod Canonical
 pub mod Replaced
 pub mod New

@@ -3,15 +3,17 @@ use Prim.Native.Nat.{ℕ, _+_, _-_, _*_, _≤_, _<_}
 use mathlib.Core.Bool.{true}
 use mathlib.Core.Path.{_≡_}
 use mathlib.Core.List.{List, [], _∷_, map}
-use lib.ListN.{length, getD}
+use lib.ListN.{length, getD, take}
 use lib.Ieee.{Float}
+use Rattle.geo.specs.declared.types.Point3D.{Point3D}
 use Rattle.geo.specs.declared.types.Command.{Command}
 use Rattle.geo.specs.Outcome.{gives}
 use Rattle.geo.specs.Lent.{flat, kindOf, numbersOf}
+use Rattle.simplify.specs.Measure.{Measure, lineSq}
 use Rattle.file.specs.Command.{decoded, enc, lentLap, Held}
 use Rattle.course.specs.Course.{courseParts, courseFit}
-use Rattle.course.specs.Demand.{ChainsFitted}
-use Rattle.laps.specs.File.{Lap, lapCount, lapsOf, encode, tableOk}
+use Rattle.course.specs.Demand.{PartsGive}
+use Rattle.laps.specs.File.{Lap, lapCount, lapsOf, mark, encode, tableOk}
 use Rattle.laps.specs.Fit.{fitNew, swap}
 use Rattle.laps.specs.Calls.{fitFile, replaceLap}
 
@@ -63,11 +65,30 @@ LapsAreFitted =
 
 -- "and in it each chain gives, in order, one Line or new Arc for each of its pieces; each step of each thinned chain lies in exactly one piece; a Line's or new Arc's
 -- computed deviation over its piece is below the tolerance; each thinned-out point is, as computed, within it of the line through its kept neighbours; and a range is cut
--- exactly when its Line and both arc trials fail": `ChainFitted` of `course/specs/Demand.antt`, sentence by sentence, for each chain of each lap of an accepted fit
-abbrev pub ChainsOfLaps : Type 0
-ChainsOfLaps =
+-- exactly when its Line and both arc trials fail": a fitted lap is the bytes of commands which are, in order, the recorded lap's kept commands and what each of its chains
+-- gives, as `ChainFitted` of `course/specs/Demand.antt` says sentence by sentence
+pub record LapGives (m : Measure Point3D) (tol : Float) (recorded fitted : Lap) : Type 0 where
+  pub commands : List Command
+  pub bytes : fitted ≡ map enc commands
+  pub parts : PartsGive m tol (courseParts tol (map decoded recorded)) commands
+
+abbrev pub EachLapGives : Type 0
+EachLapGives =
     (s f : List ℕ) (tol : Float) (room : ℕ) → fitFile s tol room ≡ gives f
-    → (j : ℕ) → 1 ≤ j → j ≤ lapCount s → ChainsFitted tol (courseParts tol (map decoded (lapAt s j)))
+    → (lapCount f ≡ lapCount s) × ((j : ℕ) → 1 ≤ j → j ≤ lapCount s → LapGives lineSq tol (lapAt s j) (lapAt f j))
+
+-- an accepted fit is a lap file: bytes within document 01's limits, with the mark and a right table
+pub record IsLapFile (f : List ℕ) : Type 0 where
+  pub bytes : Bytes f
+  pub least : 8 ≤ length f
+  pub greatest : length f ≤ 65536
+  pub laps : lapCount f ≤ 64
+  pub marked : take 4 f ≡ mark
+  pub table : tableOk f ≡ true
+  pub commands : commandCount (lapsOf f) ≤ 800
+
+abbrev pub FitIsLapFile : Type 0
+FitIsLapFile = (s f : List ℕ) (tol : Float) (room : ℕ) → fitFile s tol room ≡ gives f → IsLapFile f
 
 -- ---- the replacement
 -- f is the fit of the file s at tol, k is one of its laps, and the new commands are lent as ks and ns. A fresh fit at tol, into r bytes, accepts the course with lap k

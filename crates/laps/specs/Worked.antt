@@ -1,16 +1,20 @@
--- Document 01's worked laps that carry its mark: one table. Definitions only; proofs/Worked.antt shows that it holds.
+-- Document 01's worked laps that carry its mark: one table, and behind them three rows of ours. Definitions only; proofs/Worked.antt shows that it holds.
 use Prim.Native.Nat.{ℕ}
 use mathlib.Core.Path.{_≡_}
+use mathlib.Core.Bool.{true, false}
 use mathlib.Core.List.{List, [], _∷_}
 use lib.ListN.{length}
-use lib.Ieee.{Float, neg}
-use Rattle.floats.specs.Ops.{+0, one}
+use lib.Ieee.{Float, nan, neg}
+use Rattle.floats.specs.Ops.{_≺_, +0, one}
 use Rattle.floats.specs.Root.{rootOf}
 use Rattle.geo.specs.declared.types.Point3D.{Point3D}
 use Rattle.geo.specs.declared.types.Command.{Command}
 use Rattle.geo.specs.declared.types.Command.the-variants.{Line, Arc}
 use Rattle.floats.specs.Limits.{fraction, thousandth}
+use Rattle.geo.specs.Lent.{pointAt}
 use Rattle.geo.specs.Outcome.{Outcome, refused, gives}
+use Rattle.trial.specs.declared.trial.Trial as tried
+use Rattle.trial.specs.Trial.{threeTried, leastTried}
 use Rattle.simplify.specs.Simplify.{simplifyPolyline3d}
 use Rattle.bezier.specs.Linearize.{paramSteps}
 use Rattle.fitting.specs.Calls.{primitivesCall}
@@ -52,6 +56,25 @@ from-start = record { x = neg (metres 3); y = neg (metres 4); z = +0 }
 abbrev pub down : Point3D
 down = record { x = +0; y = +0; z = neg one }
 
+-- ours: a bend to the left, counter-clockwise, and the normal of such an arc
+abbrev pub left-bend : List (ℕ × ℕ)
+left-bend = (0, 0) ∷ (2, 0) ∷ (5, 3) ∷ []
+
+abbrev pub up : Point3D
+up = record { x = +0; y = +0; z = one }
+
+-- its two arc trials within three quarters of a metre, the Line's first farthest point being the second of the three
+abbrev pub by-three : tried.Trial
+by-three = threeTried (pointAt (lent left-bend)) 0 2 1 (fraction 75 100)
+
+abbrev pub by-least-squares : tried.Trial
+by-least-squares = leastTried (pointAt (lent left-bend)) 0 2 1 (fraction 75 100)
+
+-- how far right the centre of a trial's arc lies; no number where the trial failed
+unfoldable pub centre-right : tried.Trial → Float
+centre-right (tried.the-variants.Arc c d) = c .x
+centre-right tried.the-variants.None = nan
+
 -- the steps of a Bezier with all points at p
 abbrev pub steps-at : Point3D → ℕ
 steps-at p = length (paramSteps p p p p (fraction 1 2))
@@ -76,3 +99,7 @@ pub record WorkedLaps : Type 0 where
   pub no-tolerance : fit twice +0 ≡ refused 6
   pub curve-of-equal-points : steps-at (point 7 7) ≡ 2
   pub empty-file : fitFile no-laps (fraction 1 2) 8 ≡ gives no-laps
+  -- ours: both arc trials of the left bend pass, the second with a centre to the left of the first's; the Arc has the first's centre, and the normal of its direction
+  pub first-trial : by-three ≡ tried.the-variants.Arc (record { x = metres 1; y = metres 4 }) false
+  pub second-trial : (centre-right by-least-squares ≺ metres 1) ≡ true
+  pub left-bend-as-an-arc : fit left-bend (fraction 75 100) ≡ gives (Arc (point 5 3) (point 1 4) up ∷ [])

@@ -3,3 +3,4 @@ pub mod Squares
 pub mod Steps
 pub mod Whole
 pub mod Going
+pub mod Tried

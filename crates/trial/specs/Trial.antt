@@ -73,6 +73,22 @@ trialThree at lo hi tol = ofCircle at lo hi tol (throughThree (at lo) (at (lo + 
 unfoldable pub trialLeast : (ℕ → Point3D) → ℕ → ℕ → Float → Trial
 trialLeast at lo hi tol = ofCenter at lo hi tol (kasaCenter at lo hi)
 
+-- ---- the two trials as they are made: a sharp turn or a closed range blocks both, and the trial by three points is made for three points only.
+-- "An arc trial that the Rust does not make counts as failed" (document 01, below its table of causes).
+unfoldable pub threeTried : (ℕ → Point3D) → ℕ → ℕ → ℕ → Float → Trial
+threeTried at lo hi k tol =
+    if sharpAt at lo hi k then None
+    else if closedRange (at lo) (at hi) then None
+    else if eqb (hi - lo) 2 then trialThree at lo hi tol
+    else None
+
+unfoldable pub leastTried : (ℕ → Point3D) → ℕ → ℕ → ℕ → Float → Trial
+leastTried at lo hi k tol =
+    if sharpAt at lo hi k then None
+    else if closedRange (at lo) (at hi) then None
+    else trialLeast at lo hi tol
+
+-- ---- both, the first that passes
 unfoldable pub orElse : Trial → Trial → Trial
 orElse (Arc m d) u = Arc m d
 orElse None u = u
