@@ -1,12 +1,15 @@
 // The helpers on `f64`.
 ghost use mathlib.Core.Path.{_≡_};
-ghost use Rattle.floats.specs.Root.{rootOf};
-ghost use Rattle.floats.specs.Float.{absOf, ceilOf, maxOf, clampOf};
+ghost use lib.Dec.{T};
+ghost use lib.Ieee.Scale.{finite};
+ghost use Rattle.floats.specs.Root.{rootOf, plain, Rounded};
+ghost use Rattle.floats.specs.Float.{absOf, ceilOf, LeastWhole, maxOf, clampOf};
 
 // The square root of any x.
 #[no_mangle]
 pub extern "C" fn rt_sqrt(x: f64) -> f64
     ensures { λ r. ⌜ r ≡ rootOf x ⌝ }
+    ensures rounded { λ r. ⌜ (T (plain x) → Rounded x r) ⌝ }
 {
     floats::root::sqrt(x)
 }
@@ -15,6 +18,7 @@ pub extern "C" fn rt_sqrt(x: f64) -> f64
 #[no_mangle]
 pub extern "C" fn rt_ceil(x: f64) -> f64
     ensures { λ r. ⌜ r ≡ ceilOf x ⌝ }
+    ensures least { λ r. ⌜ (T (finite x) → LeastWhole x r) ⌝ }
 {
     floats::float::ceil(x)
 }

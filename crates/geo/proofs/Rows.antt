@@ -64,3 +64,9 @@ unless-refused (suc n) a h = refl
 pub unless-gives : {A : Type 0} (n : ℕ) (a : A) → n ≡ 0 → unless n a ≡ gives a
 unfolding unless
 unless-gives n a h = rw h
+
+-- a call that gives x was not refused, and x is what it worked out
+pub unless-given : {A : Type 0} (n : ℕ) (a x : A) → unless n a ≡ gives x → (0 ≡ n) × (a ≡ x)
+unfolding unless
+unless-given zero a x e = (refl, cc)
+unless-given (suc n) a x e = let z : _≡_ {A = ℕ} 0 1 = cc in absurd (omega arith)

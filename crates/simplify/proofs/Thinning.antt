@@ -8,9 +8,8 @@ use mathlib.Core.List.{List, [], _∷_, _++_}
 use native.Mathlib.Omega.{arith}
 use lib.ListN.{length, getD}
 use lib.Ieee.{Float}
-use Rattle.floats.specs.Ops.{_⊗_, _≺_, +0}
+use Rattle.floats.specs.Ops.{_≺_, +0}
 use Rattle.floats.proofs.Order.{either, clash}
-use Rattle.floats.proofs.Unsigned.{square-not-negative}
 use Rattle.geo.specs.declared.types.Command.{Command}
 use Rattle.simplify.specs.Measure.{Measure}
 use Rattle.simplify.specs.Farthest.{farthestIn}
@@ -85,10 +84,6 @@ few-kept {P} m limit pos d (p ∷ q ∷ []) h =
     let at : ℕ → P = λ i. getD (p ∷ q ∷ []) i d in
     rw (kept-no m limit pos at 0 1 (farthestIn m at 0 1) refl (no-cut m limit pos at 0 1 (omega arith)))
 few-kept m limit pos d (p ∷ q ∷ r ∷ ps) h = absurd (omega arith)
-
--- The square of a tolerance is such a limit.
-pub tolerance-limit : (t : Float) → (t ⊗ t ≺ +0) ≡ false
-tolerance-limit t = square-not-negative t
 
 -- ---- commands
 -- Every Move is kept.
