@@ -1,4 +1,4 @@
--- What more than one function's proof cites.
+-- What the proofs of functions cite, and the laws of the trials.
 pub mod Squares
 pub mod Steps
 pub mod Whole
