@@ -1,6 +1,4 @@
 -- What more than one function's proof cites.
 pub mod Rows
-pub mod Subdivision
 pub mod Count
-pub mod Chords
 pub mod Ends

@@ -1,23 +1,18 @@
 -- The rows of each call, by the tests that its check makes, in their order. Assumes nothing.
-use Prim.Native.Nat.{ℕ, _+_, _*_, _^_, _≤_, _<_}
+use Prim.Native.Nat.{ℕ, _*_, _≤_, _<_}
 use mathlib.Core.Path.{_≡_, sym, ap, _∙_, subst}
 use mathlib.Core.Bool.{Bool, true, false, not, _||_}
-use mathlib.Core.List.{_∷_}
 use native.Mathlib.Omega.{arith}
 use borrow.Author.Tests.{lt-ltb, le-ltb, eq-eqb, ne-eqb, ltb-false}
 use lib.Dec.{ltb, eqb}
-use Rattle.geo.specs.declared.types.Point.{Point}
 use Rattle.geo.specs.declared.types.Point3D.{Point3D}
 use lib.ListN.{length}
 use lib.Ieee.{Float, le, toUnsigned}
-use Rattle.floats.specs.Ops.{_⊗_}
-use Rattle.geo.specs.Outcome.{refusal, unless}
+use Rattle.geo.specs.Outcome.{refusal}
 use Rattle.geo.proofs.Walk.{list-length}
 use Rattle.geo.proofs.Rows.{row-fails, row-passes, row-passed, refusal-front, done}
-use Rattle.bezier.specs.declared.bezier.Tolerance.{Tolerance}
-use Rattle.bezier.specs.Flatten.{flattened}
-use Rattle.bezier.specs.Linearize.{steps, stepsNeeded, paramSteps}
-use Rattle.bezier.specs.Calls.{linearizeRows, mostSteps, paramFirstRows, paramLastRows, paramRows, adaptiveRows, toleranceOf, segmentRows, segmentCall}
+use Rattle.bezier.specs.Linearize.{mostAsked, steps, stepsNeeded, paramSteps}
+use Rattle.bezier.specs.Calls.{linearizeRows, mostSteps, paramFirstRows, paramLastRows, paramRows}
 
 -- a count that is 0, or above the most, or in between
 pub none-fails : (n most : ℕ) → n ≡ 0 → (eqb n 0 || ltb most n) ≡ true
@@ -37,14 +32,14 @@ count-passed n most h = ltb-false most n (second (eqb n 0) (ltb most n) h)
     second false b h = h
 
 -- ---- what an accepted call knows
-pub linearize-passed : (p0 c1 c2 p1 : Point3D) (n room : ℕ) → 0 ≡ refusal (linearizeRows p0 c1 c2 p1 n room) → (n ≤ 2048) × (6 * n ≤ room)
+pub linearize-passed : (p0 c1 c2 p1 : Point3D) (n room : ℕ) → 0 ≡ refusal (linearizeRows p0 c1 c2 p1 n room) → (n ≤ mostAsked) × (6 * n ≤ room)
 unfolding linearizeRows
 linearize-passed p0 c1 c2 p1 n room h =
     let r = row-passed 0 _ _ h in
     let s = row-passed 1 _ _ (r .1) in
     let t = row-passed 4 _ _ (s .1) in
     let u = row-passed 8 _ _ (t .1) in
-    (count-passed n 2048 (s .0), ltb-false room (6 * n) (u .0))
+    (count-passed n mostAsked (s .0), ltb-false room (6 * n) (u .0))
 
 -- ---- linearize_bezier_from_params, whose steps are counted after its first rows
 module _ (e c d s : Point3D) (r : Float) (room : ℕ) where
@@ -80,29 +75,3 @@ module _ (e c d s : Point3D) (r : Float) (room : ℕ) where
 pub param-length : (e c d s : Point3D) (r needed : Float) (n : ℕ) → needed ≡ stepsNeeded e c d s r → n ≡ toUnsigned 64 needed → n ≡ length (paramSteps e c d s r)
 unfolding paramSteps steps
 param-length e c d s r needed n is h = h ∙ ap (toUnsigned 64) is ∙ sym (list-length _ _ _)
-
-pub adaptive-passed : (p0 c1 c2 p1 : Point) (limit : Float) (depth room : ℕ) → 0 ≡ refusal (adaptiveRows p0 c1 c2 p1 limit depth room)
-    → (depth ≤ 10) × (2 * (1 + 2 ^ depth) ≤ room)
-unfolding adaptiveRows
-adaptive-passed p0 c1 c2 p1 limit depth room h =
-    let a = row-passed 0 _ _ h in
-    let b = row-passed 1 _ _ (a .1) in
-    let c = row-passed 4 _ _ (b .1) in
-    let d = row-passed 5 _ _ (c .1) in
-    let e = row-passed 8 _ _ (d .1) in
-    (ltb-false 10 depth (b .0), ltb-false room (2 * (1 + 2 ^ depth)) (e .0))
-
-pub segment-passed : (p0 c1 c2 p1 : Point3D) (t : Float) (room : ℕ) → 0 ≡ refusal (segmentRows p0 c1 c2 p1 t room) → 3075 ≤ room
-unfolding segmentRows
-segment-passed p0 c1 c2 p1 t room h =
-    let a = row-passed 0 _ _ h in
-    let b = row-passed 4 _ _ (a .1) in
-    let c = row-passed 5 _ _ (b .1) in
-    let d = row-passed 8 _ _ (c .1) in
-    ltb-false room 3075 (d .0)
-
--- with the tolerance's value worked out
-pub segment-at : (p0 c1 c2 p1 : Point3D) (tol : Tolerance) (t : Float) (room : ℕ) → t ≡ toleranceOf tol
-    → unless (refusal (segmentRows p0 c1 c2 p1 t room)) (p0 ∷ flattened 10 (t ⊗ t) p0 c1 c2 p1) ≡ segmentCall p0 c1 c2 p1 tol room
-unfolding segmentCall
-segment-at p0 c1 c2 p1 tol t room e = ap (λ (x : Float). unless (refusal (segmentRows p0 c1 c2 p1 x room)) (p0 ∷ flattened 10 (x ⊗ x) p0 c1 c2 p1)) e

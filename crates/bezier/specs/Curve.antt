@@ -1,12 +1,23 @@
--- A cubic curve: its point at a parameter, and its two parts there. Each operation in the Rust's order; powi(3) is a×(a×a). Definitions only.
+-- A cubic curve: whether it is in the domain, its point at a parameter, and its two parts there. Each operation in the Rust's order; powi(3) is a×(a×a). Definitions only.
+use mathlib.Core.Bool.{Bool, _&&_}
 use lib.Ieee.{Float}
 use Rattle.floats.specs.Ops.{_⊕_, _⊖_, _⊗_, one, three}
 use Rattle.geo.specs.declared.types.Point.{Point}
 use Rattle.geo.specs.declared.types.Point3D.{Point3D}
 use Rattle.geo.specs.declared.types.CubicBezier.{CubicBezier}
-use Rattle.geo.specs.Vector.{lerp}
+use Rattle.geo.specs.Vector.{lerp, cubic}
+use Rattle.geo.specs.Domain.{pointIn, point3In}
 use Rattle.bezier.specs.declared.bezier.Weights.{Weights}
+use Rattle.bezier.specs.declared.bezier.Halves.{Halves}
 
+-- ---- all four points are in the domain
+abbrev pub curveIn : CubicBezier → Bool
+curveIn q = pointIn (q .0) && pointIn (q .1) && pointIn (q .2) && pointIn (q .3)
+
+abbrev pub curve3In : Point3D → Point3D → Point3D → Point3D → Bool
+curve3In p0 c1 c2 p1 = point3In p0 && point3In c1 && point3In c2 && point3In p1
+
+-- ---- the point at a parameter
 abbrev pub square : Float → Float
 square a = a ⊗ a
 
@@ -22,9 +33,13 @@ unfoldable pub mixed : Weights → Float → Float → Float → Float → Float
 mixed w p0 c1 c2 p1 = w .w0 ⊗ p0 ⊕ w .w1 ⊗ c1 ⊕ w .w2 ⊗ c2 ⊕ w .w3 ⊗ p1
 
 -- the point at t
-unfoldable pub pointOn : Point → Point → Point → Point → Float → Point
+unfoldable pub pointOn : CubicBezier → Float → Point
 unfolding weightsAt mixed
-pointOn p0 c1 c2 p1 t = record { x = mixed (weightsAt t) (p0 .x) (c1 .x) (c2 .x) (p1 .x); y = mixed (weightsAt t) (p0 .y) (c1 .y) (c2 .y) (p1 .y) }
+pointOn q t =
+    record {
+      x = mixed (weightsAt t) (q .0 .x) (q .1 .x) (q .2 .x) (q .3 .x);
+      y = mixed (weightsAt t) (q .0 .y) (q .1 .y) (q .2 .y) (q .3 .y);
+    }
 
 unfoldable pub pointOn3 : Point3D → Point3D → Point3D → Point3D → Float → Point3D
 unfolding weightsAt mixed
@@ -38,15 +53,18 @@ pointOn3 p0 c1 c2 p1 t =
 -- ---- de Casteljau's rule: each point of the next row lies at t between two of the last
 
 -- the point where the two parts meet
-unfoldable pub meeting : Point → Point → Point → Point → Float → Point
+unfoldable pub meeting : CubicBezier → Float → Point
 unfolding lerp
-meeting p0 c1 c2 p1 t =
-    lerp (lerp (lerp p0 c1 t) (lerp c1 c2 t) t) (lerp (lerp c1 c2 t) (lerp c2 p1 t) t) t
+meeting q t =
+    lerp (lerp (lerp (q .0) (q .1) t) (lerp (q .1) (q .2) t) t) (lerp (lerp (q .1) (q .2) t) (lerp (q .2) (q .3) t) t) t
 
-unfoldable pub leftPart : Point → Point → Point → Point → Float → CubicBezier
+unfoldable pub leftPart : CubicBezier → Float → CubicBezier
 unfolding lerp meeting
-leftPart p0 c1 c2 p1 t = record { 0 = p0; 1 = lerp p0 c1 t; 2 = lerp (lerp p0 c1 t) (lerp c1 c2 t) t; 3 = meeting p0 c1 c2 p1 t }
+leftPart q t = cubic (q .0) (lerp (q .0) (q .1) t) (lerp (lerp (q .0) (q .1) t) (lerp (q .1) (q .2) t) t) (meeting q t)
 
-unfoldable pub rightPart : Point → Point → Point → Point → Float → CubicBezier
+unfoldable pub rightPart : CubicBezier → Float → CubicBezier
 unfolding lerp meeting
-rightPart p0 c1 c2 p1 t = record { 0 = meeting p0 c1 c2 p1 t; 1 = lerp (lerp c1 c2 t) (lerp c2 p1 t) t; 2 = lerp c2 p1 t; 3 = p1 }
+rightPart q t = cubic (meeting q t) (lerp (lerp (q .1) (q .2) t) (lerp (q .2) (q .3) t) t) (lerp (q .2) (q .3) t) (q .3)
+
+abbrev pub partsAt : CubicBezier → Float → Halves
+partsAt q t = record { left = leftPart q t; right = rightPart q t }

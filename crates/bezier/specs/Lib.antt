@@ -1,5 +1,3 @@
 pub mod Curve
-pub mod Flatten
 pub mod Linearize
-pub mod FitCubic
 pub mod Calls

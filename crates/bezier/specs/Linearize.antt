@@ -11,6 +11,10 @@ use Rattle.geo.specs.Walk.{listFrom}
 use Rattle.geo.specs.Lent.{triple}
 use Rattle.bezier.specs.Curve.{pointOn3}
 
+-- how many steps may be asked for
+abbrev pub mostAsked : ℕ
+mostAsked = 2048
+
 -- i of n
 unfoldable pub share : ℕ → ℕ → Float
 unfolding ofInt

@@ -1,2 +1,2 @@
-// Cubic Bezier curves: a point, the two halves, the steps, the flattened curve, and the curve fitted to points.
+// Cubic Bezier curves: a point, the two parts, and the steps.
 pub mod bezier;

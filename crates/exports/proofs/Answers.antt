@@ -21,12 +21,14 @@ use Rattle.bezier.specs.declared.bezier.BezierPoint.the-variants as Point·
 use Rattle.bezier.specs.declared.bezier.BezierSplit.{BezierSplit}
 use Rattle.bezier.specs.declared.bezier.BezierSplit.the-variants as Split·
 use Rattle.bezier.specs.declared.bezier.Halves.{Halves}
-use Rattle.bezier.specs.declared.bezier.Flatness.{Flatness}
-use Rattle.bezier.specs.declared.bezier.Flatness.the-variants as Flat·
-use Rattle.bezier.specs.declared.bezier.FittedCubic.{FittedCubic}
-use Rattle.bezier.specs.declared.bezier.FittedCubic.the-variants as Fit·
-use Rattle.bezier.specs.Calls.{pointAnswer, splitAnswer, flatAnswer, cubicRows, cubicCall, cubicAnswer}
-use Rattle.bezier.specs.FitCubic.{noLength, chordSum, straight, cubicSums, cubicSolved, cubicFitted}
+use Rattle.subdivision.specs.declared.subdivision.Flatness.{Flatness}
+use Rattle.subdivision.specs.declared.subdivision.Flatness.the-variants as Flat·
+use Rattle.fit_cubic.specs.declared.fit_cubic.FittedCubic.{FittedCubic}
+use Rattle.fit_cubic.specs.declared.fit_cubic.FittedCubic.the-variants as Fit·
+use Rattle.bezier.specs.Calls.{pointAnswer, splitAnswer}
+use Rattle.subdivision.specs.Calls.{flatAnswer}
+use Rattle.fit_cubic.specs.Calls.{cubicRows, cubicCall, cubicAnswer}
+use Rattle.fit_cubic.specs.FitCubic.{noLength, chordSum, straight, cubicSums, cubicSolved, cubicFitted}
 use Rattle.arc.specs.declared.arc.Direction.{Direction}
 use Rattle.arc.specs.declared.arc.Direction.the-variants as Direction·
 use Rattle.arc.specs.Direction.{directionAnswer}

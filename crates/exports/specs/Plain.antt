@@ -16,10 +16,10 @@ use Rattle.geo.specs.declared.types.Command.{Command}
 use Rattle.geo.specs.Lent.{pair, triple, flat, kindOf, numbersOf}
 use Rattle.geo.specs.Outcome.{Outcome, refused, gives, left}
 use Rattle.bezier.specs.declared.bezier.Halves.{Halves}
-use Rattle.bezier.specs.declared.bezier.Tolerance.{Tolerance}
-use Rattle.bezier.specs.declared.bezier.Tolerance.the-variants.{Given, Default}
-use Rattle.bezier.specs.declared.bezier.FittedCubic.{FittedCubic}
-use Rattle.bezier.specs.declared.bezier.FittedCubic.the-variants.{Curve, None, Refused}
+use Rattle.subdivision.specs.declared.subdivision.Tolerance.{Tolerance}
+use Rattle.subdivision.specs.declared.subdivision.Tolerance.the-variants.{Given, Default}
+use Rattle.fit_cubic.specs.declared.fit_cubic.FittedCubic.{FittedCubic}
+use Rattle.fit_cubic.specs.declared.fit_cubic.FittedCubic.the-variants.{Curve, None, Refused}
 use Rattle.circle.specs.Three.{Circle}
 use Rattle.circle.specs.Kasa.{LeastSquares}
 

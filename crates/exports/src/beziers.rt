@@ -2,20 +2,22 @@
 use crate::counts::hand_on;
 use bezier::bezier::BezierPoint;
 use bezier::bezier::BezierSplit;
-use bezier::bezier::FittedCubic;
-use bezier::bezier::Flatness;
-use bezier::bezier::Tolerance;
+use fit_cubic::fit_cubic::FittedCubic;
 use geo::lent::put_pair;
 use geo::types::CubicBezier;
 use geo::types::Point;
 use geo::types::Point3D;
+use subdivision::subdivision::Flatness;
+use subdivision::subdivision::Tolerance;
 ghost use mathlib.Core.Path.{_≡_};
 ghost use Prim.Native.Nat.{_+_, _<_};
 ghost use lib.ListN.{length};
 ghost use lib.Seq.{sets};
 ghost use Rattle.geo.specs.Lent.{pair, triple, flat};
 ghost use Rattle.bezier.specs.Linearize.{six};
-ghost use Rattle.bezier.specs.Calls.{pointCall, splitCall, flatCall, linearizeCall, paramCall, adaptiveCall, segmentCall, cubicCall};
+ghost use Rattle.bezier.specs.Calls.{pointCall, splitCall, linearizeCall, paramCall};
+ghost use Rattle.subdivision.specs.Calls.{flatCall, adaptiveCall, segmentCall};
+ghost use Rattle.fit_cubic.specs.Calls.{cubicCall};
 ghost use Rattle.exports.specs.Plain.{point, point3, eight, sixteen, isCurve, curveNumbers, toleranceBy, Gave, Told, Listed};
 
 // The point at t of a curve in the plane.
@@ -110,7 +112,7 @@ pub extern "C" fn rt_is_bezier_flat(
     let c1 = Point { x: c1x, y: c1y };
     let c2 = Point { x: c2x, y: c2y };
     let p1 = Point { x: p1x, y: p1y };
-    let a = bezier::bezier::is_bezier_flat(p0, c1, c2, p1, tolerance_sq);
+    let a = subdivision::subdivision::is_bezier_flat(p0, c1, c2, p1, tolerance_sq);
     match a {
         Flatness::Is(b) => {
             *flat = b;
@@ -232,7 +234,15 @@ pub extern "C" fn rt_linearize_bezier_adaptive(
     let c1 = Point { x: c1x, y: c1y };
     let c2 = Point { x: c2x, y: c2y };
     let p1 = Point { x: p1x, y: p1y };
-    let a = bezier::bezier::linearize_bezier_adaptive(p0, c1, c2, p1, tolerance_sq, max_depth, out);
+    let a = subdivision::subdivision::linearize_bezier_adaptive(
+        p0,
+        c1,
+        c2,
+        p1,
+        tolerance_sq,
+        max_depth,
+        out,
+    );
     hand_on(a, count)
 }
 
@@ -289,7 +299,7 @@ pub extern "C" fn rt_linearize_bezier_segment(
         z: p1z,
     };
     let t = tolerance_by(given, tolerance);
-    let a = bezier::bezier::linearize_bezier_segment(p0, c1, c2, p1, t, out);
+    let a = subdivision::subdivision::linearize_bezier_segment(p0, c1, c2, p1, t, out);
     hand_on(a, count)
 }
 
@@ -303,7 +313,7 @@ pub extern "C" fn rt_fit_cubic_bezier(
     ensures found { λ r. ⌜ Told isCurve (cubicCall (now (points .entry))) (now (found .entry)) (now (found .exit)) r ⌝ }
     ensures answer { λ r. ⌜ Gave curveNumbers (cubicCall (now (points .entry))) (now (answer .entry)) (now (answer .exit)) r ⌝ }
 {
-    let a = bezier::bezier::fit_cubic_bezier(points);
+    let a = fit_cubic::fit_cubic::fit_cubic_bezier(points);
     match a {
         FittedCubic::Curve(q) => {
             put_curve(answer, 0, q);

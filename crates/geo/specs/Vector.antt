@@ -4,10 +4,15 @@ use Rattle.floats.specs.Ops.{_⊕_, _⊖_, _⊗_, _⊘_, one, two}
 use Rattle.floats.specs.Root.{rootOf}
 use Rattle.geo.specs.declared.types.Point.{Point}
 use Rattle.geo.specs.declared.types.Point3D.{Point3D}
+use Rattle.geo.specs.declared.types.CubicBezier.{CubicBezier}
 
 -- a position in the plane, of a position in space
 abbrev pub flatten : Point3D → Point
 flatten p = record { x = p .x; y = p .y }
+
+-- a curve from p0 to p1, with its controls
+abbrev pub cubic : Point → Point → Point → Point → CubicBezier
+cubic p0 c1 c2 p1 = record { 0 = p0; 1 = c1; 2 = c2; 3 = p1 }
 
 -- ---- in the plane: a direction by its two numbers
 abbrev pub dot : Float → Float → Float → Float → Float

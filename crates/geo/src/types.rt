@@ -1,7 +1,7 @@
 // src/geo/types.rs: points, the cubic curve and the command, with the part of each that is carried over.
 ghost use mathlib.Core.Path.{_≡_};
 ghost use Rattle.geo.specs.Lent.{endOf};
-ghost use Rattle.geo.specs.Vector.{flatten};
+ghost use Rattle.geo.specs.Vector.{flatten, cubic};
 
 // A position in the plane.
 pub struct Point {
@@ -37,6 +37,23 @@ impl Point3D {
 
 // A cubic Bezier curve: start, two controls, end.
 pub struct CubicBezier(pub Point, pub Point, pub Point, pub Point);
+
+impl CubicBezier {
+    // How often a part may be halved: "Subdivision depth: at most 10".
+    pub const MOST_DEPTH: usize = 10;
+
+    // How many steps may be asked for: "step count: 1 to 2,048".
+    pub const MOST_ASKED: usize = 2048;
+
+    // How many steps may follow from a resolution, as a float: row 8, "above 800".
+    pub const MOST_STEPS: f64 = 800.0;
+
+    pub fn new(p0: Point, c1: Point, c2: Point, p1: Point) -> Self
+        ensures { λ r. ⌜ r ≡ cubic p0 c1 c2 p1 ⌝ }
+    {
+        Self(p0, c1, c2, p1)
+    }
+}
 
 // One step of a course. The kinds are numbered 0 to 3 in this order.
 pub enum Command {

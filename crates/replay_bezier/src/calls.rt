@@ -2,9 +2,7 @@
 use arc::arc::Direction;
 use bezier::bezier::BezierPoint;
 use bezier::bezier::BezierSplit;
-use bezier::bezier::FittedCubic;
-use bezier::bezier::Flatness;
-use bezier::bezier::Tolerance;
+use fit_cubic::fit_cubic::FittedCubic;
 use geo::lent::pair_at;
 use geo::lent::point_at;
 use geo::lent::put_pair;
@@ -13,6 +11,8 @@ use geo::point::Midpoint;
 use geo::types::Answer;
 use geo::types::CubicBezier;
 use geo::types::Point;
+use subdivision::subdivision::Flatness;
+use subdivision::subdivision::Tolerance;
 ghost use Prim.Native.Nat.{_+_, _≤_};
 ghost use lib.ListN.{length};
 
@@ -122,7 +122,7 @@ fn split_bezier(c: &[f64], out: &mut [f64]) -> Reply
 fn is_bezier_flat(c: &[f64]) -> Reply
     requires { ⌜ 9 ≤ length (now c) ⌝ }
 {
-    let a = bezier::bezier::is_bezier_flat(
+    let a = subdivision::subdivision::is_bezier_flat(
         pair_at(c, 0),
         pair_at(c, 1),
         pair_at(c, 2),
@@ -166,7 +166,7 @@ fn linearize_bezier_from_params(c: &[f64], out: &mut [f64]) -> Reply
 fn linearize_bezier_adaptive(c: &[f64], depth: usize, out: &mut [f64]) -> Reply
     requires { ⌜ 9 ≤ length (now c) ⌝ }
 {
-    let a = bezier::bezier::linearize_bezier_adaptive(
+    let a = subdivision::subdivision::linearize_bezier_adaptive(
         pair_at(c, 0),
         pair_at(c, 1),
         pair_at(c, 2),
@@ -190,7 +190,7 @@ fn linearize_bezier_segment(c: &[f64], given: usize, out: &mut [f64]) -> Reply
     requires { ⌜ 13 ≤ length (now c) ⌝ }
 {
     let t = tolerance_by(given, c[12]);
-    let a = bezier::bezier::linearize_bezier_segment(
+    let a = subdivision::subdivision::linearize_bezier_segment(
         point_at(c, 0),
         point_at(c, 1),
         point_at(c, 2),
@@ -204,7 +204,7 @@ fn linearize_bezier_segment(c: &[f64], given: usize, out: &mut [f64]) -> Reply
 fn fit_cubic_bezier(points: &[f64], out: &mut [f64]) -> Reply
     requires { ⌜ 8 ≤ length (now out) ⌝ }
 {
-    let a = bezier::bezier::fit_cubic_bezier(points);
+    let a = fit_cubic::fit_cubic::fit_cubic_bezier(points);
     match a {
         FittedCubic::Curve(q) => {
             put_curve(out, 0, q);

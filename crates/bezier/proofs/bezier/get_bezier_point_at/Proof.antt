@@ -1,32 +1,48 @@
 -- `bezier::bezier::get_bezier_point_at` meets its contract: each return is the row of the table that its tests led to. Assumes nothing.
+use mathlib.Core.Path.{ap, _∙_}
 use borrow.Author.Tests.{not-true, not-false}
-use Rattle.bezier.specs.Calls.{pointCall, pointAnswer}
 use borrow.Author.Needs.{needs}
+use Rattle.geo.specs.declared.types.CubicBezier.{CubicBezier}
+use Rattle.bezier.specs.Curve.{curveIn}
+use Rattle.bezier.specs.Calls.{pointCall, pointAnswer}
 use Rattle.bezier.proofs.bezier.get_bezier_point_at.Statement.{statement}
 use Rattle.bezier.proofs.bezier.get_bezier_point_at.Tie as tie
+
+new-requires : tie.Need-new-requires
+new-requires c κs = search needs
 
 curve-in-requires : tie.Need-curve-in-requires
 curve-in-requires c κs = search needs
 
 returns : tie.Need-returns
 unfolding pointCall pointAnswer
-returns c = rw (← c .before .curve-in .ensures, not-true (c .before .curve-in .result) (c .if1 .taken))
+returns c = let e = c .before .curve-in .ensures ∙ ap (λ (q : CubicBezier). curveIn q) (c .before .before .new .ensures) in
+    rw (← e, not-true (c .before .curve-in .result) (c .if1 .taken))
 
 is-within-requires : tie.Need-is-within-requires
 is-within-requires c κs = search needs
 
 returns-2 : tie.Need-returns-2
 unfolding pointCall pointAnswer
-returns-2 c = rw (← c .before .before .before .curve-in .ensures, not-false (c .before .before .before .curve-in .result) (c .before .before .if1 .left), ← c .before .is-within .ensures, not-true (c .before .is-within .result) (c .if2 .taken))
+returns-2 c = let e = c .before .before .before .curve-in .ensures ∙ ap (λ (q : CubicBezier). curveIn q) (c .before .before .before .before .new .ensures) in
+    rw (← e, not-false (c .before .before .before .curve-in .result) (c .before .before .if1 .left), ← c .before .is-within .ensures, not-true (c .before .is-within .result) (c .if2 .taken))
 
 point-on-requires : tie.Need-point-on-requires
 point-on-requires c κs = search needs
 
 returns-3 : tie.Need-returns-3
 unfolding pointCall pointAnswer
-returns-3 c = rw (← c .before .before .before .before .curve-in .ensures, not-false (c .before .before .before .before .curve-in .result) (c .before .before .before .if1 .left), ← c .before .before .is-within .ensures, not-false (c .before .before .is-within .result) (c .before .if2 .left), c .point-on .ensures)
+returns-3 c = let e = c .before .before .before .before .curve-in .ensures ∙ ap (λ (q : CubicBezier). curveIn q) (c .before .before .before .before .before .new .ensures) in
+    rw (← e, not-false (c .before .before .before .before .curve-in .result) (c .before .before .before .if1 .left), ← c .before .before .is-within .ensures, not-false (c .before .before .is-within .result) (c .before .if2 .left), c .point-on .ensures, c .before .before .before .before .before .new .ensures)
 
 pub get-bezier-point-at-spec : {M : Type 1} → statement M
 get-bezier-point-at-spec =
     tie.close
-    (tie.spec curve-in-requires returns is-within-requires returns-2 point-on-requires returns-3)
+    (tie.spec
+    new-requires
+    curve-in-requires
+    returns
+    is-within-requires
+    returns-2
+    point-on-requires
+    returns-3)

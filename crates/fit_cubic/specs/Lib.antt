@@ -1,0 +1,2 @@
+pub mod FitCubic
+pub mod Calls

@@ -1,0 +1,2 @@
+// The cubic Bezier curve fitted to points.
+pub mod fit_cubic;

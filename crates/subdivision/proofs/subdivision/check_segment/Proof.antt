@@ -1,0 +1,46 @@
+-- `subdivision::subdivision::check_segment` meets its contract: each return is the first row that fails, by the tests before it. Assumes nothing.
+use mathlib.Core.Path.{sym, _∙_}
+use borrow.Author.Tests.{lt-ltb, le-ltb}
+use Rattle.geo.proofs.Rows.{row-fails, row-passes, not-fails, not-passes, whole-fails, whole-passes, done}
+use Rattle.subdivision.specs.Calls.{segmentRows}
+use borrow.Author.Needs.{needs}
+use Rattle.subdivision.proofs.subdivision.check_segment.Statement.{statement}
+use Rattle.subdivision.proofs.subdivision.check_segment.Tie as tie
+
+returns : tie.Need-returns
+unfolding segmentRows
+returns c = sym (row-fails _ _ _ (whole-fails 3 _ (c .if1 .taken)))
+
+curve-in-3d-requires : tie.Need-curve-in-3d-requires
+curve-in-3d-requires c κs = search needs
+
+returns-2 : tie.Need-returns-2
+unfolding segmentRows
+returns-2 c = sym (row-passes _ _ _ (whole-passes 3 _ (c .before .before .if1 .left)) ∙ row-fails _ _ _ (not-fails _ _ (c .before .curve-in-3d .ensures) (c .if2 .taken)))
+
+is-within-requires : tie.Need-is-within-requires
+is-within-requires c κs = search needs
+
+returns-3 : tie.Need-returns-3
+unfolding segmentRows
+returns-3 c = sym (row-passes _ _ _ (whole-passes 3 _ (c .before .before .before .before .if1 .left)) ∙ row-passes _ _ _ (not-passes _ _ (c .before .before .before .curve-in-3d .ensures) (c .before .before .if2 .left)) ∙ row-fails _ _ _ (not-fails _ _ (c .before .is-within .ensures) (c .if3 .taken)))
+
+returns-4 : tie.Need-returns-4
+unfolding segmentRows
+returns-4 c = sym (row-passes _ _ _ (whole-passes 3 _ (c .before .before .before .before .before .if1 .left)) ∙ row-passes _ _ _ (not-passes _ _ (c .before .before .before .before .curve-in-3d .ensures) (c .before .before .before .if2 .left)) ∙ row-passes _ _ _ (not-passes _ _ (c .before .before .is-within .ensures) (c .before .if3 .left)) ∙ row-fails _ _ _ (lt-ltb _ _ (c .if4 .taken)))
+
+returns-5 : tie.Need-returns-5
+unfolding segmentRows
+returns-5 c = sym (row-passes _ _ _ (whole-passes 3 _ (c .before .before .before .before .before .if1 .left)) ∙ row-passes _ _ _ (not-passes _ _ (c .before .before .before .before .curve-in-3d .ensures) (c .before .before .before .if2 .left)) ∙ row-passes _ _ _ (not-passes _ _ (c .before .before .is-within .ensures) (c .before .if3 .left)) ∙ row-passes _ _ _ (le-ltb _ _ (c .if4 .left)) ∙ done)
+
+pub check-segment-spec : {M : Type 1} → statement M
+check-segment-spec =
+    tie.close
+    (tie.spec
+    returns
+    curve-in-3d-requires
+    returns-2
+    is-within-requires
+    returns-3
+    returns-4
+    returns-5)

@@ -1,0 +1,2 @@
+// Cubic Bezier curves halved until each part is flat.
+pub mod subdivision;
