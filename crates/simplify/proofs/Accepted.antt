@@ -2,7 +2,7 @@
 use Prim.Native.Nat.{ℕ, zero, suc, _+_, _*_, _/_, _≤_}
 use mathlib.Core.Path.{_≡_, sym, _∙_}
 use mathlib.Core.Logic.{⊎-elim}
-use mathlib.Core.Bool.{Bool, false, _||_}
+use mathlib.Core.Bool.{Bool, true, false, _||_}
 use mathlib.Core.List.{List, [], _∷_}
 use native.Mathlib.Nat.{le-trans, mul-le-mul-left}
 use native.Mathlib.Omega.{arith}
@@ -14,6 +14,7 @@ use Rattle.floats.proofs.Order.{either}
 use Rattle.floats.proofs.Unsigned.{square-not-negative}
 use Rattle.geo.specs.declared.types.Command.{Command}
 use Rattle.geo.specs.declared.types.Answer.the-variants.{Written}
+use Rattle.geo.specs.Domain.{coordinate, numbersIn, tolerance}
 use Rattle.geo.specs.Outcome.{refusal, unless, Wrote}
 use Rattle.geo.specs.Lent.{flat, commandAt, numbersOf}
 use Rattle.geo.specs.Commands.{WroteCommands}
@@ -28,9 +29,9 @@ use Rattle.simplify.specs.Words.{Ascending}
 use Rattle.simplify.specs.Simplify.{pointRows, commandRows, simplifyData}
 use Rattle.simplify.proofs.Kept.{thinned-ascending}
 
--- r is what a call's checks found: points that are accepted are few enough, and there is room for all
+-- r is what a call's checks found: points that are accepted are few enough, there is room for all, and numbers and tolerance are in the domain
 pub points-accepted : (width : ℕ) (s : List Float) (t : Float) (room r : ℕ) → r ≡ refusal (pointRows width s t room) → r ≡ 0
-    → (length s / width ≤ 2048) × (length s / width ≤ room / width)
+    → (length s / width ≤ 2048) × (length s / width ≤ room / width) × (numbersIn coordinate s ≡ true) × (tolerance t ≡ true)
 points-accepted width s t room r q z =
     let a = row-passed 0 _ _ (sym (sym q ∙ z)) in
     let b = row-passed 0 _ _ (a .1) in
@@ -38,7 +39,7 @@ points-accepted width s t room r q z =
     let d = row-passed 4 _ _ (c .1) in
     let e = row-passed 5 _ _ (d .1) in
     let f = row-passed 8 _ _ (e .1) in
-    (ltb-false _ _ (c .0), ltb-false _ _ (f .0))
+    (ltb-false _ _ (c .0), ltb-false _ _ (f .0), not-false _ (d .0), not-false _ (e .0))
 
 -- commands that are accepted have nine numbers each, are few enough, and there is room for all
 pub commands-accepted : (ks : List ℕ) (ns : List Float) (t : Float) (kinds numbers r : ℕ) → r ≡ refusal (commandRows ks ns t kinds numbers) → r ≡ 0

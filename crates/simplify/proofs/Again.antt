@@ -126,7 +126,7 @@ lists-of l p (x ∷ xs) e =
     let z : p + 0 ≡ p = omega arith in
     ((rw z at (sym (getD-drop p l 0 0))) ∙ ap (λ (k : List ℕ). getD k 0 0) e, lists-of l (p + 1) xs (sym (drop-drop 1 p l) ∙ ap (λ (k : List ℕ). drop 1 k) e))
 
-getD-map : {A B : Type 0} (f : A → B) (l : List A) (j : ℕ) (a : A) (b : B) → j < length l → getD (map f l) j b ≡ f (getD l j a)
+pub getD-map : {A B : Type 0} (f : A → B) (l : List A) (j : ℕ) (a : A) (b : B) → j < length l → getD (map f l) j b ≡ f (getD l j a)
 getD-map f [] j a b h = absurd (omega arith)
 getD-map f (x ∷ l) zero a b h = refl
 getD-map f (x ∷ l) (suc j) a b h = getD-map f l j a b (omega arith)
@@ -157,15 +157,21 @@ module _ {P : Type 0} (m : Measure P) (limit : Float) (pos : (limit ≺ +0) ≡ 
       (lists-right g 1 (suc (length K)) K (suc n ∷ []) (omega arith) l .0) (lists-left g 1 K (suc n ∷ []) l) (λ j u v. s j (omega arith)) in
       rw el (run-ends (length K) (keptIn m limit at′ 0 (suc (length K))) a)
 
+  -- the points that are kept, thinned as they stand in another list, are all kept
+  pub points-again : (at at′ : ℕ → P) (n : ℕ) → ((j : ℕ) → j < length (thinned m limit at n) → at′ j ≡ at (getD (thinned m limit at n) j 0))
+      → thinnedPoints m limit at′ (length (thinnedPoints m limit at n)) ≡ thinnedPoints m limit at n
+  unfolding thinnedPoints
+  points-again at at′ n h =
+      let ks = thinned m limit at n in
+      let e : length (map at ks) ≡ length ks = length-map ks at in
+      ap (λ (k : ℕ). map at′ (thinned m limit at′ k)) e
+      ∙ ap (map at′) (thinned-again at at′ n h)
+      ∙ ap (λ (k : ℕ). map at′ (run 0 k)) (sym e)
+      ∙ map-run (at 0) (map at ks) at′ 0 (λ j l. let q : 0 + j ≡ j = omega arith in rw q (h j (omega (arith, e)) ∙ sym (getD-map at ks j 0 (at 0) (omega (arith, e)))))
+
   -- a list, thinned twice
   pub list-again : (d : P) (ps : List P) → thinList m limit d (thinList m limit d ps) ≡ thinList m limit d ps
   unfolding thinnedPoints
   list-again d ps =
       let at : ℕ → P = λ i. getD ps i d in
-      let ks = thinned m limit at (length ps) in
-      let ps′ = map at ks in
-      let e : length ps′ ≡ length ks = length-map ks at in
-      ap (λ (k : ℕ). map (λ i. getD ps′ i d) (thinned m limit (λ i. getD ps′ i d) k)) e
-      ∙ ap (map (λ i. getD ps′ i d)) (thinned-again at (λ i. getD ps′ i d) (length ps) (λ j l. getD-map at ks j 0 d l))
-      ∙ ap (λ (k : ℕ). map (λ i. getD ps′ i d) (run 0 k)) (sym e)
-      ∙ map-run d ps′ (λ i. getD ps′ i d) 0 (λ j l. let q : 0 + j ≡ j = omega arith in rw q)
+      points-again at (λ i. getD (map at (thinned m limit at (length ps))) i d) (length ps) (λ j l. getD-map at (thinned m limit at (length ps)) j 0 d l)

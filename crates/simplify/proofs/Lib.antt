@@ -3,6 +3,7 @@ pub mod First
 pub mod Kept
 pub mod Near
 pub mod Again
+pub mod Twice
 pub mod Flags
 pub mod Copy
 pub mod InPlace

@@ -3,6 +3,7 @@ pub mod Farthest
 pub mod Thin
 pub mod Data
 pub mod Simplify
+pub mod Twice
 pub mod Words
 pub mod Flags
 pub mod Search

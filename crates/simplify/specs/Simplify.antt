@@ -10,9 +10,9 @@ use Rattle.geo.specs.declared.types.Point.{Point}
 use Rattle.geo.specs.declared.types.Point3D.{Point3D}
 use Rattle.geo.specs.declared.types.Command.{Command}
 use Rattle.geo.specs.Outcome.{Row, row, refusal, Outcome, unless}
-use Rattle.geo.specs.Lent.{pairAt, pointAt, commandAt}
+use Rattle.geo.specs.Lent.{pair, triple, pairAt, pointAt, commandAt}
 use Rattle.geo.specs.Domain.{whole, coordinate, numbersIn, tolerance, commandsFormed, commandsIn}
-use Rattle.simplify.specs.Measure.{planeSq, lineSq}
+use Rattle.simplify.specs.Measure.{Measure, planeSq, lineSq}
 use Rattle.simplify.specs.Thin.{thinnedPoints}
 use Rattle.simplify.specs.Data.{thinnedCommands}
 
@@ -27,15 +27,33 @@ pointRows width s t room =
     ∷ row 9 (ltb (room / width) (length s / width))
     ∷ []
 
+-- Points as they are lent: how many numbers each has, how one is laid out, how the i-th is read, and how points are measured.
+pub record Form (P : Type 0) : Type 0 where
+  pub width : ℕ
+  pub lay : P → List Float
+  pub read : List Float → ℕ → P
+  pub measure : Measure P
+
+-- points of a form, thinned
+abbrev pub simplifyForm : {P : Type 0} → Form P → List Float → Float → ℕ → Outcome (List P)
+simplifyForm f s t room =
+    unless (refusal (pointRows (f .width) s t room)) (thinnedPoints (f .measure) (t ⊗ t) (f .read s) (length s / f .width))
+
 -- simplify_polyline: pairs
+abbrev pub pairs : Form Point
+pairs = record { width = 2; lay = pair; read = pairAt; measure = planeSq }
+
 unfoldable pub simplifyPolyline : List Float → Float → ℕ → Outcome (List Point)
 unfolding refusal unless planeSq thinnedPoints pairAt
-simplifyPolyline s t room = unless (refusal (pointRows 2 s t room)) (thinnedPoints planeSq (t ⊗ t) (pairAt s) (length s / 2))
+simplifyPolyline s t room = simplifyForm pairs s t room
 
 -- simplify_polyline_3d: triples
+abbrev pub triples : Form Point3D
+triples = record { width = 3; lay = triple; read = pointAt; measure = lineSq }
+
 unfoldable pub simplifyPolyline3d : List Float → Float → ℕ → Outcome (List Point3D)
 unfolding refusal unless lineSq thinnedPoints pointAt
-simplifyPolyline3d s t room = unless (refusal (pointRows 3 s t room)) (thinnedPoints lineSq (t ⊗ t) (pointAt s) (length s / 3))
+simplifyPolyline3d s t room = simplifyForm triples s t room
 
 -- ---- commands: what is refused of the kinds ks, the numbers ns, the tolerance t and outputs of `kinds` kinds and `numbers` numbers
 abbrev pub commandRows : List ℕ → List Float → Float → ℕ → ℕ → List Row

@@ -2,7 +2,7 @@
 use super::bezier::{items, pairs, triple, words_of_pairs, words_of_triples};
 use super::calls::{rt_simplify_data, rt_simplify_polyline, rt_simplify_polyline_3d};
 use super::draw::Draw;
-use super::frame::{Call, Compared, Function};
+use super::frame::{Call, Compared, Function, Outcome};
 use super::lent::{Lent, patterns};
 use super::shapes::{self, tolerance_for};
 use super::table::{self, refusal};
@@ -64,7 +64,39 @@ fn on_points(function: &'static str, list: &[f64], width: usize, tolerance: f64,
     }
 }
 
+/// What two calls leave, one after the other, where the first is accepted.
+fn joined(first: Outcome, second: Outcome) -> Outcome {
+    Outcome { number: second.number, lent: [first.lent, second.lent].concat() }
+}
+
+/// An accepted call, and behind it the same on the points that it gave, lent as it wrote them: "they expect the points
+/// they saw" (document 02, §1). Of both the memory is compared.
+fn and_again(first: Compared, width: usize, thin: impl FnOnce(&[f64], usize) -> Compared) -> Compared {
+    if first.given.number != 0 || first.proved != first.given {
+        return first;
+    }
+    let size = width * first.count() as usize;
+    let kept: Vec<f64> = first.proved.lent[0].words()[..size].iter().map(|word| f64::from_bits(*word)).collect();
+    let second = thin(&kept, size);
+    Compared {
+        function: first.function,
+        arguments: first.arguments,
+        proved: joined(first.proved, second.proved),
+        given: joined(first.given, second.given),
+    }
+}
+
 pub fn pairs_of(list: &[f64], tolerance: f64, room: usize) -> Compared {
+    let thin = |list: &[f64], room: usize| thin_pairs(list, tolerance, room);
+    and_again(thin(list, room), 2, thin)
+}
+
+pub fn triples_of(list: &[f64], tolerance: f64, room: usize) -> Compared {
+    let thin = |list: &[f64], room: usize| thin_triples(list, tolerance, room);
+    and_again(thin(list, room), 3, thin)
+}
+
+fn thin_pairs(list: &[f64], tolerance: f64, room: usize) -> Compared {
     on_points("simplify_polyline", list, 2, tolerance, room).compare(
         |lent| unsafe {
             let (out, count, points) = (lent[0].as_mut_ptr(), lent[1].as_mut_ptr(), lent[2].as_mut_ptr());
@@ -78,7 +110,7 @@ pub fn pairs_of(list: &[f64], tolerance: f64, room: usize) -> Compared {
     )
 }
 
-pub fn triples_of(list: &[f64], tolerance: f64, room: usize) -> Compared {
+fn thin_triples(list: &[f64], tolerance: f64, room: usize) -> Compared {
     on_points("simplify_polyline_3d", list, 3, tolerance, room).compare(
         |lent| unsafe {
             let (out, count, points) = (lent[0].as_mut_ptr(), lent[1].as_mut_ptr(), lent[2].as_mut_ptr());
