@@ -9,7 +9,7 @@ use lib.Seq.{take-all}
 use lib.Ieee.{Float}
 use Rattle.geo.specs.declared.types.Answer.the-variants.{Refused}
 use Rattle.geo.specs.Outcome.{answer, left, Wrote}
-use Rattle.geo.proofs.Rows.{wrote-same}
+use Rattle.geo.proofs.Outcomes.{wrote-same}
 use Rattle.file.specs.Bytes.{numberAt}
 use Rattle.lap_rows.specs.Listing.{listFile}
 use Rattle.lapfit.specs.Input.{listInput}
