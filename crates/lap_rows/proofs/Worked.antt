@@ -25,8 +25,7 @@ use Rattle.trial.specs.Trial.{sharpTurn, sharpAt, closedRange, trialRound, tria
 use Rattle.fitting.specs.Commands.{normalOf, shaped, pieceCommand, fitIn}
 use Rattle.fitting.specs.Pieces.{rooted, lineDeviation, arcOrCut, chooseBy, choice, follow, piecesBy}
 use Rattle.geo.specs.Vector as vector
-use Rattle.records.specs.Words.{halfAt, wordAt}
-use Rattle.file.specs.Bytes.{u32Bytes, f64Bytes, numberAt}
+use Rattle.file.specs.Bytes.{halfAt, wordAt, u32Bytes, f64Bytes, numberAt}
 use Rattle.file.specs.Command.{pointFrom, decoded, wellFormed, commandsAt, enc}
 use Rattle.course.specs.Parts as parts
 use Rattle.course.specs.Parts.{closed, carried, partsFrom, partMost}

@@ -10,8 +10,7 @@ use lib.ListN.{length, getD, take, drop, take-append-drop, drop-of-length-le}
 use lib.Seq.{drop-cons, drop-drop, take-add}
 use lib.Dec.{eqb}
 use Rattle.floats.proofs.Order.{and-left, and-right}
-use Rattle.records.specs.Words.{halfAt}
-use Rattle.file.specs.Bytes.{u32Bytes}
+use Rattle.file.specs.Bytes.{halfAt, u32Bytes}
 use Rattle.laps.specs.File.{lapCount, offsetAt, countAt, lapsAt, lapsOf, table, bodies, mark, encode, hasMark, walk, tableOk}
 use Rattle.laps.specs.Demand.{Bytes}
 use Rattle.laps.proofs.Here.{Here, step, start, cond-false}

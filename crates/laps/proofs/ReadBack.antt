@@ -7,8 +7,7 @@ use native.Mathlib.Omega.{arith}
 use borrow.Author.Tests.{eq-eqb, ne-eqb, le-ltb}
 use lib.ListN.{length, take, drop}
 use lib.Seq.{drop-drop, take-at, drop-at}
-use Rattle.records.specs.Words.{halfAt}
-use Rattle.file.specs.Bytes.{u32Bytes}
+use Rattle.file.specs.Bytes.{halfAt, u32Bytes}
 use Rattle.file.specs.Command.{commandsAt}
 use Rattle.file.proofs.RoundTrip.{half-back}
 use Rattle.laps.specs.File.{Lap, lapCount, offsetAt, countAt, lapsAt, lapsOf, body, table, bodies, encode, hasMark, walk, tableOk}

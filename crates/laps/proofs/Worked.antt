@@ -30,8 +30,7 @@ use Rattle.fitting.specs.Commands.{normalOf, shaped, pieceCommand, fitIn}
 use Rattle.fitting.specs.Pieces.{rooted, lineDeviation, arcOrCut, chooseBy, choice, follow, piecesBy}
 use Rattle.bezier.specs.Linearize.{steps, firstThird, lastThird, polygonLength, stepCount, stepsNeeded, paramSteps}
 use Rattle.geo.specs.Vector as vector
-use Rattle.records.specs.Words.{halfAt}
-use Rattle.file.specs.Bytes.{u32Bytes}
+use Rattle.file.specs.Bytes.{halfAt, u32Bytes}
 use Rattle.laps.specs.File.{lapCount, lapsAt, lapsOf, bodies, table, encode, short, big, hasMark, walk, tableOk, lapsOk}
 use Rattle.laps.specs.Fit.{lapsMost}
 use Rattle.laps.specs.Calls as file

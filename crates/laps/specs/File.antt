@@ -8,8 +8,7 @@ use lib.Seq.{sets}
 use lib.Dec.{ltb, eqb}
 use Rattle.floats.specs.Ops.{if_then_else_}
 use Rattle.geo.specs.Domain.{commandIn}
-use Rattle.records.specs.Words.{halfAt}
-use Rattle.file.specs.Bytes.{u32Bytes}
+use Rattle.file.specs.Bytes.{halfAt, u32Bytes}
 use Rattle.file.specs.Command.{commandsAt, decoded, wellFormed}
 
 -- the commands of a lap, each of 73 bytes

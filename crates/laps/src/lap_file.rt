@@ -1,9 +1,9 @@
 // The lap file: its head, its table and its rows.
+use file::bytes::half_at;
 use file::bytes::put_u32;
 use file::command::is_well_formed;
 use file::command::read_command;
 use geo::domain::command_in;
-use records::half_at;
 ghost use mathlib.Core.Path.{_≡_};
 ghost use mathlib.Core.Bool.{true};
 ghost use mathlib.Core.List.{_++_};
