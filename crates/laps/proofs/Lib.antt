@@ -4,16 +4,8 @@ pub mod Sets
 pub mod Whole
 pub mod Going
 pub mod Copy
-pub mod Cap
-pub mod Lap
-pub mod Arrays
 pub mod Turns
-pub mod Swap
 pub mod Rows
 pub mod ReadBack
 pub mod Canonical
-pub mod Replaced
-pub mod New
-pub mod Accepted
-pub mod Demand
-pub mod Worked
+pub mod Laps

@@ -93,8 +93,8 @@ fn call(
     requires { ⌜ (n ≤ length (now numbers)) × (room ≤ length (now out)) ⌝ }
 {
     match function {
-        0 => laps::fit::fit_file(recorded, tolerance, &mut out[..room]),
-        1 => laps::replace::replace_lap(
+        0 => lap_fit::fit::fit_file(recorded, tolerance, &mut out[..room]),
+        1 => lap_replace::replace::replace_lap(
             recorded,
             fitted,
             lap,
