@@ -3,7 +3,8 @@ use crate::counts::hand_on;
 ghost use mathlib.Core.List.{List};
 ghost use Prim.Native.Nat.{ℕ};
 ghost use lib.ListN.{length};
-ghost use Rattle.laps.specs.Calls.{fitFile, replaceLap};
+ghost use Rattle.lap_fit.specs.Fit.{fitFile};
+ghost use Rattle.lap_replace.specs.Replace.{replaceLap};
 ghost use Rattle.exports.specs.Plain.{Listed};
 
 // Fits each lap of a recorded file.
@@ -16,7 +17,7 @@ pub extern "C" fn rt_fit_file(
 ) -> u32
     ensures { λ r. ⌜ Listed (λ (bytes : List ℕ). bytes) (fitFile (now (recorded .entry)) tolerance (length (now (out .entry)))) (now (out .entry)) (now (out .exit)) (now (count .entry)) (now (count .exit)) r ⌝ }
 {
-    let a = laps::fit::fit_file(recorded, tolerance, out);
+    let a = lap_fit::fit::fit_file(recorded, tolerance, out);
     hand_on(a, count)
 }
 
@@ -34,6 +35,6 @@ pub extern "C" fn rt_replace_lap(
 ) -> u32
     ensures { λ r. ⌜ Listed (λ (bytes : List ℕ). bytes) (replaceLap (now (recorded .entry)) (now (fitted .entry)) lap (now (kinds .entry)) (now (nums .entry)) tolerance (length (now (out .entry)))) (now (out .entry)) (now (out .exit)) (now (count .entry)) (now (count .exit)) r ⌝ }
 {
-    let a = laps::replace::replace_lap(recorded, fitted, lap, kinds, nums, tolerance, out);
+    let a = lap_replace::replace::replace_lap(recorded, fitted, lap, kinds, nums, tolerance, out);
     hand_on(a, count)
 }

@@ -9,13 +9,12 @@ use lib.Seq.{getD-drop, drop-drop}
 use lib.Dec.{T}
 use lib.Ieee.{Float, binary64, ofBits, toBits, fits}
 use lib.Ieee.Bits.{ofBits-toBits, toBits-lt, ofBits-fits}
-use Rattle.records.specs.Words.{halfAt, wordAt}
 use Rattle.geo.specs.declared.types.Point3D.{Point3D}
 use Rattle.geo.specs.declared.types.Command.{Command}
 use Rattle.geo.specs.declared.types.Command.the-variants.{Move, Line, Arc, Bezier}
 use Rattle.geo.specs.Lent.{flat, origin, commandOf}
 use Rattle.geo.specs.Domain.{formed}
-use Rattle.file.specs.Bytes.{u32Bytes, f64Bytes, numberAt}
+use Rattle.file.specs.Bytes.{halfAt, wordAt, u32Bytes, f64Bytes, numberAt}
 use Rattle.file.specs.Command.{pointFrom, decoded, wellFormed, laid, enc, HeldPoint}
 use Rattle.file.proofs.Stores.{enc-move, enc-line, enc-arc, enc-bezier}
 

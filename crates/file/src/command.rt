@@ -16,6 +16,9 @@ ghost use Rattle.geo.specs.Lent.{flat, triple, kindOf, numbersOf, commandsFrom}
 ghost use Rattle.file.specs.Bytes.{f64Bytes};
 ghost use Rattle.file.specs.Command.{pointFrom, decoded, wellFormed, laid, enc, commandsAt};
 
+// "A command has 73 bytes: kind, nine numbers".
+pub const COMMAND_BYTES: usize = 73;
+
 // The point whose three numbers stand from `at` on.
 fn point_from(s: &[u8], at: usize) -> Point3D
     requires { ⌜ at + 24 ≤ length (now s) ⌝ }
@@ -100,7 +103,7 @@ pub fn read_commands(s: &[u8], at: usize, n: usize, kinds: &mut [u8], nums: &mut
 {
     let mut b = at;
     for i in 0..n {
-        let e = b + 73;
+        let e = b + COMMAND_BYTES;
         put_command(kinds, nums, i, read_command(&s[b..e]));
         b = e;
     }
@@ -114,6 +117,6 @@ pub fn write_commands(kinds: &[u8], nums: &[f64], n: usize, out: &mut [u8], to: 
     let mut t = to;
     for i in 0..n {
         write_command(out, t, command_at(kinds, nums, i));
-        t += 73;
+        t += COMMAND_BYTES;
     }
 }

@@ -16,7 +16,7 @@ use Rattle.course.specs.Course.{courseParts, courseMost}
 use Rattle.listing.specs.Rows.{Row, courseRows, stepsIn, total, chainsSteps}
 use Rattle.listing.proofs.Laws.{course-steps, course-rows-few}
 use Rattle.laps.specs.File.{Lap}
-use Rattle.laps.specs.Fit.{mostLap}
+use Rattle.lap_fit.specs.Fit.{mostLap}
 use Rattle.lap_rows.specs.Listing.{lapRows, lapText, Short}
 use Rattle.lap_rows.proofs.Text.{lines-length}
 

@@ -19,13 +19,14 @@ use Rattle.course.specs.Course.{courseFit}
 use Rattle.listing.specs.Rows.{chainRows, partRows, rowsOf, courseRows}
 use Rattle.listing.proofs.Laws.{course-kinds, course-steps}
 use Rattle.laps.specs.File.{lapCount, lapsOf}
-use Rattle.laps.specs.Fit.{lapsMost, fileSize}
-use Rattle.laps.specs.Calls.{fileRows, fileFitRows}
-use Rattle.laps.specs.Demand.{lapAt}
+use Rattle.laps.specs.Rows.{fileSize, fileRows}
+use Rattle.laps.proofs.Rows.{FilePassed, file-passed, size-8, size-0}
 use Rattle.laps.proofs.Walks.{not-big}
-use Rattle.laps.proofs.Rows.{FilePassed, file-passed, fit-6, fit-sizes, size-8, size-0}
-use Rattle.laps.proofs.Accepted.{accepted}
-use Rattle.laps.proofs.Demand.{laps-are-fitted}
+use Rattle.lap_fit.specs.Fit.{lapsMost, fileFitRows}
+use Rattle.lap_fit.proofs.Accepted.{accepted}
+use Rattle.lap_fit.proofs.Rows.{fit-6, fit-sizes}
+use Rattle.lap_replace.specs.Demand.{lapAt}
+use Rattle.lap_replace.proofs.Demand.{laps-are-fitted}
 use Rattle.lap_rows.specs.Listing.{digitsBy, decimal, lapRows, mostText, textRows, listFile}
 use Rattle.lap_rows.specs.Demand.{spelled, DigitsSpell, NoZeroInFront, RefusedAlike, EachIsListed, kindByte, KindsOfTheFit, RowsOfTheParts, RowsOfAChain, StepsOfTheChains}
 use Rattle.lap_rows.proofs.Decimal.{last-digit, next-digit}

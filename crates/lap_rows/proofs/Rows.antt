@@ -12,9 +12,9 @@ use Rattle.geo.specs.Outcome as table
 use Rattle.geo.specs.Outcome.{refusal}
 use Rattle.geo.proofs.Rows.{row-fails, row-passes, row-passed, refusal-front, done}
 use Rattle.laps.specs.File.{lapsOf}
-use Rattle.laps.specs.Fit.{lapsMost}
-use Rattle.laps.specs.Calls.{fileRows}
+use Rattle.laps.specs.Rows.{fileRows}
 use Rattle.laps.proofs.Rows.{FilePassed, file-passed, behind-file}
+use Rattle.lap_fit.specs.Fit.{lapsMost}
 use Rattle.lap_rows.specs.Listing.{mostText, textRows}
 
 -- rows in front of others that pass

@@ -12,9 +12,9 @@ use Rattle.course.specs.Course.{courseParts}
 use Rattle.course.specs.Demand.{chainPieces}
 use Rattle.listing.specs.Rows.{pieceRow, partRows, kindsOf, stepsIn, total, chainsSteps}
 use Rattle.laps.specs.File.{lapCount, lapsOf}
-use Rattle.laps.specs.Fit.{fileSize}
-use Rattle.laps.specs.Calls.{fileFitRows, fitFile}
-use Rattle.laps.specs.Demand.{lapAt}
+use Rattle.laps.specs.Rows.{fileSize}
+use Rattle.lap_fit.specs.Fit.{fileFitRows, fitFile}
+use Rattle.lap_replace.specs.Demand.{lapAt}
 use Rattle.lap_rows.specs.Listing.{decimal, lapRows, listText, mostText, textRows, listFile}
 
 -- ---- the text

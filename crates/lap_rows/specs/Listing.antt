@@ -19,8 +19,8 @@ use Rattle.geo.specs.Walk.{listFrom}
 use Rattle.file.specs.Command.{decoded}
 use Rattle.listing.specs.Rows.{Row, letterOf, courseRows}
 use Rattle.laps.specs.File.{Lap, lapsOf}
-use Rattle.laps.specs.Fit.{lapsMost}
-use Rattle.laps.specs.Calls.{fileRows}
+use Rattle.laps.specs.Rows.{fileRows}
+use Rattle.lap_fit.specs.Fit.{lapsMost}
 
 -- ---- text
 -- the bytes of a text of ASCII characters

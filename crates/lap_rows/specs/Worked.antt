@@ -6,9 +6,9 @@ use Rattle.geo.specs.declared.types.Command.{Command}
 use Rattle.geo.specs.declared.types.Command.the-variants.{Move, Line}
 use Rattle.geo.specs.Outcome.{gives}
 use Rattle.file.specs.Command.{enc}
-use Rattle.laps.specs.File.{encode}
 use Rattle.floats.specs.Limits.{fraction}
-use Rattle.laps.specs.Worked.{point}
+use Rattle.laps.specs.File.{encode}
+use Rattle.lap_replace.specs.Worked.{point}
 use Rattle.lap_rows.specs.Listing.{ascii, listFile}
 
 -- "as one lap of a Move and two Lines"

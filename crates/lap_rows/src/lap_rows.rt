@@ -1,8 +1,12 @@
 // The listing of a recorded file as text: a line for each row of `listing`, for the commands of each lap.
+use file::command::COMMAND_BYTES;
 use file::command::read_commands;
 use geo::domain::is_within;
 use geo::types::Answer;
-use laps::fit::most_of;
+use lap_fit::fit::CHAIN_NUMBERS;
+use lap_fit::fit::most_of;
+use laps::lap_file::MOST_COMMANDS;
+use laps::lap_file::MOST_NUMBERS;
 use laps::lap_file::check_file;
 use laps::lap_file::count_at;
 use laps::lap_file::lap_count;
@@ -18,7 +22,7 @@ ghost use Rattle.geo.specs.Outcome.{refusal, Wrote};
 ghost use Rattle.file.specs.Command.{commandsAt};
 ghost use Rattle.listing.specs.Rows.{RowsPlaced};
 ghost use Rattle.laps.specs.File.{lapCount, lapsOf, tableOk};
-ghost use Rattle.laps.specs.Fit.{mostLap, lapsMost};
+ghost use Rattle.lap_fit.specs.Fit.{mostLap, lapsMost};
 ghost use Rattle.lap_rows.specs.Listing.{decimal, rowText, rowsText, lapRows, lapText, listText, mostText, textRows, listFile, TextPut, listed, rowsFrom, Short};
 
 // Writes a number's decimal digits from `at` on, and answers where they end.
@@ -134,11 +138,11 @@ fn list_laps(s: &[u8], tolerance: f64, out: &mut [u8]) -> usize
     requires { ⌜ ((+0 ≺ tolerance) ≡ true) × (8 ≤ length (now s)) × (tableOk (now s) ≡ true) × (lapCount (now s) ≤ 64) × (lapsMost tolerance (lapsOf (now s)) ≤ 800) × (mostText (lapsMost tolerance (lapsOf (now s))) ≤ length (now out)) ⌝ }
     ensures { λ r. ⌜ (r ≡ length (listText tolerance (lapsOf (now (s .entry))))) × (now (out .exit) ≡ listText tolerance (lapsOf (now (s .entry))) ++ drop (length (listText tolerance (lapsOf (now (s .entry))))) (now (out .entry))) ⌝ }
 {
-    let mut kinds = [0u8; 800];
-    let mut nums = [0.0f64; 7200];
-    let mut chain = [0.0f64; 2403];
-    let mut row_kinds = [0u8; 800];
-    let mut row_steps = [0usize; 800];
+    let mut kinds = [0u8; MOST_COMMANDS];
+    let mut nums = [0.0f64; MOST_NUMBERS];
+    let mut chain = [0.0f64; CHAIN_NUMBERS];
+    let mut row_kinds = [0u8; MOST_COMMANDS];
+    let mut row_steps = [0usize; MOST_COMMANDS];
     let mut to = bytes::copy(b"lap,kind,steps\n", out);
     let l = lap_count(s);
     let mut at = 8 + 8 * l;
@@ -159,7 +163,7 @@ fn list_laps(s: &[u8], tolerance: f64, out: &mut [u8]) -> usize
             out,
             to,
         );
-        at += 73 * n;
+        at += COMMAND_BYTES * n;
         j += 1;
     }
     to
@@ -177,7 +181,7 @@ fn check_text(s: &[u8], tolerance: f64, room: usize) -> u32
         return 6;
     }
     let most = most_of(s, tolerance);
-    if 800 < most {
+    if MOST_COMMANDS < most {
         return 8;
     }
     if room < 15 + 9 * most {

@@ -10,14 +10,12 @@ use lib.ListN.{length, getD, take, drop, take-append-drop, drop-of-length-le}
 use lib.Seq.{drop-cons, drop-drop, take-add}
 use lib.Dec.{eqb}
 use Rattle.floats.proofs.Order.{and-left, and-right}
-use Rattle.records.specs.Words.{halfAt}
-use Rattle.file.specs.Bytes.{u32Bytes}
-use Rattle.laps.specs.File.{lapCount, offsetAt, countAt, lapsAt, lapsOf, table, bodies, mark, encode, hasMark, walk, tableOk}
-use Rattle.laps.specs.Demand.{Bytes}
-use Rattle.laps.proofs.Here.{Here, step, start, cond-false}
-use Rattle.laps.proofs.Lap.{length-commands}
+use Rattle.file.specs.Bytes.{halfAt, u32Bytes}
+use Rattle.laps.specs.File.{lapCount, offsetAt, countAt, lapsAt, lapsOf, table, bodies, mark, encode, hasMark, walk, tableOk, Bytes}
 use Rattle.laps.proofs.Copy.{body-commands}
+use Rattle.laps.proofs.Here.{Here, step, start, cond-false}
 use Rattle.laps.proofs.Turns.{length-laps-of}
+use Rattle.laps.proofs.Whole.{length-commands}
 
 four : (s : List ℕ) (at : ℕ) → at + 4 ≤ length s → take 4 (drop at s) ≡ getD s at 0 ∷ getD s (at + 1) 0 ∷ getD s (at + 2) 0 ∷ getD s (at + 3) 0 ∷ []
 four s at h =

@@ -7,9 +7,8 @@ use lib.ListN.{length, drop, length-append}
 use lib.Seq.{sets, length-sets}
 use Rattle.geo.proofs.Stores.{sets-append, sets-front}
 use Rattle.file.specs.Bytes.{u32Bytes}
-use Rattle.laps.specs.File.{Lap, body, table, bodies, mark, encode}
+use Rattle.laps.specs.File.{Lap, body, table, bodies, mark, encode, AllFull, commandCount}
 use Rattle.laps.proofs.Sets.{sets-past}
-use Rattle.laps.specs.Demand.{AllFull, commandCount}
 use Rattle.laps.proofs.Whole.{length-body, length-table, length-encode}
 
 -- the stores of the laps from entry j on, the first body at `to`

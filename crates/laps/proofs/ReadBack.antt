@@ -7,18 +7,16 @@ use native.Mathlib.Omega.{arith}
 use borrow.Author.Tests.{eq-eqb, ne-eqb, le-ltb}
 use lib.ListN.{length, take, drop}
 use lib.Seq.{drop-drop, take-at, drop-at}
-use Rattle.records.specs.Words.{halfAt}
-use Rattle.file.specs.Bytes.{u32Bytes}
+use Rattle.file.specs.Bytes.{halfAt, u32Bytes}
 use Rattle.file.specs.Command.{commandsAt}
 use Rattle.file.proofs.RoundTrip.{half-back}
-use Rattle.laps.specs.File.{Lap, lapCount, offsetAt, countAt, lapsAt, lapsOf, body, table, bodies, encode, hasMark, walk, tableOk}
-use Rattle.laps.specs.Demand.{EachFull, AllFull, commandCount}
+use Rattle.laps.specs.File.{Lap, lapCount, offsetAt, countAt, lapsAt, lapsOf, body, table, bodies, encode, hasMark, walk, tableOk, EachFull, AllFull, commandCount}
 use Rattle.laps.proofs.Whole.{length-body, length-table, length-encode}
 
 read-u32 : (s : List ℕ) (at n : ℕ) (r : List ℕ) → drop at s ≡ u32Bytes n ++ r → n < 4294967296 → halfAt s at ≡ n
 read-u32 s at n r e h = let q : n % 4294967296 ≡ n = omega arith in half-back s at n r e ∙ q
 
-commands-back : (l : Lap) (s : List ℕ) (at : ℕ) (r : List ℕ) → drop at s ≡ body l ++ r → EachFull l → commandsAt s at (length l) ≡ l
+pub commands-back : (l : Lap) (s : List ℕ) (at : ℕ) (r : List ℕ) → drop at s ≡ body l ++ r → EachFull l → commandsAt s at (length l) ≡ l
 unfolding commandsAt body
 commands-back [] s at r e w = refl
 commands-back (c ∷ l) s at r e w =

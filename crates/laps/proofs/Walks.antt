@@ -8,46 +8,46 @@ use borrow.Author.Tests.{eq-eqb, ne-eqb, lt-ltb, le-ltb, ltb-false}
 use lib.ListN.{length, take, drop}
 use lib.Dec.{T, eqb, ltb}
 use Rattle.file.specs.Command.{commandsAt}
-use Rattle.laps.specs.File.{lapCount, offsetAt, countAt, lapsAt, hasMark, walk, tableOk, holds, lapOk, lapsOk, short, big}
+use Rattle.laps.specs.File.{lapCount, offsetAt, countAt, lapsAt, hasMark, walk, tableOk, lapOk, lapsOk, short, big}
 
 -- ---- the commands of a lap
-lap-step : (row : ℕ) (first : Bool) (s : List ℕ) (b n i : ℕ) → i < n
-    → lapOk row first (commandsAt s b (n - i)) ≡ cond (holds row first (take 73 (drop b s))) (lapOk row false (commandsAt s (b + 73) (n - (i + 1)))) false
+lap-step : (test : Bool → List ℕ → Bool) (first : Bool) (s : List ℕ) (b n i : ℕ) → i < n
+    → lapOk test first (commandsAt s b (n - i)) ≡ cond (test first (take 73 (drop b s))) (lapOk test false (commandsAt s (b + 73) (n - (i + 1)))) false
 unfolding lapOk commandsAt
-lap-step row first s b n i h = let e : n - i ≡ suc (n - (i + 1)) = omega arith in rw e
+lap-step test first s b n i h = let e : n - i ≡ suc (n - (i + 1)) = omega arith in rw e
 
-module _ (row : ℕ) (s : List ℕ) (b n i : ℕ) (t : Bool) (h : i < n) (r : Bool) (q : r ≡ holds row (eqb i 0) (take (b + 73 - b) (drop b s)))
-    (v : lapOk row (eqb i 0) (commandsAt s b (n - i)) ≡ t) where
-  whole : r ≡ holds row (eqb i 0) (take 73 (drop b s))
+module _ (test : Bool → List ℕ → Bool) (s : List ℕ) (b n i : ℕ) (t : Bool) (h : i < n) (r : Bool) (q : r ≡ test (eqb i 0) (take (b + 73 - b) (drop b s)))
+    (v : lapOk test (eqb i 0) (commandsAt s b (n - i)) ≡ t) where
+  whole : r ≡ test (eqb i 0) (take 73 (drop b s))
   whole = let e : b + 73 - b ≡ 73 = omega arith in rw e at q
 
-  pub lap-go : r ≡ true → lapOk row (eqb (i + 1) 0) (commandsAt s (b + 73) (n - (i + 1))) ≡ t
-  lap-go y = rw (ne-eqb (i + 1) 0 (λ z. omega arith)) (sym (lap-step row (eqb i 0) s b n i h ∙ rw (sym whole ∙ y)) ∙ v)
+  pub lap-go : r ≡ true → lapOk test (eqb (i + 1) 0) (commandsAt s (b + 73) (n - (i + 1))) ≡ t
+  lap-go y = rw (ne-eqb (i + 1) 0 (λ z. omega arith)) (sym (lap-step test (eqb i 0) s b n i h ∙ rw (sym whole ∙ y)) ∙ v)
 
   pub lap-stop : r ≡ false → false ≡ t
-  lap-stop y = sym (lap-step row (eqb i 0) s b n i h ∙ rw (sym whole ∙ y)) ∙ v
+  lap-stop y = sym (lap-step test (eqb i 0) s b n i h ∙ rw (sym whole ∙ y)) ∙ v
 
-pub lap-end : (row : ℕ) (first : Bool) (s : List ℕ) (b n i : ℕ) (t : Bool) → n ≤ i → lapOk row first (commandsAt s b (n - i)) ≡ t → true ≡ t
+pub lap-end : (test : Bool → List ℕ → Bool) (first : Bool) (s : List ℕ) (b n i : ℕ) (t : Bool) → n ≤ i → lapOk test first (commandsAt s b (n - i)) ≡ t → true ≡ t
 unfolding lapOk commandsAt
-lap-end row first s b n i t h v = (let e : n - i ≡ zero = omega arith in sym (rw e)) ∙ v
+lap-end test first s b n i t h v = (let e : n - i ≡ zero = omega arith in sym (rw e)) ∙ v
 
 -- ---- the laps of a file
-laps-step : (row : ℕ) (s : List ℕ) (j at l : ℕ) → j < l
-    → lapsOk row (lapsAt s j at (l - j)) ≡ cond (lapOk row true (commandsAt s at (countAt s j))) (lapsOk row (lapsAt s (j + 1) (at + 73 * countAt s j) (l - (j + 1)))) false
+laps-step : (test : Bool → List ℕ → Bool) (s : List ℕ) (j at l : ℕ) → j < l
+    → lapsOk test (lapsAt s j at (l - j)) ≡ cond (lapOk test true (commandsAt s at (countAt s j))) (lapsOk test (lapsAt s (j + 1) (at + 73 * countAt s j) (l - (j + 1)))) false
 unfolding lapsOk lapsAt
-laps-step row s j at l h = let e : l - j ≡ suc (l - (j + 1)) = omega arith in rw e
+laps-step test s j at l h = let e : l - j ≡ suc (l - (j + 1)) = omega arith in rw e
 
-module _ (row : ℕ) (s : List ℕ) (j at l n : ℕ) (t : Bool) (h : j < l) (e : n ≡ countAt s j) (r : Bool) (q : r ≡ lapOk row true (commandsAt s at n))
-    (v : lapsOk row (lapsAt s j at (l - j)) ≡ t) where
-  pub laps-go : r ≡ true → lapsOk row (lapsAt s (j + 1) (at + 73 * n) (l - (j + 1))) ≡ t
-  laps-go y = rw e (sym (laps-step row s j at l h ∙ rw (sym (rw e at q) ∙ y)) ∙ v)
+module _ (test : Bool → List ℕ → Bool) (s : List ℕ) (j at l n : ℕ) (t : Bool) (h : j < l) (e : n ≡ countAt s j) (r : Bool) (q : r ≡ lapOk test true (commandsAt s at n))
+    (v : lapsOk test (lapsAt s j at (l - j)) ≡ t) where
+  pub laps-go : r ≡ true → lapsOk test (lapsAt s (j + 1) (at + 73 * n) (l - (j + 1))) ≡ t
+  laps-go y = rw e (sym (laps-step test s j at l h ∙ rw (sym (rw e at q) ∙ y)) ∙ v)
 
   pub laps-stop : r ≡ false → false ≡ t
-  laps-stop y = sym (laps-step row s j at l h ∙ rw (sym (rw e at q) ∙ y)) ∙ v
+  laps-stop y = sym (laps-step test s j at l h ∙ rw (sym (rw e at q) ∙ y)) ∙ v
 
-pub laps-end : (row : ℕ) (s : List ℕ) (j at l : ℕ) (t : Bool) → l ≤ j → lapsOk row (lapsAt s j at (l - j)) ≡ t → true ≡ t
+pub laps-end : (test : Bool → List ℕ → Bool) (s : List ℕ) (j at l : ℕ) (t : Bool) → l ≤ j → lapsOk test (lapsAt s j at (l - j)) ≡ t → true ≡ t
 unfolding lapsOk lapsAt
-laps-end row s j at l t h v = (let e : l - j ≡ zero = omega arith in sym (rw e)) ∙ v
+laps-end test s j at l t h v = (let e : l - j ≡ zero = omega arith in sym (rw e)) ∙ v
 
 -- ---- the table
 pub walk-step : (s : List ℕ) (j at total l : ℕ) → j < l

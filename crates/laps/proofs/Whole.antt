@@ -1,37 +1,21 @@
 -- Laps whose commands have 73 bytes each, and the lengths of what is written of them. Assumes nothing.
 use Prim.Native.Nat.{ℕ, zero, suc, _+_, _*_, _≤_}
-use mathlib.Core.Path.{_≡_, refl, _∙_}
+use mathlib.Core.Path.{_≡_, refl, ap, _∙_}
 use mathlib.Core.List.{List, [], _∷_, map}
 use native.Mathlib.Omega.{arith}
-use lib.ListN.{length, length-append, length-take, length-drop}
-use lib.ListN.{getD}
+use lib.ListN.{length, length-append, length-take, length-drop, getD}
 use lib.Ieee.{Float}
 use Rattle.geo.specs.declared.types.Command.{Command}
 use Rattle.geo.specs.Walk.{listFrom}
 use Rattle.geo.specs.Lent.{pointAt}
 use Rattle.file.specs.Bytes.{u32Bytes}
-use Rattle.file.specs.Command.{commandsAt, decoded, enc, lentBytes, lentLap}
+use Rattle.file.specs.Command.{commandsAt, enc, lentBytes, lentLap}
 use Rattle.file.proofs.Stores.{length-enc, length-laid}
-use Rattle.course.specs.Course.{courseFit, lentCourse}
-use Rattle.laps.specs.File.{Lap, body, table, bodies, encode}
-use Rattle.laps.specs.Fit.{fitLap, fitNew}
-use Rattle.laps.specs.Demand.{EachFull, AllFull, commandCount}
+use Rattle.laps.specs.File.{Lap, body, table, bodies, encode, EachFull, AllFull, commandCount}
 
-whole-enc : (cs : List Command) → EachFull (map enc cs)
+pub whole-enc : (cs : List Command) → EachFull (map enc cs)
 whole-enc [] = tt
 whole-enc (c ∷ cs) = (length-enc c, whole-enc cs)
-
-pub whole-fit : (tol : Float) (l : Lap) → EachFull (fitLap tol l)
-unfolding fitLap
-whole-fit tol l = whole-enc (courseFit tol (map decoded l))
-
-pub wholes-fit : (tol : Float) (ls : List Lap) → AllFull (map (fitLap tol) ls)
-wholes-fit tol [] = tt
-wholes-fit tol (l ∷ ls) = (whole-fit tol l, wholes-fit tol ls)
-
-pub whole-new : (tol : Float) (ks : List ℕ) (ns : List Float) → EachFull (fitNew tol ks ns)
-unfolding fitNew
-whole-new tol ks ns = whole-enc (courseFit tol (lentCourse ks ns))
 
 whole-laid : (ks : List ℕ) (ns : List Float) (n i : ℕ) → EachFull (listFrom (lentBytes ks ns) n i)
 unfolding listFrom lentBytes
@@ -46,6 +30,11 @@ pub whole-commands : (s : List ℕ) (at n : ℕ) → at + 73 * n ≤ length s �
 unfolding commandsAt
 whole-commands s at zero h = tt
 whole-commands s at (suc n) h = (simp (length-take, length-drop) (omega arith), whole-commands s (at + 73) n (omega arith))
+
+pub length-commands : (s : List ℕ) (at n : ℕ) → length (commandsAt s at n) ≡ n
+unfolding commandsAt
+length-commands s at zero = refl
+length-commands s at (suc n) = ap suc (length-commands s (at + 73) n)
 
 pub length-body : (l : Lap) → EachFull l → length (body l) ≡ 73 * length l
 unfolding body

@@ -1,5 +1,5 @@
 -- The lap file as a list of laps, each a list of commands of 73 bytes as they stand (document 01, "The lap file"). Definitions only.
-use Prim.Native.Nat.{ℕ, zero, suc, _+_, _*_}
+use Prim.Native.Nat.{ℕ, zero, suc, _+_, _*_, _<_}
 use mathlib.Core.Bool.{Bool, true, false, not, _&&_, _||_}
 use mathlib.Core.List.{List, [], _∷_, _++_}
 use mathlib.Core.Path.{_≡_}
@@ -8,8 +8,9 @@ use lib.Seq.{sets}
 use lib.Dec.{ltb, eqb}
 use Rattle.floats.specs.Ops.{if_then_else_}
 use Rattle.geo.specs.Domain.{commandIn}
-use Rattle.records.specs.Words.{halfAt}
-use Rattle.file.specs.Bytes.{u32Bytes}
+use Rattle.file.specs.Bytes.{halfAt, u32Bytes}
+use Rattle.laps.specs.declared.lap_file.Check.{Check}
+use Rattle.laps.specs.declared.lap_file.Check.the-variants.{Form, Domain}
 use Rattle.file.specs.Command.{commandsAt, decoded, wellFormed}
 
 -- the commands of a lap, each of 73 bytes
@@ -63,6 +64,23 @@ pub record PutLap (l : Lap) (out out′ : List ℕ) (to n : ℕ) : Type 0 where
   pub count : n ≡ length l
   pub bytes : out′ ≡ sets out to (body l)
 
+-- what a slice of bytes holds
+abbrev pub Bytes : List ℕ → Type 0
+Bytes s = (i : ℕ) → getD s i 0 < 256
+
+-- laps of commands of 73 bytes, and how many these are
+abbrev pub EachFull : Lap → Type 0
+EachFull [] = Unit
+EachFull (c ∷ l) = (length c ≡ 73) × EachFull l
+
+abbrev pub AllFull : List Lap → Type 0
+AllFull [] = Unit
+AllFull (l ∷ ls) = EachFull l × AllFull ls
+
+unfoldable pub commandCount : List Lap → ℕ
+commandCount [] = 0
+commandCount (l ∷ ls) = length l + commandCount ls
+
 -- ---- row 1 and row 2 of one file: "a file under 8 bytes"; 65,536 bytes, 64 laps
 unfoldable pub short : List ℕ → Bool
 short s = ltb (length s) 8
@@ -97,23 +115,24 @@ unfoldable pub placed : Bool → ℕ → Bool
 placed true kind = eqb kind 0
 placed false kind = not (eqb kind 0)
 
--- row 4 of a command
+-- row 4 of a command, which stands first in its lap or not
 unfoldable pub formOk : Bool → List ℕ → Bool
 formOk first c = placed first (getD c 0 0) && wellFormed c
 
--- row 5 of a command
-unfoldable pub domainOk : List ℕ → Bool
-domainOk c = commandIn (decoded c)
+-- row 5 of a command, wherever it stands
+unfoldable pub domainOk : Bool → List ℕ → Bool
+domainOk first c = commandIn (decoded c)
 
--- row 4, or else row 5
-unfoldable pub holds : ℕ → Bool → List ℕ → Bool
-holds row first c = if eqb row 4 then formOk first c else domainOk c
+-- a test of each command of a lap, and of all laps
+unfoldable pub lapOk : (Bool → List ℕ → Bool) → Bool → Lap → Bool
+lapOk test first [] = true
+lapOk test first (c ∷ cs) = if test first c then lapOk test false cs else false
 
--- of a lap's commands, and of all laps
-unfoldable pub lapOk : ℕ → Bool → Lap → Bool
-lapOk row first [] = true
-lapOk row first (c ∷ cs) = if holds row first c then lapOk row false cs else false
+unfoldable pub lapsOk : (Bool → List ℕ → Bool) → List Lap → Bool
+lapsOk test [] = true
+lapsOk test (l ∷ ls) = if lapOk test true l then lapsOk test ls else false
 
-unfoldable pub lapsOk : ℕ → List Lap → Bool
-lapsOk row [] = true
-lapsOk row (l ∷ ls) = if lapOk row true l then lapsOk row ls else false
+-- the two tests, as the code names them
+unfoldable pub tested : Check → Bool → List ℕ → Bool
+tested Form = formOk
+tested Domain = domainOk

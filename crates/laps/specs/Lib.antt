@@ -1,5 +1,2 @@
 pub mod File
-pub mod Fit
-pub mod Calls
-pub mod Demand
-pub mod Worked
+pub mod Rows

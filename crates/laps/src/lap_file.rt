@@ -1,9 +1,10 @@
 // The lap file: its head, its table and its rows.
+use file::bytes::half_at;
 use file::bytes::put_u32;
+use file::command::COMMAND_BYTES;
 use file::command::is_well_formed;
 use file::command::read_command;
 use geo::domain::command_in;
-use records::half_at;
 ghost use mathlib.Core.Path.{_≡_};
 ghost use mathlib.Core.Bool.{true};
 ghost use mathlib.Core.List.{_++_};
@@ -13,8 +14,26 @@ ghost use lib.Seq.{sets};
 ghost use Rattle.geo.specs.Outcome.{refusal};
 ghost use Rattle.file.specs.Bytes.{u32Bytes};
 ghost use Rattle.file.specs.Command.{commandsAt};
-ghost use Rattle.laps.specs.File.{lapCount, offsetAt, countAt, lapsOf, mark, short, big, hasMark, walk, tableOk, placed, formOk, holds, lapOk, lapsOk};
-ghost use Rattle.laps.specs.Calls.{fileRows};
+ghost use Rattle.laps.specs.File.{lapCount, offsetAt, countAt, lapsOf, mark, short, big, hasMark, walk, tableOk, placed, formOk, tested, lapOk, lapsOk};
+ghost use Rattle.laps.specs.Rows.{fileRows, sizeRows};
+
+// The most that a file may have: "The lap count L, 0 to 64", "At most 800 commands and 65,536 bytes".
+pub const MOST_LAPS: usize = 64;
+
+pub const MOST_COMMANDS: usize = 800;
+
+pub const MOST_BYTES: usize = 65536;
+
+// The numbers of 800 commands, nine each.
+pub const MOST_NUMBERS: usize = 7200;
+
+// What is asked of each command of a lap.
+pub enum Check {
+    // row 4: its kind, its unused numbers, and where a Move stands
+    Form,
+    // row 5: its numbers
+    Domain,
+}
 
 // The lap count.
 pub fn lap_count(s: &[u8]) -> usize
@@ -52,10 +71,10 @@ pub fn too_big(s: &[u8]) -> bool
     requires { ⌜ 8 ≤ length (now s) ⌝ }
     ensures { λ r. ⌜ r ≡ big (now (s .entry)) ⌝ }
 {
-    if 65536 < s.len() {
+    if MOST_BYTES < s.len() {
         return true;
     }
-    64 < lap_count(s)
+    MOST_LAPS < lap_count(s)
 }
 
 // Whether the file starts with "LAPS".
@@ -91,10 +110,10 @@ fn walks(s: &[u8], l: usize) -> bool
         if n == 0 {
             return false;
         }
-        if 800 < total + n {
+        if MOST_COMMANDS < total + n {
             return false;
         }
-        at += 73 * n;
+        at += COMMAND_BYTES * n;
         total += n;
         j += 1;
     }
@@ -138,26 +157,26 @@ fn has_form(first: bool, c: &[u8]) -> bool
 }
 
 // Row 4 or row 5 of a command.
-fn passes(row: u32, first: bool, c: &[u8]) -> bool
+fn passes(check: Check, first: bool, c: &[u8]) -> bool
     requires { ⌜ 73 ≤ length (now c) ⌝ }
-    ensures { λ r. ⌜ r ≡ holds row first (now (c .entry)) ⌝ }
+    ensures { λ r. ⌜ r ≡ tested check first (now (c .entry)) ⌝ }
 {
-    if row == 4 {
-        return has_form(first, c);
+    match check {
+        Check::Form => has_form(first, c),
+        Check::Domain => command_in(read_command(c)),
     }
-    command_in(read_command(c))
 }
 
-// Row 4 or row 5 of the n commands from `at` on.
-fn lap_passes(row: u32, s: &[u8], at: usize, n: usize) -> bool
+// The same of the n commands from `at` on.
+fn lap_passes(check: Check, s: &[u8], at: usize, n: usize) -> bool
     requires { ⌜ at + 73 * n ≤ length (now s) ⌝ }
-    ensures { λ r. ⌜ r ≡ lapOk row true (commandsAt (now (s .entry)) at n) ⌝ }
+    ensures { λ r. ⌜ r ≡ lapOk (tested check) true (commandsAt (now (s .entry)) at n) ⌝ }
 {
     let mut i = 0;
     let mut b = at;
     while i < n {
-        let e = b + 73;
-        if !passes(row, i == 0, &s[b..e]) {
+        let e = b + COMMAND_BYTES;
+        if !passes(check, i == 0, &s[b..e]) {
             return false;
         }
         b = e;
@@ -166,20 +185,20 @@ fn lap_passes(row: u32, s: &[u8], at: usize, n: usize) -> bool
     true
 }
 
-// Row 4 or row 5 of all laps.
-pub fn all_pass(row: u32, s: &[u8]) -> bool
+// The same of all laps.
+pub fn all_pass(check: Check, s: &[u8]) -> bool
     requires { ⌜ (8 ≤ length (now s)) × (tableOk (now s) ≡ true) ⌝ }
-    ensures { λ r. ⌜ r ≡ lapsOk row (lapsOf (now (s .entry))) ⌝ }
+    ensures { λ r. ⌜ r ≡ lapsOk (tested check) (lapsOf (now (s .entry))) ⌝ }
 {
     let l = lap_count(s);
     let mut at = 8 + 8 * l;
     let mut j = 0;
     while j < l {
         let n = count_at(s, j);
-        if !lap_passes(row, s, at, n) {
+        if !lap_passes(check, s, at, n) {
             return false;
         }
-        at += 73 * n;
+        at += COMMAND_BYTES * n;
         j += 1;
     }
     true
@@ -198,11 +217,25 @@ pub fn check_file(s: &[u8]) -> u32
     if !has_table(s) {
         return 3;
     }
-    if !all_pass(4, s) {
+    if !all_pass(Check::Form, s) {
         return 4;
     }
-    if !all_pass(5, s) {
+    if !all_pass(Check::Domain, s) {
         return 5;
+    }
+    0
+}
+
+// Rows 8 and 9 of what has so many laps and at most so many commands: the first that it falls under, or 0.
+pub fn check_sizes(laps: usize, most: usize, room: usize) -> u32
+    requires { ⌜ laps < 4294967296 ⌝ }
+    ensures { λ r. ⌜ r ≡ refusal (sizeRows laps most room) ⌝ }
+{
+    if MOST_COMMANDS < most {
+        return 8;
+    }
+    if room < 8 + 8 * laps + COMMAND_BYTES * most {
+        return 9;
     }
     0
 }

@@ -1,4 +1,2 @@
-// The lap file: how it is read, checked and written, its fit, and the replacement of one lap.
-pub mod fit;
+// The lap file: how it is read, checked and written.
 pub mod lap_file;
-pub mod replace;

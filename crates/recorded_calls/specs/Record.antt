@@ -9,7 +9,8 @@ use Rattle.floats.specs.Limits.{untouched}
 use Rattle.floats.specs.Ops.{if_then_else_}
 use Rattle.geo.specs.declared.types.Answer.{Answer}
 use Rattle.geo.specs.declared.types.Answer.the-variants.{Written, Refused}
-use Rattle.records.specs.Words.{wordAt, numbersWritten, kindsWritten, numbersLeft, bytesLeft}
+use Rattle.file.specs.Bytes.{wordAt}
+use Rattle.records.specs.Words.{numbersWritten, kindsWritten, numbersLeft, bytesLeft}
 
 -- ---- its size
 -- the head, the numbers and kinds that go in, and those that are written

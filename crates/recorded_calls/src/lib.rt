@@ -1,11 +1,11 @@
 // What the replays of calls share that take numbers and kinds and write numbers and kinds: how long a record is, and whether a
 // call answered and left what the record says. oracle/src/geometry/list_simplify.rs says how records are laid out.
+use file::bytes::word_at;
 use geo::types::Answer;
 use records::are_bytes_left;
 use records::are_kinds_written;
 use records::are_numbers_left;
 use records::are_numbers_written;
-use records::word_at;
 ghost use mathlib.Core.Path.{_≡_};
 ghost use Prim.Native.Nat.{_≤_};
 ghost use lib.ListN.{length};

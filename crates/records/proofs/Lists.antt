@@ -6,27 +6,19 @@ use mathlib.Core.List.{List, [], _∷_}
 use native.Mathlib.Omega.{arith}
 use lib.ListN.{length, set, length-set}
 use lib.Seq.{sets}
-use Rattle.records.specs.Words.{listFrom, everyFrom}
+use Rattle.geo.specs.Walk.{listFrom}
+use Rattle.geo.specs.Domain.{everyFrom}
+use Rattle.geo.proofs.Every as every
 
--- ---- whether something holds at each index
+-- ---- whether something holds at each index, told of the index rather than of a test
 module _ (ok : ℕ → Bool) (e : ℕ) (w : Bool) where
   -- it holds at i
   pub every-step : (i : ℕ) → i < e → ok i ≡ true → everyFrom ok (e - i) i ≡ w → everyFrom ok (e - (i + 1)) (i + 1) ≡ w
-  unfolding everyFrom
-  every-step i h t r = let z : e - i ≡ suc (e - (i + 1)) = omega arith in sym (rw (z, t)) ∙ r
+  every-step i h t r = every.every-step ok e w i true h (sym t) refl r
 
   -- it fails there
   pub every-stop : (i : ℕ) → i < e → ok i ≡ false → everyFrom ok (e - i) i ≡ w → false ≡ w
-  unfolding everyFrom
-  every-stop i h t r = let z : e - i ≡ suc (e - (i + 1)) = omega arith in sym (rw (z, t)) ∙ r
-
-  pub every-done : (i : ℕ) → e ≤ i → everyFrom ok (e - i) i ≡ w → true ≡ w
-  unfolding everyFrom
-  every-done i h r = let z : e - i ≡ 0 = omega arith in sym (rw z) ∙ r
-
--- the loop that starts at 0
-pub every-start : (ok : ℕ → Bool) (e : ℕ) → everyFrom ok (e - 0) 0 ≡ everyFrom ok e 0
-every-start ok e = let z : e - 0 ≡ e = omega arith in rw z
+  every-stop i h t r = every.every-stop ok e w i false h (sym t) refl r
 
 -- ---- items stored one behind the other
 -- i of the n items are stored: what is left, stored from here, gives the whole

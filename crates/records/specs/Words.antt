@@ -1,35 +1,17 @@
--- Words of eight bytes, floats by their patterns, and lists of them. Definitions only.
-use Prim.Native.Nat.{ℕ, zero, suc, _+_, _-_, _*_}
-use mathlib.Core.Bool.{Bool, true, false, cond}
-use mathlib.Core.List.{List, [], _∷_}
+-- Floats by their patterns, and lists of words as numbers or kinds. Definitions only.
+use Prim.Native.Nat.{ℕ, _+_, _-_, _*_}
+use mathlib.Core.Bool.{Bool, cond}
+use mathlib.Core.List.{List}
 use lib.Dec.{eqb}
 use lib.ListN.{getD}
 use lib.Ieee.{Float, nan, binary64, eq, isNan, nanBits, ofBits, toBits}
-use Rattle.floats.specs.Ops.{if_then_else_}
-
--- four bytes, the lowest first
-unfoldable pub halfAt : List ℕ → ℕ → ℕ
-halfAt s at = getD s at 0 + getD s (at + 1) 0 * 0x100 + getD s (at + 2) 0 * 0x1_0000 + getD s (at + 3) 0 * 0x100_0000
-
--- eight bytes
-unfoldable pub wordAt : List ℕ → ℕ → ℕ
-unfolding halfAt
-wordAt s at = halfAt s at + halfAt s (at + 4) * 0x1_0000_0000
+use Rattle.geo.specs.Walk.{listFrom}
+use Rattle.geo.specs.Domain.{everyFrom}
+use Rattle.file.specs.Bytes.{wordAt}
 
 -- x has the pattern p; every NaN has every NaN's
 unfoldable pub hasPattern : Float → ℕ → Bool
 hasPattern x p = cond (isNan x) (nanBits binary64 p) (eqb (toBits binary64 x) p)
-
--- ---- walks along indices
--- the items at the n indices from i on
-unfoldable pub listFrom : {A : Type 0} → (ℕ → A) → ℕ → ℕ → List A
-listFrom f zero i = []
-listFrom f (suc n) i = f i ∷ listFrom f n (i + 1)
-
--- whether `ok` holds at each of the n indices from i on
-unfoldable pub everyFrom : (ℕ → Bool) → ℕ → ℕ → Bool
-everyFrom ok zero i = true
-everyFrom ok (suc n) i = if ok i then everyFrom ok n (i + 1) else false
 
 -- ---- the n words from `at` on
 -- as numbers

@@ -2,7 +2,7 @@
 use Prim.Native.Nat.{ℕ, _+_, _*_, _≤_}
 use mathlib.Core.List.{List}
 use lib.ListN.{length}
-use Rattle.records.specs.Words.{wordAt}
+use Rattle.file.specs.Bytes.{wordAt}
 
 pub record Whole (s : List ℕ) : Type 0 where
   pub head : 56 ≤ length s

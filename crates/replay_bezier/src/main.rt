@@ -3,12 +3,12 @@
 // out. The program prints how many were compared, and how many differ; a damaged one differs and ends the run.
 mod calls;
 
+use file::bytes::word_at;
 use libc::STDIN_FILENO;
 use libc::STDOUT_FILENO;
 use records::are_numbers_left;
 use records::are_numbers_written;
 use records::read_numbers;
-use records::word_at;
 ghost use mathlib.Core.Path.{_≡_};
 ghost use Prim.Native.Nat.{_+_, _*_, _≤_};
 ghost use lib.ListN.{length};

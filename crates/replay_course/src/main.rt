@@ -4,6 +4,8 @@
 // prints how many were compared, and how many differ; a damaged one differs and ends the run.
 use course::course::fit_arcs;
 use course::course::optimize_path_from_array;
+use file::bytes::float_of;
+use file::bytes::word_at;
 use geo::types::Answer;
 use libc::STDIN_FILENO;
 use libc::STDOUT_FILENO;
@@ -13,10 +15,8 @@ use recorded_calls::HEAD;
 use recorded_calls::is_answered;
 use recorded_calls::is_output;
 use recorded_calls::size_of;
-use records::float_of;
 use records::read_kinds;
 use records::read_numbers;
-use records::word_at;
 ghost use mathlib.Core.Path.{_≡_};
 ghost use Prim.Native.Nat.{_≤_};
 ghost use lib.ListN.{length};

@@ -3,15 +3,15 @@
 // out. The program prints how many were compared, and how many differ; a damaged one differs and ends the run.
 mod calls;
 
+use file::bytes::float_of;
+use file::bytes::word_at;
 use libc::STDIN_FILENO;
 use libc::STDOUT_FILENO;
 use records::are_bytes_left;
 use records::are_kinds_written;
 use records::are_numbers_left;
 use records::are_numbers_written;
-use records::float_of;
 use records::read_numbers;
-use records::word_at;
 ghost use mathlib.Core.Path.{_≡_};
 ghost use Prim.Native.Nat.{_+_, _*_, _≤_};
 ghost use lib.ListN.{length};

@@ -1,14 +1,14 @@
 // Replays recorded calls of the fit of a lap file and of the replacement of a lap, and compares each with what was expected.
 // Standard input has the records, up to 1,500,000 bytes; oracle/src/geometry/list_laps.rs says how they are laid out. The
 // program prints how many were compared, and how many differ; a damaged one differs and ends the run.
+use file::bytes::float_of;
+use file::bytes::word_at;
 use geo::types::Answer;
 use libc::STDIN_FILENO;
 use libc::STDOUT_FILENO;
 use recorded_calls::is_answered;
 use records::are_bytes_left;
-use records::float_of;
 use records::read_numbers;
-use records::word_at;
 ghost use mathlib.Core.Path.{_≡_};
 ghost use Prim.Native.Nat.{_+_, _*_, _≤_};
 ghost use lib.ListN.{length};
@@ -93,8 +93,8 @@ fn call(
     requires { ⌜ (n ≤ length (now numbers)) × (room ≤ length (now out)) ⌝ }
 {
     match function {
-        0 => laps::fit::fit_file(recorded, tolerance, &mut out[..room]),
-        1 => laps::replace::replace_lap(
+        0 => lap_fit::fit::fit_file(recorded, tolerance, &mut out[..room]),
+        1 => lap_replace::replace::replace_lap(
             recorded,
             fitted,
             lap,

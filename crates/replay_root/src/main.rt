@@ -1,10 +1,10 @@
 // Compares the proved root with the machine's. Standard input has up to 4,096 records of 16 bytes: the pattern of a number, and
 // that of its root as the machine gave it, each with the lowest byte first. The program prints how many differ.
+use file::bytes::float_of;
+use file::bytes::word_at;
 use libc::STDIN_FILENO;
 use libc::STDOUT_FILENO;
-use records::float_of;
 use records::has_pattern;
-use records::word_at;
 ghost use Prim.Native.Nat.{_*_, _≤_};
 ghost use lib.ListN.{length};
 

@@ -1,6 +1,8 @@
 // Replays recorded calls of thinning, and compares each with what the given Rust answered. Standard input has the records,
 // up to 1,000,000 bytes; oracle/src/geometry/list_simplify.rs says how they are laid out. The program prints how many were
 // compared, and how many differ; a damaged one differs and ends the run.
+use file::bytes::float_of;
+use file::bytes::word_at;
 use geo::types::Answer;
 use libc::STDIN_FILENO;
 use libc::STDOUT_FILENO;
@@ -10,10 +12,8 @@ use recorded_calls::HEAD;
 use recorded_calls::is_answered;
 use recorded_calls::is_output;
 use recorded_calls::size_of;
-use records::float_of;
 use records::read_kinds;
 use records::read_numbers;
-use records::word_at;
 ghost use mathlib.Core.Path.{_≡_};
 ghost use Prim.Native.Nat.{_≤_};
 ghost use lib.ListN.{length};

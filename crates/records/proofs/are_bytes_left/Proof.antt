@@ -5,8 +5,10 @@ use native.Mathlib.Omega.{arith}
 use borrow.Author.Tests.{eq-eqb, ne-eqb}
 use lib.Dec.{eqb}
 use lib.ListN.{getD}
-use Rattle.records.specs.Words.{everyFrom, bytesLeft}
-use Rattle.records.proofs.Lists.{every-step, every-stop, every-done}
+use Rattle.geo.specs.Domain.{everyFrom}
+use Rattle.records.specs.Words.{bytesLeft}
+use Rattle.geo.proofs.Every.{every-done}
+use Rattle.records.proofs.Lists.{every-step, every-stop}
 use Rattle.records.proofs.are_bytes_left.Statement.{statement}
 use Rattle.records.proofs.are_bytes_left.Tie as tie
 

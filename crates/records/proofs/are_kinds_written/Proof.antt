@@ -1,12 +1,14 @@
 -- `records::are_kinds_written` meets its contract: the kinds that are not compared yet decide the whole answer. The measure is how many they are. Assumes nothing.
-use mathlib.Core.Path.{_≡_}
+use mathlib.Core.Path.{_≡_, refl}
 use Prim.Native.Nat.{_+_, _-_, _*_}
 use native.Mathlib.Omega.{arith}
 use borrow.Author.Tests.{eq-eqb, ne-eqb}
 use lib.Dec.{eqb}
 use lib.ListN.{getD}
-use Rattle.records.specs.Words.{everyFrom, kindsWritten}
-use Rattle.records.proofs.Lists.{every-start, every-step, every-stop, every-done}
+use Rattle.geo.specs.Domain.{everyFrom}
+use Rattle.records.specs.Words.{kindsWritten}
+use Rattle.geo.proofs.Every.{every-start, every-done}
+use Rattle.records.proofs.Lists.{every-step, every-stop}
 use Rattle.records.proofs.are_kinds_written.Statement.{statement}
 use Rattle.records.proofs.are_kinds_written.Tie as tie
 
@@ -18,7 +20,7 @@ abbrev μ-loop : tie.MeasureT-loop
 
 loop-holds : tie.Need-loop-holds Inv-loop μ-loop
 unfolding kindsWritten
-loop-holds c = every-start _ (c .args .n)
+loop-holds c = every-start _ (c .args .n) _ refl
 
 shared-slice-read-if1 : tie.Need-shared-slice-read-if1 Inv-loop μ-loop
 shared-slice-read-if1 c = omega arith

@@ -5,8 +5,10 @@ use native.Mathlib.Omega.{arith}
 use borrow.Author.Tests.{not-true, not-false}
 use lib.ListN.{getD}
 use lib.Ieee.{nan, eq, ne}
-use Rattle.records.specs.Words.{everyFrom, numbersLeft}
-use Rattle.records.proofs.Lists.{every-step, every-stop, every-done}
+use Rattle.geo.specs.Domain.{everyFrom}
+use Rattle.records.specs.Words.{numbersLeft}
+use Rattle.geo.proofs.Every.{every-done}
+use Rattle.records.proofs.Lists.{every-step, every-stop}
 use Rattle.records.proofs.are_numbers_left.Statement.{statement}
 use Rattle.records.proofs.are_numbers_left.Tie as tie
 

@@ -1,13 +1,16 @@
 -- `records::are_numbers_written` meets its contract: the numbers that are not compared yet decide the whole answer. The measure is how many they are. Assumes nothing.
-use mathlib.Core.Path.{_≡_, sym, ap, _∙_}
+use mathlib.Core.Path.{_≡_, refl, sym, ap, _∙_}
 use Prim.Native.Nat.{_+_, _-_, _*_}
 use native.Mathlib.Omega.{arith}
 use borrow.Author.Needs.{needs}
 use borrow.Author.Tests.{not-true, not-false}
 use lib.ListN.{getD}
 use lib.Ieee.{nan}
-use Rattle.records.specs.Words.{wordAt, hasPattern, everyFrom, numbersWritten}
-use Rattle.records.proofs.Lists.{every-start, every-step, every-stop, every-done}
+use Rattle.geo.specs.Domain.{everyFrom}
+use Rattle.file.specs.Bytes.{wordAt}
+use Rattle.records.specs.Words.{hasPattern, numbersWritten}
+use Rattle.geo.proofs.Every.{every-start, every-done}
+use Rattle.records.proofs.Lists.{every-step, every-stop}
 use Rattle.records.proofs.are_numbers_written.Statement.{statement}
 use Rattle.records.proofs.are_numbers_written.Tie as tie
 
@@ -19,7 +22,7 @@ abbrev μ-loop : tie.MeasureT-loop
 
 loop-holds : tie.Need-loop-holds Inv-loop μ-loop
 unfolding numbersWritten
-loop-holds c = every-start _ (c .before .before .args .n)
+loop-holds c = every-start _ (c .before .before .args .n) _ refl
 
 mul-has-pattern : tie.Need-mul-has-pattern Inv-loop μ-loop
 mul-has-pattern c = omega arith

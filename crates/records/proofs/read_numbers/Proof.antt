@@ -4,7 +4,8 @@ use Prim.Native.Nat.{_+_, _-_, _*_}
 use native.Mathlib.Omega.{arith}
 use borrow.Author.Needs.{needs}
 use lib.Ieee.{binary64, ofBits}
-use Rattle.records.specs.Words.{wordAt, numbersAt}
+use Rattle.file.specs.Bytes.{wordAt}
+use Rattle.records.specs.Words.{numbersAt}
 use Rattle.records.proofs.Lists.{Storing, storing-start, storing-step, storing-done}
 use Rattle.records.proofs.read_numbers.Statement.{statement}
 use Rattle.records.proofs.read_numbers.Tie as tie

@@ -2,9 +2,9 @@
 use mathlib.Core.Path.{sym}
 use native.Mathlib.Omega.{arith}
 use Rattle.geo.proofs.Rows.{not-fails, not-passes}
-use Rattle.laps.specs.Calls.{fileRows}
-use Rattle.laps.proofs.Cap.{told-above, told-below}
+use Rattle.laps.specs.Rows.{fileRows}
 use Rattle.laps.proofs.Rows.{refused-front, file-passed, long-of}
+use Rattle.lap_fit.proofs.Cap.{told-above, told-below}
 use Rattle.lap_rows.specs.Listing.{textRows}
 use Rattle.lap_rows.proofs.Rows.{text-6, text-8, text-9, text-0}
 use borrow.Author.Needs.{needs}

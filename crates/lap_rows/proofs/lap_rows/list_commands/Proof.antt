@@ -2,7 +2,7 @@
 use mathlib.Core.Path.{sym, ap}
 use native.Mathlib.Omega.{arith}
 use Rattle.listing.specs.Rows.{courseRows}
-use Rattle.laps.proofs.Arrays.{long-kinds, long-numbers, read-back, most-read}
+use Rattle.lap_fit.proofs.Arrays.{long-kinds, long-numbers, read-back, most-read}
 use Rattle.lap_rows.specs.Listing.{lapRows}
 use Rattle.lap_rows.proofs.Lines.{placed-same}
 use borrow.Author.Needs.{needs}

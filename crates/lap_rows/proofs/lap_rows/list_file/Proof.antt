@@ -2,8 +2,8 @@
 use mathlib.Core.Path.{sym, _∙_}
 use Rattle.geo.proofs.Tolerance.{tolerance-positive}
 use Rattle.geo.proofs.Outcomes.{wrote-refused}
-use Rattle.laps.proofs.Walks.{not-big}
 use Rattle.laps.proofs.Rows.{long-of, wrote-bytes}
+use Rattle.laps.proofs.Walks.{not-big}
 use Rattle.lap_rows.specs.Listing.{listFile}
 use Rattle.lap_rows.proofs.Rows.{text-passed}
 use borrow.Author.Needs.{needs}

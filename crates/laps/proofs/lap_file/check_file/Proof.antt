@@ -2,7 +2,8 @@
 use mathlib.Core.Path.{sym, _∙_}
 use borrow.Author.Tests.{not-false}
 use Rattle.geo.proofs.Rows.{row-fails, row-passes, not-fails, not-passes, done}
-use Rattle.laps.specs.Calls.{fileRows}
+use Rattle.laps.specs.File.{tested}
+use Rattle.laps.specs.Rows.{fileRows}
 use Rattle.laps.proofs.Walks.{not-short, not-big}
 use borrow.Author.Needs.{needs}
 use Rattle.laps.proofs.lap_file.check_file.Statement.{statement}
@@ -33,18 +34,18 @@ all-pass-requires : tie.Need-all-pass-requires
 all-pass-requires c κs = (not-short _ (sym (c .before .before .before .before .before .too-short .ensures) ∙ c .before .before .before .before .if1 .left), sym (c .before .has-table .ensures) ∙ not-false _ (c .if3 .left))
 
 returns-4 : tie.Need-returns-4
-unfolding fileRows
+unfolding fileRows tested
 returns-4 c = sym (row-passes _ _ _ (sym (c .before .before .before .before .before .before .before .too-short .ensures) ∙ c .before .before .before .before .before .before .if1 .left) ∙ row-passes _ _ _ (sym (c .before .before .before .before .before .too-big .ensures) ∙ c .before .before .before .before .if2 .left) ∙ row-passes _ _ _ (not-passes _ _ (c .before .before .before .has-table .ensures) (c .before .before .if3 .left)) ∙ row-fails _ _ _ (not-fails _ _ (c .before .all-pass .ensures) (c .if4 .taken)))
 
 all-pass-requires-2 : tie.Need-all-pass-requires-2
 all-pass-requires-2 c κs = (not-short _ (sym (c .before .before .before .before .before .before .before .too-short .ensures) ∙ c .before .before .before .before .before .before .if1 .left), sym (c .before .before .before .has-table .ensures) ∙ not-false _ (c .before .before .if3 .left))
 
 returns-5 : tie.Need-returns-5
-unfolding fileRows
+unfolding fileRows tested
 returns-5 c = sym (row-passes _ _ _ (sym (c .before .before .before .before .before .before .before .before .before .too-short .ensures) ∙ c .before .before .before .before .before .before .before .before .if1 .left) ∙ row-passes _ _ _ (sym (c .before .before .before .before .before .before .before .too-big .ensures) ∙ c .before .before .before .before .before .before .if2 .left) ∙ row-passes _ _ _ (not-passes _ _ (c .before .before .before .before .before .has-table .ensures) (c .before .before .before .before .if3 .left)) ∙ row-passes _ _ _ (not-passes _ _ (c .before .before .before .all-pass .ensures) (c .before .before .if4 .left)) ∙ row-fails _ _ _ (not-fails _ _ (c .before .all-pass2 .ensures) (c .if5 .taken)))
 
 returns-6 : tie.Need-returns-6
-unfolding fileRows
+unfolding fileRows tested
 returns-6 c = sym (row-passes _ _ _ (sym (c .before .before .before .before .before .before .before .before .before .too-short .ensures) ∙ c .before .before .before .before .before .before .before .before .if1 .left) ∙ row-passes _ _ _ (sym (c .before .before .before .before .before .before .before .too-big .ensures) ∙ c .before .before .before .before .before .before .if2 .left) ∙ row-passes _ _ _ (not-passes _ _ (c .before .before .before .before .before .has-table .ensures) (c .before .before .before .before .if3 .left)) ∙ row-passes _ _ _ (not-passes _ _ (c .before .before .before .all-pass .ensures) (c .before .before .if4 .left)) ∙ row-passes _ _ _ (not-passes _ _ (c .before .all-pass2 .ensures) (c .if5 .left)) ∙ done)
 
 pub check-file-spec : {M : Type 1} → statement M

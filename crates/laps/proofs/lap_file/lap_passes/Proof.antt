@@ -8,16 +8,16 @@ use borrow.Author.Tests.{not-true, not-false}
 use lib.Dec.{eqb}
 use lib.ListN.{length-take, length-drop}
 use Rattle.file.specs.Command.{commandsAt}
-use Rattle.laps.specs.File.{lapOk}
+use Rattle.laps.specs.File.{lapOk, tested}
 use Rattle.laps.proofs.Walks.{lap-go, lap-stop, lap-end}
 use Rattle.laps.proofs.lap_file.lap_passes.Statement.{statement}
 use Rattle.laps.proofs.lap_file.lap_passes.Tie as tie
 
 abbrev Inv-loop : tie.InvT-loop
-Inv-loop row s at n i₀ b₀ i b = (b ≡ at + 73 * i) × (i ≤ n) × (lapOk row (eqb i 0) (commandsAt s b (n - i)) ≡ lapOk row true (commandsAt s at n))
+Inv-loop check s at n i₀ b₀ i b = (b ≡ at + 73 * i) × (i ≤ n) × (lapOk (tested check) (eqb i 0) (commandsAt s b (n - i)) ≡ lapOk (tested check) true (commandsAt s at n))
 
 abbrev μ-loop : tie.MeasureT-loop
-μ-loop row s at n i₀ b₀ i b = n - i
+μ-loop check s at n i₀ b₀ i b = n - i
 
 loop-holds : tie.Need-loop-holds Inv-loop μ-loop
 loop-holds c = (omega arith, omega arith, rw sub-zero)
@@ -38,7 +38,7 @@ passes-requires : tie.Need-passes-requires Inv-loop μ-loop
 passes-requires c κs = simp (length-take, length-drop) (omega arith)
 
 returns : tie.Need-returns Inv-loop μ-loop
-returns c = let a = c .before .before .before .before .before .before .args in lap-stop (a .row) (a .s .now) (c .before .before .before .before .loop .b) (a .n) (c .before .before .before .before .loop .i) _ (c .before .before .before .loop-test .taken) _ (c .before .passes .ensures) (c .before .before .before .before .loop .inv .2) (not-true _ (c .if1 .taken))
+returns c = let a = c .before .before .before .before .before .before .args in lap-stop (tested (a .check)) (a .s .now) (c .before .before .before .before .loop .b) (a .n) (c .before .before .before .before .loop .i) _ (c .before .before .before .loop-test .taken) _ (c .before .passes .ensures) (c .before .before .before .before .loop .inv .2) (not-true _ (c .if1 .taken))
 
 add-i : tie.Need-add-i Inv-loop μ-loop
 add-i c = omega arith
@@ -47,10 +47,10 @@ loop-less : tie.Need-loop-less Inv-loop μ-loop
 loop-less c = omega arith
 
 loop-again : tie.Need-loop-again Inv-loop μ-loop
-loop-again c = let a = c .before .before .before .before .before .before .args in (omega arith, omega arith, lap-go (a .row) (a .s .now) (c .before .before .before .before .loop .b) (a .n) (c .before .before .before .before .loop .i) _ (c .before .before .before .loop-test .taken) _ (c .before .passes .ensures) (c .before .before .before .before .loop .inv .2) (not-false _ (c .if1 .left)))
+loop-again c = let a = c .before .before .before .before .before .before .args in (omega arith, omega arith, lap-go (tested (a .check)) (a .s .now) (c .before .before .before .before .loop .b) (a .n) (c .before .before .before .before .loop .i) _ (c .before .before .before .loop-test .taken) _ (c .before .passes .ensures) (c .before .before .before .before .loop .inv .2) (not-false _ (c .if1 .left)))
 
 returns-2 : tie.Need-returns-2 Inv-loop μ-loop
-returns-2 c = let a = c .before .before .before .args in lap-end (a .row) (eqb (c .before .loop .i) 0) (a .s .now) (c .before .loop .b) (a .n) (c .before .loop .i) _ (c .loop-test .left) (c .before .loop .inv .2)
+returns-2 c = let a = c .before .before .before .args in lap-end (tested (a .check)) (eqb (c .before .loop .i) 0) (a .s .now) (c .before .loop .b) (a .n) (c .before .loop .i) _ (c .loop-test .left) (c .before .loop .inv .2)
 
 pub lap-passes-spec : {M : Type 1} → statement M
 lap-passes-spec =

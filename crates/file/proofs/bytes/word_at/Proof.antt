@@ -1,0 +1,29 @@
+-- `file::bytes::word_at` meets its contract: two halves. Assumes nothing.
+use Rattle.file.specs.Bytes.{wordAt}
+use borrow.Author.Needs.{needs}
+use Rattle.file.proofs.bytes.word_at.Statement.{statement}
+use Rattle.file.proofs.bytes.word_at.Tie as tie
+
+half-at-requires : tie.Need-half-at-requires
+half-at-requires c κs = search needs
+
+add-half-at : tie.Need-add-half-at
+add-half-at c = search needs
+
+half-at-requires-2 : tie.Need-half-at-requires-2
+half-at-requires-2 c κs = search needs
+
+mul-result : tie.Need-mul-result
+mul-result c = search needs
+
+add-result : tie.Need-add-result
+add-result c = search needs
+
+returns : tie.Need-returns
+unfolding wordAt
+returns c = rw (c .half-at2 .ensures .0, c .before .half-at .ensures .0)
+
+pub word-at-spec : {M : Type 1} → statement M
+word-at-spec =
+    tie.close
+    (tie.spec half-at-requires add-half-at half-at-requires-2 mul-result add-result returns)

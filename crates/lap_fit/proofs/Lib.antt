@@ -1,0 +1,7 @@
+pub mod Cap
+pub mod Lap
+pub mod Arrays
+pub mod Turns
+pub mod Rows
+pub mod Accepted
+pub mod ByteLists

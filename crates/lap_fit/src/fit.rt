@@ -1,0 +1,204 @@
+// The fit of a lap file: `fit_arcs` of each lap, under a new table.
+use course::course::add_capped;
+use course::course::fit_course;
+use course::course::weight;
+use file::command::COMMAND_BYTES;
+use file::command::read_command;
+use file::command::read_commands;
+use file::command::write_commands;
+use geo::domain::is_within;
+use geo::types::Answer;
+use geo::types::Point3D;
+use laps::lap_file::MOST_COMMANDS;
+use laps::lap_file::MOST_NUMBERS;
+use laps::lap_file::check_file;
+use laps::lap_file::check_sizes;
+use laps::lap_file::count_at;
+use laps::lap_file::lap_count;
+use laps::lap_file::put_entry;
+use laps::lap_file::put_head;
+ghost use mathlib.Core.Path.{_≡_};
+ghost use mathlib.Core.Bool.{true};
+ghost use mathlib.Core.List.{List, map, _++_};
+ghost use Prim.Native.Nat.{ℕ, _+_, _*_, _≤_};
+ghost use lib.ListN.{length, drop};
+ghost use Rattle.floats.specs.Ops.{_≺_, +0};
+ghost use Rattle.geo.specs.Outcome.{refusal, Wrote};
+ghost use Rattle.file.specs.Command.{commandsAt};
+ghost use Rattle.course.specs.Course.{courseMost, lentCourse, cap};
+ghost use Rattle.laps.specs.File.{lapCount, lapsOf, encode, tableOk, PutLap};
+ghost use Rattle.laps.specs.Rows.{fileSize};
+ghost use Rattle.lap_fit.specs.Fit.{fitLap, mostLap, lapsMost, fitNew, fileFitRows, fitFile};
+
+// The longest chain of a course of 800 commands: 801 points, three numbers each.
+pub const CHAIN_NUMBERS: usize = 2403;
+
+// What the n commands from `at` on could become at most.
+fn most_lap(s: &[u8], at: usize, n: usize, tolerance: f64) -> usize
+    requires { ⌜ (at + 73 * n ≤ length (now s)) × (n ≤ 800) ⌝ }
+    ensures { λ r. ⌜ r ≡ cap (mostLap tolerance (commandsAt (now (s .entry)) at n)) ⌝ }
+{
+    let mut most = 0;
+    let mut last = Point3D::ZERO;
+    let mut b = at;
+    for i in 0..n {
+        let e = b + COMMAND_BYTES;
+        let c = read_command(&s[b..e]);
+        most = add_capped(most, weight(c, last, tolerance));
+        last = c.end_point();
+        b = e;
+    }
+    most
+}
+
+// What the laps of a file could become at most.
+pub fn most_of(s: &[u8], tolerance: f64) -> usize
+    requires { ⌜ (8 ≤ length (now s)) × (tableOk (now s) ≡ true) ⌝ }
+    ensures { λ r. ⌜ r ≡ cap (lapsMost tolerance (lapsOf (now (s .entry)))) ⌝ }
+{
+    let l = lap_count(s);
+    let mut at = 8 + 8 * l;
+    let mut most = 0;
+    let mut j = 0;
+    while j < l {
+        let n = count_at(s, j);
+        most = add_capped(most, most_lap(s, at, n, tolerance));
+        at += COMMAND_BYTES * n;
+        j += 1;
+    }
+    most
+}
+
+// Writes the fit of lent commands from `to` on, by way of three arrays, and returns how many commands it has.
+fn fit_lent(
+    kinds: &[u8],
+    nums: &[f64],
+    tolerance: f64,
+    chain: &mut [f64],
+    out_kinds: &mut [u8],
+    out_nums: &mut [f64],
+    out: &mut [u8],
+    to: usize,
+) -> usize
+    requires { ⌜ ((+0 ≺ tolerance) ≡ true) × (9 * length (now kinds) ≤ length (now nums)) × (courseMost tolerance (lentCourse (now kinds) (now nums)) ≤ 800) × (to + 73 * length (fitNew tolerance (now kinds) (now nums)) ≤ length (now out)) × (length (now «out_kinds») ≡ 800) × (length (now «out_nums») ≡ 7200) × (length (now chain) ≡ 2403) ⌝ }
+    ensures { λ r. ⌜ PutLap (fitNew tolerance (now (kinds .entry)) (now (nums .entry))) (now (out .entry)) (now (out .exit)) to r ⌝ }
+{
+    let n = fit_course(kinds, nums, tolerance, chain, out_kinds, out_nums);
+    write_commands(out_kinds, out_nums, n, out, to);
+    n
+}
+
+// Writes the fit of lent commands from `to` on, and returns how many commands it has.
+pub fn fit_commands(kinds: &[u8], nums: &[f64], tolerance: f64, out: &mut [u8], to: usize) -> usize
+    requires { ⌜ ((+0 ≺ tolerance) ≡ true) × (9 * length (now kinds) ≤ length (now nums)) × (courseMost tolerance (lentCourse (now kinds) (now nums)) ≤ 800) × (to + 73 * length (fitNew tolerance (now kinds) (now nums)) ≤ length (now out)) ⌝ }
+    ensures { λ r. ⌜ PutLap (fitNew tolerance (now (kinds .entry)) (now (nums .entry))) (now (out .entry)) (now (out .exit)) to r ⌝ }
+{
+    let mut chain = [0.0; CHAIN_NUMBERS];
+    let mut out_kinds = [0u8; MOST_COMMANDS];
+    let mut out_nums = [0.0f64; MOST_NUMBERS];
+    fit_lent(
+        kinds,
+        nums,
+        tolerance,
+        &mut chain,
+        &mut out_kinds,
+        &mut out_nums,
+        out,
+        to,
+    )
+}
+
+// Writes the fit of the n commands from `at` on, from `to` on, by way of five arrays, and returns how many commands it has.
+fn fit_lap(
+    s: &[u8],
+    at: usize,
+    n: usize,
+    tolerance: f64,
+    kinds: &mut [u8],
+    nums: &mut [f64],
+    chain: &mut [f64],
+    out_kinds: &mut [u8],
+    out_nums: &mut [f64],
+    out: &mut [u8],
+    to: usize,
+) -> usize
+    requires { ⌜ ((+0 ≺ tolerance) ≡ true) × (at + 73 * n ≤ length (now s)) × (n ≤ 800) × (mostLap tolerance (commandsAt (now s) at n) ≤ 800) × (to + 73 * length (fitLap tolerance (commandsAt (now s) at n)) ≤ length (now out)) × (length (now kinds) ≡ 800) × (length (now nums) ≡ 7200) × (length (now «out_kinds») ≡ 800) × (length (now «out_nums») ≡ 7200) × (length (now chain) ≡ 2403) ⌝ }
+    ensures { λ r. ⌜ PutLap (fitLap tolerance (commandsAt (now (s .entry)) at n)) (now (out .entry)) (now (out .exit)) to r ⌝ }
+{
+    read_commands(s, at, n, kinds, nums);
+    let m = 9 * n;
+    fit_lent(
+        &kinds[..n],
+        &nums[..m],
+        tolerance,
+        chain,
+        out_kinds,
+        out_nums,
+        out,
+        to,
+    )
+}
+
+// Writes the fit of a file, the mark first, and returns how many bytes it has.
+fn fit_laps(s: &[u8], tolerance: f64, out: &mut [u8]) -> usize
+    requires { ⌜ ((+0 ≺ tolerance) ≡ true) × (8 ≤ length (now s)) × (tableOk (now s) ≡ true) × (lapsMost tolerance (lapsOf (now s)) ≤ 800) × (fileSize (lapCount (now s)) (lapsMost tolerance (lapsOf (now s))) ≤ length (now out)) ⌝ }
+    ensures { λ r. ⌜ (r ≡ length (encode (map (fitLap tolerance) (lapsOf (now (s .entry)))))) × (now (out .exit) ≡ encode (map (fitLap tolerance) (lapsOf (now (s .entry)))) ++ drop (length (encode (map (fitLap tolerance) (lapsOf (now (s .entry)))))) (now (out .entry))) ⌝ }
+{
+    // filled here once, and lent for each lap
+    let mut kinds = [0u8; MOST_COMMANDS];
+    let mut nums = [0.0f64; MOST_NUMBERS];
+    let mut chain = [0.0; CHAIN_NUMBERS];
+    let mut out_kinds = [0u8; MOST_COMMANDS];
+    let mut out_nums = [0.0f64; MOST_NUMBERS];
+    let l = lap_count(s);
+    put_head(out, l);
+    let mut at = 8 + 8 * l;
+    let mut to = at;
+    let mut j = 0;
+    while j < l {
+        let n = count_at(s, j);
+        let c = fit_lap(
+            s,
+            at,
+            n,
+            tolerance,
+            &mut kinds,
+            &mut nums,
+            &mut chain,
+            &mut out_kinds,
+            &mut out_nums,
+            out,
+            to,
+        );
+        put_entry(out, j, to, c);
+        at += COMMAND_BYTES * n;
+        to += COMMAND_BYTES * c;
+        j += 1;
+    }
+    to
+}
+
+// The number of the first row that the fit of a file falls under, or 0.
+fn check_fit(s: &[u8], tolerance: f64, room: usize) -> u32
+    ensures { λ r. ⌜ r ≡ refusal (fileFitRows (now (s .entry)) tolerance room) ⌝ }
+{
+    let refused = check_file(s);
+    if refused != 0 {
+        return refused;
+    }
+    if !is_within(0.001, 1000.0, tolerance) {
+        return 6;
+    }
+    check_sizes(lap_count(s), most_of(s, tolerance), room)
+}
+
+// Fits each lap of a recorded file, and writes the fitted file to the front of out. A refusal changes nothing.
+pub fn fit_file(recorded: &[u8], tolerance: f64, out: &mut [u8]) -> Answer
+    ensures { λ r. ⌜ Wrote (λ (bytes : List ℕ). bytes) (fitFile (now (recorded .entry)) tolerance (length (now (out .entry)))) (now (out .entry)) (now (out .exit)) r ⌝ }
+{
+    let refused = check_fit(recorded, tolerance, out.len());
+    if refused != 0 {
+        return Answer::Refused(refused);
+    }
+    Answer::Written(fit_laps(recorded, tolerance, out))
+}

@@ -1,0 +1,2 @@
+// The fit of a lap file.
+pub mod fit;

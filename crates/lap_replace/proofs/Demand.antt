@@ -1,0 +1,252 @@
+-- Demand 3: the theorems of `specs/Demand.antt`. Assumes nothing.
+use Prim.Native.Nat.{ℕ, zero, suc, _-_, _*_, _≤_, _<_}
+use mathlib.Core.Path.{_≡_, refl, sym, ap, _∙_, subst}
+use mathlib.Core.Bool.{true, false}
+use mathlib.Core.List.{List, [], _∷_, map}
+use native.Mathlib.Omega.{arith}
+use borrow.Author.Tests.{eq-eqb, ne-eqb, le-ltb, le-leb}
+use lib.Dec.{leb}
+use lib.ListN.{length, getD, length-set}
+use lib.Seq.{getD-set-same, getD-set-other}
+use lib.Ieee.{Float}
+use Rattle.floats.specs.Ops.{_≺_, +0}
+use Rattle.geo.specs.Domain.{commandsIn}
+use Rattle.geo.specs.Outcome.{gives, refusal}
+use Rattle.geo.specs.Lent.{flat, kindOf, numbersOf}
+use Rattle.geo.proofs.Rows.{unless-gives}
+use Rattle.geo.proofs.Tolerance.{tolerance-positive}
+use Rattle.file.specs.Command.{decoded, enc, lentLap}
+use Rattle.file.proofs.Lent.{lent-commands, lent-length}
+use Rattle.course.specs.Course.{courseFit}
+use Rattle.course.proofs.Demand.{course-gives}
+use Rattle.laps.proofs.Canonical as form
+use Rattle.lap_fit.proofs.ByteLists.{bytes-file}
+use Rattle.laps.specs.File.{Lap, lapCount, lapsOf, encode, short, big, tableOk, lapOk, lapsOk, formOk, domainOk, AllFull, commandCount, Bytes}
+use Rattle.laps.proofs.Laps.{wholes-of, somes-of, few-commands}
+use Rattle.laps.proofs.ReadBack.{Somes, lap-count-encode, laps-encode}
+use Rattle.laps.proofs.Rows.{FilePassed, size-0}
+use Rattle.laps.proofs.Turns.{length-laps-of}
+use Rattle.laps.proofs.Walks.{not-big}
+use Rattle.laps.proofs.Whole.{whole-lent, length-encode}
+use Rattle.lap_fit.specs.Fit.{fitLap, lapsMost, fitNew}
+use Rattle.lap_fit.proofs.Accepted.{Accepted, accepted, Fitted, fitted}
+use Rattle.lap_replace.specs.Demand.{lapAt, courseWith, Canonical, ReadBack, OneCourse, LapsAreFitted, EachLapGives, FitIsLapFile, Fresh, ReplacedIsFresh, OthersStay, NewIsFitted, LentAsCommands, CommandsReplaced}
+use Rattle.lap_replace.specs.Replace.{swap, lentWhole, lentFormed, lentNew, mostWith, row1, row2, row3, row4, row5, row7, replaceRows, replaceLap}
+use Rattle.lap_replace.proofs.New.{length-lent, lent-most, lent-fit, lent-formed, lent-near}
+use Rattle.lap_replace.proofs.Replaced.{map-set, wholes-set, new-ok, new-some, most-set, new-in-total}
+use Rattle.lap_replace.proofs.Rows.{NewPassed, new-sizes}
+
+-- ---- the format
+-- A file whose mark and table are right is what its laps are encoded to.
+pub canonical : Canonical
+canonical s b h t = form.canonical s b h t
+
+-- Laps that a u32 can count are read back from the file that they are encoded to.
+pub read-back : ReadBack
+read-back ls w n t = laps-encode ls w n t
+
+-- The course with lap k replaced is one file.
+pub one-course : OneCourse
+unfolding courseWith
+one-course s g k ks ns b h t e = sym (form.canonical g b h t) ∙ ap encode e
+
+-- ---- the fit
+getD-map : (f : Lap → Lap) (ls : List Lap) (i : ℕ) → i < length ls → getD (map f ls) i [] ≡ f (getD ls i [])
+getD-map f [] i h = absurd (omega arith)
+getD-map f (l ∷ ls) zero h = refl
+getD-map f (l ∷ ls) (suc i) h = getD-map f ls i (omega arith)
+
+lap-fitted : (s f : List ℕ) (tol : Float) → Fitted s tol f → (j : ℕ) → 1 ≤ j → j ≤ lapCount s → lapAt f j ≡ map enc (courseFit tol (map decoded (lapAt s j)))
+unfolding lapAt fitLap
+lap-fitted s f tol q j a b =
+    let n = length-laps-of s in
+    ap (λ (ls : List Lap). getD ls (j - 1) []) (q .laps) ∙ getD-map (fitLap tol) (lapsOf s) (j - 1) (omega arith)
+
+-- Each lap of an accepted fit is the fit of the recorded lap, encoded, and there are as many.
+pub laps-are-fitted : LapsAreFitted
+laps-are-fitted s f tol room e = let q = fitted s tol room f (accepted s tol room f e) in (q .count, lap-fitted s f tol q)
+
+-- Each lap of an accepted fit is, in order, the kept commands of the recorded lap and what each of its chains gives, as demand 3 says.
+pub each-lap-gives : EachLapGives
+each-lap-gives s f tol room e =
+    let a = accepted s tol room f e in
+    let q = fitted s tol room f a in
+    let pos = tolerance-positive tol (a .passed .within) in (
+      q .count,
+      λ j g h. record {
+        commands = courseFit tol (map decoded (lapAt s j));
+        bytes = lap-fitted s f tol q j g h;
+        parts = course-gives tol pos (map decoded (lapAt s j));
+      },
+    )
+
+-- An accepted fit is a lap file.
+pub fit-is-lap-file : FitIsLapFile
+fit-is-lap-file s f tol room e =
+    let a = accepted s tol room f e in
+    let q = fitted s tol room f a in
+    record {
+      bytes = subst Bytes (a .bytes) (bytes-file tol (lapsOf s));
+      least = q .long;
+      greatest = q .size;
+      laps = subst (λ (n : ℕ). n ≤ 64) (sym (q .count)) (not-big s (a .passed .file .small) .1);
+      marked = form.marked f (q .long) (q .table);
+      table = q .table;
+      commands = few-commands f (q .table);
+    }
+
+-- ---- the course with lap k replaced is read back
+course-laps : (s : List ℕ) (k : ℕ) (ks : List ℕ) (ns : List Float) → tableOk s ≡ true → lapCount s ≤ 64 → length (courseWith s k ks ns) ≤ 65536
+    → (lapsOf (courseWith s k ks ns) ≡ swap k (lentLap ks ns) 1 (lapsOf s)) × (lapCount (courseWith s k ks ns) ≡ lapCount s)
+unfolding courseWith
+course-laps s k ks ns t h g =
+    let ls : List Lap = swap k (lentLap ks ns) 1 (lapsOf s) in
+    let w : AllFull ls = wholes-set (lapsOf s) (k - 1) (lentLap ks ns) (whole-lent ks ns) (wholes-of s t) in
+    let n : length ls ≡ lapCount s = length-set (lapsOf s) (k - 1) (lentLap ks ns) ∙ length-laps-of s in
+    let e = length-encode ls w in
+    (laps-encode ls w (omega arith) (omega arith), lap-count-encode ls w (omega arith) ∙ n)
+
+-- ---- what the two fits have
+module _ (s f : List ℕ) (tol : Float) (k : ℕ) (ks : List ℕ) (ns : List Float) (r : ℕ) (g : List ℕ) (w : Fresh s f tol k ks ns r g) where
+  old : Accepted s tol (w .room) f
+  old = accepted s tol (w .room) f (w .fit)
+
+  new : Accepted (courseWith s k ks ns) tol r g
+  new = accepted (courseWith s k ks ns) tol r g (w .fresh)
+
+  file : FilePassed s
+  file = old .passed .file
+
+  is-fitted : Fitted s tol f
+  is-fitted = fitted s tol (w .room) f old
+
+  pos : (+0 ≺ tol) ≡ true
+  pos = tolerance-positive tol (old .passed .within)
+
+  read : (lapsOf (courseWith s k ks ns) ≡ swap k (lentLap ks ns) 1 (lapsOf s)) × (lapCount (courseWith s k ks ns) ≡ lapCount s)
+  read = course-laps s k ks ns (file .table) (not-big s (file .small) .1) (not-big (courseWith s k ks ns) (new .passed .file .small) .0)
+
+  inside : k - 1 < length (lapsOf s)
+  inside = let n = length-laps-of s in let a = w .first in let b = w .last in omega arith
+
+  -- ---- no row refuses the replacement
+  formed-new : lapOk formOk true (lentLap ks ns) ≡ true
+  formed-new = new-ok formOk (lapsOf s) (k - 1) (lentLap ks ns) inside (subst (λ (ls : List Lap). lapsOk formOk ls ≡ true) (read .0) (new .passed .file .formed))
+
+  near-new : lapOk domainOk true (lentLap ks ns) ≡ true
+  near-new = new-ok domainOk (lapsOf s) (k - 1) (lentLap ks ns) inside (subst (λ (ls : List Lap). lapsOk domainOk ls ≡ true) (read .0) (new .passed .file .near))
+
+  some-new : 0 < length ks
+  some-new =
+      let a = new-some (lapsOf s) (k - 1) (lentLap ks ns) inside (subst Somes (read .0) (somes-of (courseWith s k ks ns) (new .passed .file .table))) in
+      let b = length-lent ks ns in omega arith
+
+  few-new : length ks ≤ 800
+  few-new =
+      let a = subst (λ (ls : List Lap). commandCount ls ≤ 800) (read .0) (few-commands (courseWith s k ks ns) (new .passed .file .table)) in
+      let b = new-in-total (lapsOf s) (k - 1) (lentLap ks ns) inside in
+      let c = length-lent ks ns in omega arith
+
+  passes-1 : row1 s f (lentWhole ks ns) ≡ false
+  unfolding row1 lentWhole
+  passes-1 = let a : short f ≡ false = unfold short in le-ltb (length f) 8 (is-fitted .long) in rw (file .long, a, eq-eqb (length ns) (9 * length ks) (w .whole))
+
+  passes-2 : row2 s f (leb (length ks) 800) ≡ false
+  unfolding row2
+  passes-2 = rw (file .small, small-f, le-leb (length ks) 800 few-new)
+    where
+      small-f : big f ≡ false
+      small-f = unfold big in rw (le-ltb 65536 (length f) (is-fitted .size), is-fitted .count) (le-ltb 64 (lapCount s) (not-big s (file .small) .1))
+
+  passes-3 : row3 s f ≡ false
+  unfolding row3
+  passes-3 = rw (file .table, is-fitted .table, is-fitted .count, eq-eqb (lapCount s) (lapCount s) refl)
+
+  passes-4 : row4 s (lentFormed ks ns) ≡ false
+  unfolding row4 lentFormed
+  passes-4 = let a = lent-formed ks ns (w .held) formed-new in let h = some-new in rw (file .formed, ne-eqb (length ks) 0 (λ z. omega arith), a .0, a .1)
+
+  passes-5 : row5 s (commandsIn ks ns) ≡ false
+  unfolding row5
+  passes-5 = rw (file .near, lent-near ks ns (w .held) near-new)
+
+  passes-7 : row7 k s ≡ false
+  unfolding row7
+  passes-7 = let h = w .first in rw (ne-eqb k 0 (λ z. omega arith), le-ltb (lapCount s) k (w .last))
+
+  passed : NewPassed s f k (lentNew tol ks ns) tol
+  passed = record { p1 = passes-1; p2 = passes-2; p3 = passes-3; p4 = passes-4; p5 = passes-5; p6 = old .passed .within; p7 = passes-7 }
+
+  -- ---- its most is no more than the fresh fit's
+  most-of-both : mostWith (lentNew tol ks ns) k f ≤ lapsMost tol (lapsOf (courseWith s k ks ns))
+  unfolding mostWith
+  most-of-both = rw (is-fitted .laps, read .0, ← lent-most ks ns (w .held) tol) (most-set tol pos (lapsOf s) (k - 1) (lentLap ks ns) inside)
+
+  not-refused : (r′ : ℕ) → r ≤ r′ → refusal (replaceRows s f k (lentNew tol ks ns) tol r′) ≡ 0
+  not-refused r′ h =
+      let a = most-of-both in
+      let b = new .passed .few in
+      let c = new .passed .space in
+      let d = read .1 in
+      let e = is-fitted .count in
+      new-sizes s f k (lentNew tol ks ns) tol r′ passed ∙ size-0 (lapCount f) (mostWith (lentNew tol ks ns) k f) r′ (omega arith) (omega arith)
+
+  -- ---- its bytes are the fresh fit's
+  laps-of-both : swap k (fitNew tol ks ns) 1 (lapsOf f) ≡ map (fitLap tol) (lapsOf (courseWith s k ks ns))
+  laps-of-both = rw (is-fitted .laps, read .0, ← lent-fit ks ns (w .held) tol) (map-set (fitLap tol) (lapsOf s) (k - 1) (lentLap ks ns))
+
+  same-bytes : encode (swap k (fitNew tol ks ns) 1 (lapsOf f)) ≡ g
+  same-bytes = ap encode laps-of-both ∙ new .bytes
+
+  fresh-laps : lapsOf g ≡ swap k (fitNew tol ks ns) 1 (lapsOf f)
+  fresh-laps = fitted (courseWith s k ks ns) tol r g new .laps ∙ sym laps-of-both
+
+  replaced : (r′ : ℕ) → r ≤ r′ → replaceLap s f k ks ns tol r′ ≡ gives g
+  unfolding replaceLap
+  replaced r′ h = unless-gives (refusal (replaceRows s f k (lentNew tol ks ns) tol r′)) _ (not-refused r′ h) ∙ ap gives same-bytes
+
+  stays : (j : ℕ) → 1 ≤ j → (j ≡ k → ⊥) → lapAt g j ≡ lapAt f j
+  unfolding lapAt
+  stays j a b = ap (λ (ls : List Lap). getD ls (j - 1) []) fresh-laps ∙ getD-set-other (lapsOf f) (k - 1) (j - 1) (fitNew tol ks ns) [] (λ e. let c = w .first in b (omega arith))
+
+  there : lapAt g k ≡ fitNew tol ks ns
+  unfolding lapAt
+  there =
+      let n = length-laps-of f in
+      let c = is-fitted .count in
+      let a = w .first in
+      let l = w .last in
+      ap (λ (ls : List Lap). getD ls (k - 1) []) fresh-laps ∙ getD-set-same (lapsOf f) (k - 1) (fitNew tol ks ns) [] (omega arith)
+
+-- ---- the replacement
+-- Whatever file the fit accepts at a tolerance, whichever of its laps is lap k, and whatever the new commands: if a fresh fit at that tolerance accepts the course with lap k
+-- replaced by them, the replacement, given an output at least as long, gives exactly the fresh fit's bytes.
+pub replaced-is-fresh : ReplacedIsFresh
+replaced-is-fresh s f tol k ks ns r g w r′ h = replaced s f tol k ks ns r g w r′ h
+
+-- Every other lap's body stays as it was fitted.
+pub others-stay : OthersStay
+others-stay s f tol k ks ns r g w j a b = stays s f tol k ks ns r g w j a b
+
+-- Lap k is the fit of the new commands.
+pub new-is-fitted : NewIsFitted
+new-is-fitted s f tol k ks ns r g w = there s f tol k ks ns r g w
+
+-- Commands lent by their kinds and numbers have their bytes in the file.
+pub lent-as-commands : LentAsCommands
+lent-as-commands cs = lent-commands cs
+
+-- The same of a list of commands, lent by their kinds and numbers: the fresh course has their bytes.
+pub commands-replaced : CommandsReplaced
+commands-replaced s f tol room e k a b cs held r g h r′ l =
+    replaced-is-fresh s f tol k (map kindOf cs) (flat numbersOf cs) r g
+    (record {
+      room = room;
+      fit = e;
+      first = a;
+      last = b;
+      whole = lent-length cs;
+      held = held;
+      fresh = unfold courseWith in rw (lent-commands cs) h;
+    })
+    r′ l

@@ -1,0 +1,105 @@
+-- The new commands as a lap of a file: read back they are the lent commands, and its rows are theirs. Assumes nothing.
+use Prim.Native.Nat.{ℕ, zero, suc, _+_, _*_}
+use mathlib.Core.Path.{_≡_, refl, sym, ap, _∙_}
+use mathlib.Core.Bool.{Bool, true, false}
+use mathlib.Core.List.{List, map}
+use native.Mathlib.Omega.{arith}
+use borrow.Author.Tests.{ne-eqb}
+use lib.ListN.{length, getD}
+use lib.Dec.{eqb}
+use lib.Ieee.{Float}
+use Rattle.floats.proofs.Order.{and-left, and-right}
+use Rattle.geo.specs.declared.types.Command.{Command}
+use Rattle.geo.specs.Walk.{listFrom}
+use Rattle.geo.specs.Lent.{pointAt, commandAt, commandsFrom}
+use Rattle.geo.specs.Domain.{everyFrom, formed, commandsFormed, commandIn, commandsIn}
+use Rattle.geo.proofs.Walk.{list-length}
+use Rattle.file.specs.Command.{decoded, wellFormed, laid, enc, lentBytes, lentLap, Held, HeldPoint}
+use Rattle.file.proofs.RoundTrip.{decoded-laid, formed-laid}
+use Rattle.course.specs.Course.{courseFit, courseMost, lentCourse}
+use Rattle.laps.specs.File.{placed, formOk, domainOk, lapOk}
+use Rattle.laps.proofs.Here.{cond-false}
+use Rattle.lap_fit.specs.Fit.{fitLap, mostLap, fitNew}
+use Rattle.lap_replace.specs.Replace.{movePlaced}
+
+pub length-lent : (ks : List ℕ) (ns : List Float) → length (lentLap ks ns) ≡ length ks
+unfolding lentLap
+length-lent ks ns = list-length (lentBytes ks ns) (length ks) 0
+
+module _ (ks : List ℕ) (ns : List Float) (held : Held ns) where
+  point-held : (i : ℕ) → HeldPoint (pointAt ns i)
+  unfolding pointAt
+  point-held i = (held (3 * i), held (3 * i + 1), held (3 * i + 2))
+
+  decoded-lent : (i : ℕ) → decoded (lentBytes ks ns i) ≡ commandAt ks ns i
+  unfolding lentBytes commandAt
+  decoded-lent i = decoded-laid (getD ks i 0) (pointAt ns (3 * i)) (pointAt ns (3 * i + 1)) (pointAt ns (3 * i + 2)) (point-held (3 * i)) (point-held (3 * i + 1)) (point-held (3 * i + 2))
+
+  formed-lent : (i : ℕ) → wellFormed (lentBytes ks ns i) ≡ formed (getD ks i 0) (pointAt ns (3 * i + 1)) (pointAt ns (3 * i + 2))
+  unfolding lentBytes
+  formed-lent i = formed-laid (getD ks i 0) (pointAt ns (3 * i)) (pointAt ns (3 * i + 1)) (pointAt ns (3 * i + 2)) (point-held (3 * i + 1)) (point-held (3 * i + 2))
+
+  kind-lent : (i : ℕ) → getD (lentBytes ks ns i) 0 0 ≡ getD ks i 0
+  unfolding lentBytes laid
+  kind-lent i = refl
+
+  -- ---- the commands
+  decoded-from : (n i : ℕ) → map decoded (listFrom (lentBytes ks ns) n i) ≡ commandsFrom ks ns n i
+  unfolding listFrom commandsFrom
+  decoded-from zero i = refl
+  decoded-from (suc n) i = rw (decoded-lent i, decoded-from n (i + 1))
+
+  pub lent-course : map decoded (lentLap ks ns) ≡ lentCourse ks ns
+  unfolding lentLap
+  lent-course = decoded-from (length ks) 0
+
+  pub lent-most : (tol : Float) → mostLap tol (lentLap ks ns) ≡ courseMost tol (lentCourse ks ns)
+  unfolding mostLap
+  lent-most tol = ap (courseMost tol) lent-course
+
+  pub lent-fit : (tol : Float) → fitLap tol (lentLap ks ns) ≡ fitNew tol ks ns
+  unfolding fitLap fitNew
+  lent-fit tol = ap (λ (cs : List Command). map enc (courseFit tol cs)) lent-course
+
+  -- ---- row 4
+  every-more : (ok : ℕ → Bool) (n i : ℕ) → ok i ≡ true → everyFrom ok n (i + 1) ≡ true → everyFrom ok (suc n) i ≡ true
+  unfolding everyFrom
+  every-more ok n i h e = rw h e
+
+  every-none : (ok : ℕ → Bool) (i : ℕ) → everyFrom ok zero i ≡ true
+  unfolding everyFrom
+  every-none ok i = refl
+
+  one-formed : (first : Bool) (i : ℕ) → formOk first (lentBytes ks ns i) ≡ true
+      → (placed first (getD ks i 0) ≡ true) × (formed (getD ks i 0) (pointAt ns (3 * i + 1)) (pointAt ns (3 * i + 2)) ≡ true)
+  unfolding formOk
+  one-formed first i e =
+      let a = and-left (placed first (getD (lentBytes ks ns i) 0 0)) _ e in
+      let b = and-right (placed first (getD (lentBytes ks ns i) 0 0)) _ e in
+      (ap (placed first) (sym (kind-lent i)) ∙ a, sym (formed-lent i) ∙ b)
+
+  formed-from : (n i : ℕ) (first : Bool) → first ≡ eqb i 0 → lapOk formOk first (listFrom (lentBytes ks ns) n i) ≡ true
+      → (everyFrom (λ (k : ℕ). placed (eqb k 0) (getD ks k 0)) n i ≡ true) × (everyFrom (λ (k : ℕ). formed (getD ks k 0) (pointAt ns (3 * k + 1)) (pointAt ns (3 * k + 2))) n i ≡ true)
+  unfolding lapOk listFrom
+  formed-from zero i first q e = (every-none _ i, every-none _ i)
+  formed-from (suc n) i first q e =
+      let a = cond-false (formOk first (lentBytes ks ns i)) _ e in
+      let b = one-formed first i (a .0) in
+      let c = formed-from n (i + 1) false (sym (ne-eqb (i + 1) 0 (λ z. omega arith))) (a .1) in
+      (every-more _ n i (ap (λ (t : Bool). placed t (getD ks i 0)) (sym q) ∙ b .0) (c .0), every-more _ n i (b .1) (c .1))
+
+  pub lent-formed : lapOk formOk true (lentLap ks ns) ≡ true → (movePlaced ks ≡ true) × (commandsFormed ks ns ≡ true)
+  unfolding lentLap movePlaced commandsFormed
+  lent-formed e = formed-from (length ks) 0 true refl e
+
+  -- ---- row 5
+  near-from : (n i : ℕ) (first : Bool) → lapOk domainOk first (listFrom (lentBytes ks ns) n i) ≡ true → everyFrom (λ (k : ℕ). commandIn (commandAt ks ns k)) n i ≡ true
+  unfolding lapOk listFrom domainOk
+  near-from zero i first e = every-none _ i
+  near-from (suc n) i first e =
+      let a = cond-false (commandIn (decoded (lentBytes ks ns i))) _ e in
+      every-more _ n i (ap commandIn (sym (decoded-lent i)) ∙ a .0) (near-from n (i + 1) false (a .1))
+
+  pub lent-near : lapOk domainOk true (lentLap ks ns) ≡ true → commandsIn ks ns ≡ true
+  unfolding lentLap commandsIn
+  lent-near e = near-from (length ks) 0 true e

@@ -1,0 +1,109 @@
+-- The rows of the replacement of a lap: what each test of the code tells of a row, and what a call has that passes them. Assumes nothing.
+use Prim.Native.Nat.{ℕ, _+_, _*_, _≤_}
+use mathlib.Core.Path.{_≡_, sym, ap, _∙_}
+use mathlib.Core.Bool.{Bool, true, false, not, _||_}
+use mathlib.Core.List.{List, [], _++_}
+use mathlib.Core.Logic.{⊎-elim}
+use native.Mathlib.Omega.{arith}
+use borrow.Author.Tests.{eqb-true, eqb-false, not-false}
+use lib.Dec.{eqb}
+use lib.ListN.{length}
+use lib.Ieee.{Float}
+use Rattle.floats.proofs.Order.{lt-or-ge}
+use Rattle.geo.specs.Outcome.{Row, refusal}
+use Rattle.geo.specs.Domain.{tolerance}
+use Rattle.geo.proofs.Rows.{row-passes, row-passed}
+use Rattle.course.specs.Course.{cap}
+use Rattle.laps.specs.File.{lapCount, lapsOf, commandCount, short, big, tableOk}
+use Rattle.laps.specs.Rows.{fileSize, sizeRows}
+use Rattle.laps.proofs.Rows.{or-false, refused-front, sized, size-8}
+use Rattle.laps.proofs.Walks.{not-short, not-big}
+use Rattle.lap_fit.proofs.Cap.{told-more, told-below}
+use Rattle.lap_replace.specs.Replace.{swap, NewLap, lentWhole, row1, row2, row3, row4, row5, row7, newRows, mostWith, replaceRows}
+
+-- ---- what each passed row tells
+pub lent-nine : (ks : List ℕ) (ns : List Float) → lentWhole ks ns ≡ true → length ns ≡ 9 * length ks
+unfolding lentWhole
+lent-nine ks ns e = eqb-true (length ns) (9 * length ks) e
+
+module _ (s f : List ℕ) where
+  pub past-1 : (whole : Bool) → row1 s f whole ≡ false → (8 ≤ length s) × (8 ≤ length f) × (whole ≡ true)
+  unfolding row1
+  past-1 whole e =
+      let a = or-false (short s || short f) _ e in
+      let b = or-false (short s) (short f) (a .0) in
+      (not-short s (b .0), not-short f (b .1), not-false _ (a .1))
+
+  pub past-2 : (few : Bool) → row2 s f few ≡ false → (lapCount s ≤ 64) × (lapCount f ≤ 64)
+  unfolding row2
+  past-2 few e =
+      let a = or-false (big s || big f) _ e in
+      let b = or-false (big s) (big f) (a .0) in
+      (not-big s (b .0) .1, not-big f (b .1) .1)
+
+  pub past-3 : row3 s f ≡ false → (tableOk s ≡ true) × (tableOk f ≡ true)
+  unfolding row3
+  past-3 e =
+      let a = or-false (not (tableOk s) || not (tableOk f)) _ e in
+      let b = or-false (not (tableOk s)) (not (tableOk f)) (a .0) in
+      (not-false _ (b .0), not-false _ (b .1))
+
+pub past-7 : (k : ℕ) (s : List ℕ) → row7 k s ≡ false → 1 ≤ k
+unfolding row7
+past-7 k s e = let z = eqb-false k 0 (or-false (eqb k 0) _ e .0) in omega (arith, z)
+
+-- ---- rows 1 to 7, of a new lap in whatever form
+pub record NewPassed (s f : List ℕ) (k : ℕ) (new : NewLap) (tol : Float) : Type 0 where
+  pub p1 : row1 s f (new .whole) ≡ false
+  pub p2 : row2 s f (new .few) ≡ false
+  pub p3 : row3 s f ≡ false
+  pub p4 : row4 s (new .formed) ≡ false
+  pub p5 : row5 s (new .near) ≡ false
+  pub p6 : tolerance tol ≡ true
+  pub p7 : row7 k s ≡ false
+
+module _ (s f : List ℕ) (k : ℕ) (new : NewLap) (tol : Float) where
+  new-passed-with : (ts : List Row) → 0 ≡ refusal (newRows s f k new tol ++ ts) → NewPassed s f k new tol × (0 ≡ refusal ts)
+  unfolding newRows
+  new-passed-with ts e =
+      let a = row-passed 0 (row1 s f (new .whole)) _ e in
+      let b = row-passed 1 (row2 s f (new .few)) _ (a .1) in
+      let c = row-passed 2 (row3 s f) _ (b .1) in
+      let d = row-passed 3 (row4 s (new .formed)) _ (c .1) in
+      let g = row-passed 4 (row5 s (new .near)) _ (d .1) in
+      let h = row-passed 5 (not (tolerance tol)) _ (g .1) in
+      let i = row-passed 6 (row7 k s) _ (h .1) in
+      (record { p1 = a .0; p2 = b .0; p3 = c .0; p4 = d .0; p5 = g .0; p6 = not-false _ (h .0); p7 = i .0 }, i .1)
+
+  pub new-passed : (r : ℕ) → r ≡ refusal (newRows s f k new tol) → r ≡ 0 → NewPassed s f k new tol
+  unfolding newRows
+  new-passed r e z = new-passed-with [] (sym z ∙ e) .0
+
+  behind-new : (ts : List Row) → NewPassed s f k new tol → refusal (newRows s f k new tol ++ ts) ≡ refusal ts
+  unfolding newRows
+  behind-new ts p =
+      row-passes 1 (row1 s f (new .whole)) _ (p .p1) ∙ row-passes 2 (row2 s f (new .few)) _ (p .p2) ∙ row-passes 3 (row3 s f) _ (p .p3) ∙ row-passes 4 (row4 s (new .formed)) _ (p .p4)
+      ∙ row-passes 5 (row5 s (new .near)) _ (p .p5) ∙ row-passes 6 (not (tolerance tol)) _ (ap not (p .p6)) ∙ row-passes 7 (row7 k s) _ (p .p7)
+
+  pub new-refused : (room r : ℕ) → r ≡ refusal (newRows s f k new tol) → (r ≡ 0 → ⊥) → r ≡ refusal (replaceRows s f k new tol room)
+  unfolding replaceRows
+  new-refused room r e h = refused-front (newRows s f k new tol) _ r e h
+
+  pub new-sizes : (room : ℕ) → NewPassed s f k new tol → refusal (replaceRows s f k new tol room) ≡ refusal (sizeRows (lapCount f) (mostWith new k f) room)
+  unfolding replaceRows
+  new-sizes room p = behind-new _ p
+
+  pub replace-passed : (room : ℕ) → 0 ≡ refusal (replaceRows s f k new tol room) → NewPassed s f k new tol × (mostWith new k f ≤ 800) × (fileSize (lapCount f) (mostWith new k f) ≤ room)
+  unfolding replaceRows
+  replace-passed room e =
+      let a = new-passed-with _ e in
+      let b = sized (lapCount f) (mostWith new k f) room (a .1) in
+      (a .0, b .0, b .1)
+
+-- the sizes by the new lap's most, which is told, and the other laps' commands
+pub sizes-with : (new : NewLap) (k : ℕ) (f : List ℕ) (l r o room : ℕ) → l ≡ lapCount f → r ≡ cap (new .most) → o ≡ commandCount (swap k [] 1 (lapsOf f))
+    → refusal (sizeRows l (r + o) room) ≡ refusal (sizeRows (lapCount f) (mostWith new k f) room)
+unfolding mostWith
+sizes-with new k f l r o room e p q =
+    ⊎-elim (λ h. let a = told-more r (new .most) p in size-8 l (r + o) room h ∙ sym (size-8 (lapCount f) (new .most + commandCount (swap k [] 1 (lapsOf f))) room (omega arith)))
+    (λ h. rw (e, ← q, told-below r (new .most) p (omega arith))) (lt-or-ge 800 (r + o))

@@ -1,0 +1,59 @@
+-- The table of worked laps holds: each row by evaluation of the definitions. Assumes nothing.
+use mathlib.Core.Path.{refl}
+use lib.Ieee.{span, climb, size, odd, units, round, neg, sum, add, sub, mul, div, lt, eq, le, isNan, ofInt, toUnsigned, ofFields, ofBits}
+use Rattle.simplify.specs.Measure as line
+use Rattle.circle.specs.Collinear as collin
+use Rattle.floats.specs.Float.{absOf, ceilOf, maxOf, clampOf}
+use Rattle.floats.specs.Root.{better, rootIn, wholeRoot, rootFrom, inUnits, rootOf, plain}
+use Rattle.geo.specs.Domain.{coordinate, centre, within, pointIn, point3In, everyFrom, numbersIn, whole}
+use Rattle.geo.specs.Lent.{pointAt, flat, endOf, kindOf, numbersOf}
+use Rattle.geo.specs.Outcome.{refusal, unless}
+use Rattle.geo.specs.Vector.{lengthOf, distanceSq, distance}
+use Rattle.geo.specs.Walk.{fold, listFrom}
+use Rattle.arc.specs.Direction.{turnAt, crossSum, clockwise}
+use Rattle.simplify.specs.Farthest.{farther, farthestOf, farthestIn}
+use Rattle.simplify.specs.Measure.{toLine, lineSq}
+use Rattle.simplify.specs.Simplify.{simplifyPolyline3d}
+use Rattle.simplify.specs.Thin.{keptBy, thinned, thinnedPoints}
+use Rattle.circle.specs.Bisector.{movedBy, projected}
+use Rattle.circle.specs.Calls.{pointsRows}
+use Rattle.circle.specs.Collinear.{nearTo, besideOf, allNear, allBeside, collinearBy, collinear}
+use Rattle.circle.specs.Kasa.{plus, sumsOf, axesOf, cross3, dot3, scaled, detOf, inverseTimes, solved, matrixOf, sidesOf, centered, kasaCenter}
+use Rattle.circle.specs.Three.{areaOf, turnOf, center3, radiusFrom, centerBy, centerThree, circleRound, throughThree}
+use Rattle.circle.specs.Worst.{worse, worst}
+use Rattle.trial.specs.Deviation.{spokeOf, cosine, sagittaOf, endsOf, stepOf, stepBetween, arcDeviation}
+use Rattle.trial.specs.Traversal.{offsetOf, crossOf, dotOf, atCentre, halfOf, turned, turnsOf, justBehind, justAhead, passesBy, awayFrom, traverses}
+use Rattle.trial.specs.Trial.{sharpTurn, sharpAt, closedRange, trialRound, trialOf, ofCircle, ofCenter, trialThree, trialLeast, threeTried, leastTried, orElse, tryArcs}
+use Rattle.fitting.specs.Calls.{fitRows, fitCall}
+use Rattle.fitting.specs.Commands.{normalOf, shaped, pieceCommand, fitIn}
+use Rattle.fitting.specs.Pieces.{rooted, lineDeviation, arcOrCut, chooseBy, choice, follow, piecesBy}
+use Rattle.bezier.specs.Linearize.{steps, firstThird, lastThird, polygonLength, stepCount, stepsNeeded, paramSteps}
+use Rattle.geo.specs.Vector as vector
+use Rattle.file.specs.Bytes.{halfAt, u32Bytes}
+use Rattle.laps.specs.File.{lapCount, lapsAt, lapsOf, bodies, table, encode, short, big, hasMark, walk, tableOk, lapsOk}
+use Rattle.laps.specs.Rows.{fileRows, sizeRows}
+use Rattle.lap_fit.specs.Fit.{lapsMost, fileFitRows, fitFile}
+use Rattle.lap_replace.specs.Worked.{WorkedLaps, centre-right}
+
+pub worked-laps : WorkedLaps
+unfolding centre-right span climb size odd units round neg sum add sub mul div lt eq le isNan ofInt ofFields ofBits absOf maxOf clampOf better rootIn wholeRoot rootFrom inUnits rootOf plain coordinate centre within pointIn point3In everyFrom numbersIn whole pointAt flat endOf kindOf numbersOf refusal unless lengthOf distanceSq distance fold listFrom turnAt crossSum clockwise farther farthestOf farthestIn toLine lineSq simplifyPolyline3d keptBy thinned thinnedPoints movedBy projected pointsRows nearTo besideOf allNear allBeside collinearBy collinear plus sumsOf axesOf cross3 dot3 scaled detOf inverseTimes solved matrixOf sidesOf centered kasaCenter areaOf turnOf center3 radiusFrom centerBy centerThree circleRound throughThree worse worst spokeOf cosine sagittaOf endsOf stepOf stepBetween arcDeviation offsetOf crossOf dotOf atCentre halfOf turned turnsOf justBehind justAhead passesBy awayFrom traverses sharpTurn sharpAt closedRange trialRound trialOf ofCircle ofCenter trialThree trialLeast threeTried leastTried orElse tryArcs fitRows fitCall normalOf shaped pieceCommand fitIn rooted lineDeviation arcOrCut chooseBy choice follow piecesBy line.chordOf collin.endsChord ceilOf steps firstThird lastThird polygonLength stepCount stepsNeeded paramSteps toUnsigned vector.distance3 halfAt u32Bytes lapCount lapsAt lapsOf bodies table encode short big hasMark walk tableOk lapsOk lapsMost fileRows sizeRows fileFitRows fitFile
+worked-laps =
+    record {
+      root-of-25 = refl;
+      no-points = refl;
+      one-point = refl;
+      two-equal-points = refl;
+      straight = refl;
+      there-and-back = refl;
+      sharp = refl;
+      bend-as-a-line = refl;
+      bend-as-an-arc = refl;
+      bend-as-two-lines = refl;
+      least-tolerance = refl;
+      no-tolerance = refl;
+      curve-of-equal-points = refl;
+      empty-file = refl;
+      first-trial = refl;
+      second-trial = refl;
+      left-bend-as-an-arc = refl;
+    }

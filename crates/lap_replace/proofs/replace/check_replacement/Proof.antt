@@ -1,0 +1,48 @@
+-- `lap_replace::replace::check_replacement` meets its contract: rows 1 to 7, and then the sizes by the most that is told. Assumes nothing.
+use mathlib.Core.Path.{sym, _∙_}
+use native.Mathlib.Omega.{arith}
+use Rattle.lap_fit.proofs.Cap.{cap-small}
+use Rattle.lap_replace.specs.Replace.{lentNew}
+use Rattle.lap_replace.proofs.Rows.{lent-nine, past-1, past-3, past-7, new-passed, new-refused, new-sizes, sizes-with}
+use borrow.Author.Needs.{needs}
+use Rattle.lap_replace.proofs.replace.check_replacement.Statement.{statement}
+use Rattle.lap_replace.proofs.replace.check_replacement.Tie as tie
+
+check-new-requires : tie.Need-check-new-requires
+check-new-requires c κs = search needs
+
+returns : tie.Need-returns
+returns c = let a = c .before .before .before .before .before .before .args in new-refused (a .s .now) (a .f .now) (a .k) (lentNew (a .tolerance) (a .kinds .now) (a .nums .now)) (a .tolerance) (a .room) _ (c .before .check-new .ensures) (c .if1 .taken)
+
+course-most-requires : tie.Need-course-most-requires
+course-most-requires c κs = let a = c .before .before .before .before .before .before .args in let p = new-passed (a .s .now) (a .f .now) (a .k) (lentNew (a .tolerance) (a .kinds .now) (a .nums .now)) (a .tolerance) _ (c .before .check-new .ensures) (c .if1 .left) in let e = lent-nine (a .kinds .now) (a .nums .now) (past-1 (a .s .now) (a .f .now) _ (p .p1) .2) in omega (arith, e)
+
+others-of-requires : tie.Need-others-of-requires
+others-of-requires c κs = let a = c .before .before .before .before .before .before .before .args in let p = new-passed (a .s .now) (a .f .now) (a .k) (lentNew (a .tolerance) (a .kinds .now) (a .nums .now)) (a .tolerance) _ (c .before .before .check-new .ensures) (c .before .if1 .left) in (past-7 (a .k) (a .s .now) (p .p7), past-1 (a .s .now) (a .f .now) _ (p .p1) .1, past-3 (a .s .now) (a .f .now) (p .p3) .1)
+
+add-most : tie.Need-add-most
+add-most c = let b = cap-small _ _ (c .before .course-most .ensures) in omega (arith, c .others-of .ensures .1)
+
+lap-count-requires : tie.Need-lap-count-requires
+lap-count-requires c κs = let a = c .before .before .before .before .before .before .before .before .args in let p = new-passed (a .s .now) (a .f .now) (a .k) (lentNew (a .tolerance) (a .kinds .now) (a .nums .now)) (a .tolerance) _ (c .before .before .before .check-new .ensures) (c .before .before .if1 .left) in past-1 (a .s .now) (a .f .now) _ (p .p1) .1
+
+check-sizes-requires : tie.Need-check-sizes-requires
+check-sizes-requires c κs = c .lap-count .ensures .1
+
+returns-2 : tie.Need-returns-2
+returns-2 c = let a = c .before .before .before .before .before .before .before .before .before .before .args in
+    c .check-sizes .ensures ∙ sizes-with (lentNew (a .tolerance) (a .kinds .now) (a .nums .now)) (a .k) (a .f .now) _ _ _ (a .room) (c .before .lap-count .ensures .0) (c .before .before .before .course-most .ensures) (c .before .before .others-of .ensures .0)
+    ∙ sym (new-sizes (a .s .now) (a .f .now) (a .k) (lentNew (a .tolerance) (a .kinds .now) (a .nums .now)) (a .tolerance) (a .room) (new-passed (a .s .now) (a .f .now) (a .k) (lentNew (a .tolerance) (a .kinds .now) (a .nums .now)) (a .tolerance) _ (c .before .before .before .before .before .check-new .ensures) (c .before .before .before .before .if1 .left)))
+
+pub check-replacement-spec : {M : Type 1} → statement M
+check-replacement-spec =
+    tie.close
+    (tie.spec
+    check-new-requires
+    returns
+    course-most-requires
+    others-of-requires
+    add-most
+    lap-count-requires
+    check-sizes-requires
+    returns-2)

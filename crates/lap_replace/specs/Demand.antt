@@ -1,0 +1,117 @@
+-- Demand 3 in words that can be checked: what is said of files, their fits and the replacement of a lap. Definitions only; `proofs/Demand.antt` has the proofs.
+use Prim.Native.Nat.{ℕ, _-_, _*_, _≤_, _<_}
+use mathlib.Core.Bool.{true}
+use mathlib.Core.Path.{_≡_}
+use mathlib.Core.List.{List, [], map}
+use lib.ListN.{length, getD, take}
+use lib.Ieee.{Float}
+use Rattle.geo.specs.declared.types.Point3D.{Point3D}
+use Rattle.geo.specs.declared.types.Command.{Command}
+use Rattle.geo.specs.Outcome.{gives}
+use Rattle.geo.specs.Lent.{flat, kindOf, numbersOf}
+use Rattle.simplify.specs.Measure.{Measure, lineSq}
+use Rattle.file.specs.Command.{decoded, enc, lentLap, Held}
+use Rattle.course.specs.Course.{courseParts, courseFit}
+use Rattle.course.specs.Demand.{PartsGive}
+use Rattle.laps.specs.File.{Lap, lapCount, lapsOf, mark, encode, tableOk, Bytes, AllFull, commandCount}
+use Rattle.lap_fit.specs.Fit.{fitNew, fitFile}
+use Rattle.lap_replace.specs.Replace.{swap, replaceLap}
+
+-- lap number j of a file, its commands as they stand
+unfoldable pub lapAt : List ℕ → ℕ → Lap
+lapAt s j = getD (lapsOf s) (j - 1) []
+
+-- "the course with lap k replaced by" the commands that are lent as ks and ns: the file of these laps
+unfoldable pub courseWith : List ℕ → ℕ → List ℕ → List Float → List ℕ
+courseWith s k ks ns = encode (swap k (lentLap ks ns) 1 (lapsOf s))
+
+-- ---- the format
+-- a file whose mark and table are right is what its laps are encoded to
+abbrev pub Canonical : Type 0
+Canonical = (s : List ℕ) → Bytes s → 8 ≤ length s → tableOk s ≡ true → encode (lapsOf s) ≡ s
+
+-- laps that a u32 can count are read back from the file that they are encoded to
+abbrev pub ReadBack : Type 0
+ReadBack = (ls : List Lap) → AllFull ls → length ls < 4294967296 → commandCount ls < 4294967296 → lapsOf (encode ls) ≡ ls
+
+-- so the course with lap k replaced is one file: any file with these laps is it
+abbrev pub OneCourse : Type 0
+OneCourse =
+    (s g : List ℕ) (k : ℕ) (ks : List ℕ) (ns : List Float) → Bytes g → 8 ≤ length g → tableOk g ≡ true → lapsOf g ≡ swap k (lentLap ks ns) 1 (lapsOf s) → g ≡ courseWith s k ks ns
+
+-- ---- the fit
+-- "Each lap of an accepted fit is document 01's fit of the recorded lap": the fit has as many laps, and each is the fit of the lap of that number, encoded
+abbrev pub LapsAreFitted : Type 0
+LapsAreFitted =
+    (s f : List ℕ) (tol : Float) (room : ℕ) → fitFile s tol room ≡ gives f
+    → (lapCount f ≡ lapCount s) × ((j : ℕ) → 1 ≤ j → j ≤ lapCount s → lapAt f j ≡ map enc (courseFit tol (map decoded (lapAt s j))))
+
+-- "and in it each chain gives, in order, one Line or new Arc for each of its pieces; each step of each thinned chain lies in exactly one piece; a Line's or new Arc's
+-- computed deviation over its piece is below the tolerance; each thinned-out point is, as computed, within it of the line through its kept neighbours; and a range is cut
+-- exactly when its Line and both arc trials fail": a fitted lap is the bytes of commands which are, in order, the recorded lap's kept commands and what each of its chains
+-- gives, as `ChainFitted` of `course/specs/Demand.antt` says sentence by sentence
+pub record LapGives (m : Measure Point3D) (tol : Float) (recorded fitted : Lap) : Type 0 where
+  pub commands : List Command
+  pub bytes : fitted ≡ map enc commands
+  pub parts : PartsGive m tol (courseParts tol (map decoded recorded)) commands
+
+abbrev pub EachLapGives : Type 0
+EachLapGives =
+    (s f : List ℕ) (tol : Float) (room : ℕ) → fitFile s tol room ≡ gives f
+    → (lapCount f ≡ lapCount s) × ((j : ℕ) → 1 ≤ j → j ≤ lapCount s → LapGives lineSq tol (lapAt s j) (lapAt f j))
+
+-- an accepted fit is a lap file: bytes within document 01's limits, with the mark and a right table
+pub record IsLapFile (f : List ℕ) : Type 0 where
+  pub bytes : Bytes f
+  pub least : 8 ≤ length f
+  pub greatest : length f ≤ 65536
+  pub laps : lapCount f ≤ 64
+  pub marked : take 4 f ≡ mark
+  pub table : tableOk f ≡ true
+  pub commands : commandCount (lapsOf f) ≤ 800
+
+abbrev pub FitIsLapFile : Type 0
+FitIsLapFile = (s f : List ℕ) (tol : Float) (room : ℕ) → fitFile s tol room ≡ gives f → IsLapFile f
+
+-- ---- the replacement
+-- f is the fit of the file s at tol, k is one of its laps, and the new commands are lent as ks and ns. A fresh fit at tol, into r bytes, accepts the course with lap k
+-- replaced by them, and g are its bytes
+pub record Fresh (s f : List ℕ) (tol : Float) (k : ℕ) (ks : List ℕ) (ns : List Float) (r : ℕ) (g : List ℕ) : Type 0 where
+  pub room : ℕ
+  pub fit : fitFile s tol room ≡ gives f
+  pub first : 1 ≤ k
+  pub last : k ≤ lapCount s
+  pub whole : length ns ≡ 9 * length ks
+  pub held : Held ns
+  pub fresh : fitFile (courseWith s k ks ns) tol r ≡ gives g
+
+-- "lap replacement, given the file, its fit, k, those commands, that tolerance and an output at least as long as the one lent to the fresh fit, gives exactly the fresh
+-- fit's bytes"
+abbrev pub ReplacedIsFresh : Type 0
+ReplacedIsFresh =
+    (s f : List ℕ) (tol : Float) (k : ℕ) (ks : List ℕ) (ns : List Float) (r : ℕ) (g : List ℕ) → Fresh s f tol k ks ns r g
+    → (r′ : ℕ) → r ≤ r′ → replaceLap s f k ks ns tol r′ ≡ gives g
+
+-- "and every other lap's body stays as it was fitted"
+abbrev pub OthersStay : Type 0
+OthersStay =
+    (s f : List ℕ) (tol : Float) (k : ℕ) (ks : List ℕ) (ns : List Float) (r : ℕ) (g : List ℕ) → Fresh s f tol k ks ns r g
+    → (j : ℕ) → 1 ≤ j → (j ≡ k → ⊥) → lapAt g j ≡ lapAt f j
+
+-- and lap k is the fit of the new commands
+abbrev pub NewIsFitted : Type 0
+NewIsFitted =
+    (s f : List ℕ) (tol : Float) (k : ℕ) (ks : List ℕ) (ns : List Float) (r : ℕ) (g : List ℕ) → Fresh s f tol k ks ns r g → lapAt g k ≡ fitNew tol ks ns
+
+-- the lent form says it of each list of commands: they are lent by their kinds and numbers, and the file has their bytes
+abbrev pub LentAsCommands : Type 0
+LentAsCommands = (cs : List Command) → lentLap (map kindOf cs) (flat numbersOf cs) ≡ map enc cs
+
+-- so the first sentence of demand 3 with the new commands as a list
+abbrev pub CommandsReplaced : Type 0
+CommandsReplaced =
+    (s f : List ℕ) (tol : Float) (room : ℕ) → fitFile s tol room ≡ gives f
+    → (k : ℕ) → 1 ≤ k → k ≤ lapCount s
+    → (new : List Command) → Held (flat numbersOf new)
+    → (r : ℕ) (g : List ℕ) → fitFile (encode (swap k (map enc new) 1 (lapsOf s))) tol r ≡ gives g
+    → (r′ : ℕ) → r ≤ r′ → replaceLap s f k (map kindOf new) (flat numbersOf new) tol r′ ≡ gives g

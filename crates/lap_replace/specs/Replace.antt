@@ -1,0 +1,98 @@
+-- The replacement of one lap: which row of document 01's table refuses it, else the bytes that it writes. Definitions only.
+use Prim.Native.Nat.{ℕ, _+_, _-_, _*_, _/_}
+use mathlib.Core.Bool.{Bool, not, _&&_, _||_}
+use mathlib.Core.List.{List, [], _∷_, _++_}
+use lib.ListN.{length, getD, set}
+use lib.Dec.{ltb, leb, eqb}
+use lib.Ieee.{Float}
+use Rattle.geo.specs.Domain.{tolerance, everyFrom, commandsFormed, commandsIn}
+use Rattle.geo.specs.Outcome.{Row, row, refusal, Outcome, unless}
+use Rattle.file.specs.Command.{commandsAt}
+use Rattle.course.specs.Course.{courseMost, lentCourse}
+use Rattle.laps.specs.File.{Lap, lapCount, lapsOf, encode, commandCount, short, big, tableOk, placed, formOk, domainOk, lapsOk}
+use Rattle.laps.specs.Rows.{sizeRows}
+use Rattle.lap_fit.specs.Fit.{fitNew}
+
+-- laps that are numbered from `first` on, with a new lap k: "It writes the new lap's fit and copies every other lap's body from the fitted file as it stands"
+abbrev pub swap : ℕ → Lap → ℕ → List Lap → List Lap
+swap k new first ls = set ls (k - first) new
+
+-- the lap whose body, whole commands, stands in a buffer
+unfoldable pub lapIn : List ℕ → Lap
+lapIn bytes = commandsAt bytes 0 (length bytes / 73)
+
+-- ---- what a call tells of its new lap, in whatever form it is lent
+pub record NewLap : Type 0 where
+  -- row 1: it is whole commands
+  pub whole : Bool
+  -- row 2: they are at most 800
+  pub few : Bool
+  -- row 4: they are a lap
+  pub formed : Bool
+  -- row 5: their numbers are in the domain
+  pub near : Bool
+  -- what they could become at most
+  pub most : ℕ
+
+-- of commands that are lent as the kinds ks and the numbers ns
+unfoldable pub lentWhole : List ℕ → List Float → Bool
+lentWhole ks ns = eqb (length ns) (9 * length ks)
+
+-- "Each lap has one Move, its first command"
+unfoldable pub movePlaced : List ℕ → Bool
+movePlaced ks = everyFrom (λ i. placed (eqb i 0) (getD ks i 0)) (length ks) 0
+
+-- a lap has a command; its Move is placed; "Unknown kind, unused number not +0"
+unfoldable pub lentFormed : List ℕ → List Float → Bool
+lentFormed ks ns = not (eqb (length ks) 0) && movePlaced ks && commandsFormed ks ns
+
+abbrev pub lentNew : Float → List ℕ → List Float → NewLap
+lentNew tol ks ns = record { whole = lentWhole ks ns; few = leb (length ks) 800; formed = lentFormed ks ns; near = commandsIn ks ns; most = courseMost tol (lentCourse ks ns) }
+
+-- ---- the rows: s is the recorded file, f its fitted file, k the lap's number
+-- "A slice is not whole points or commands; a file under 8 bytes"
+unfoldable pub row1 : List ℕ → List ℕ → Bool → Bool
+row1 s f whole = short s || short f || not whole
+
+-- "More than the domain's ... commands, laps, file bytes"
+unfoldable pub row2 : List ℕ → List ℕ → Bool → Bool
+row2 s f few = big s || big f || not few
+
+-- "Wrong mark or table, over 800 commands in a table, lap counts that differ"
+unfoldable pub row3 : List ℕ → List ℕ → Bool
+row3 s f = not (tableOk s) || not (tableOk f) || not (eqb (lapCount s) (lapCount f))
+
+-- "Unknown kind, unused number not +0, or in a lap a Move missing or misplaced": in the recorded file, and in the new commands, which are a lap too
+unfoldable pub row4 : List ℕ → Bool → Bool
+row4 s formed = not (lapsOk formOk (lapsOf s)) || not formed
+
+-- "Number not in the domain"
+unfoldable pub row5 : List ℕ → Bool → Bool
+row5 s near = not (lapsOk domainOk (lapsOf s)) || not near
+
+-- "lap 0 or above L"
+unfoldable pub row7 : ℕ → List ℕ → Bool
+row7 k s = eqb k 0 || ltb (lapCount s) k
+
+-- rows 1 to 7
+unfoldable pub newRows : List ℕ → List ℕ → ℕ → NewLap → Float → List Row
+newRows s f k new tol =
+    row 1 (row1 s f (new .whole))
+    ∷ row 2 (row2 s f (new .few))
+    ∷ row 3 (row3 s f)
+    ∷ row 4 (row4 s (new .formed))
+    ∷ row 5 (row5 s (new .near))
+    ∷ row 6 (not (tolerance tol))
+    ∷ row 7 (row7 k s)
+    ∷ []
+
+-- "for a replacement, the new lap's most and the fitted file's command count in all other laps"
+unfoldable pub mostWith : NewLap → ℕ → List ℕ → ℕ
+mostWith new k f = new .most + commandCount (swap k [] 1 (lapsOf f))
+
+unfoldable pub replaceRows : List ℕ → List ℕ → ℕ → NewLap → Float → ℕ → List Row
+replaceRows s f k new tol room = newRows s f k new tol ++ sizeRows (lapCount f) (mostWith new k f) room
+
+-- ---- the call: the new commands are lent as ks and ns, the output has `room` bytes
+unfoldable pub replaceLap : List ℕ → List ℕ → ℕ → List ℕ → List Float → Float → ℕ → Outcome (List ℕ)
+replaceLap s f k ks ns tol room = unless (refusal (replaceRows s f k (lentNew tol ks ns) tol room)) (encode (swap k (fitNew tol ks ns) 1 (lapsOf f)))

@@ -1,0 +1,2 @@
+// The replacement of one lap of a fitted file.
+pub mod replace;
