@@ -18,17 +18,13 @@ hasPattern x p = cond (isNan x) (nanBits binary64 p) (eqb (toBits binary64 x) p)
 unfoldable pub numbersAt : List ℕ → ℕ → ℕ → List Float
 numbersAt s at n = listFrom (λ i. ofBits binary64 (wordAt s (at + 8 * i))) n 0
 
--- as kinds: the lowest byte of each
-unfoldable pub kindsAt : List ℕ → ℕ → ℕ → List ℕ
-kindsAt s at n = listFrom (λ i. getD s (at + 8 * i) 0) n 0
-
 -- they are the patterns of the first n numbers of `out`
 unfoldable pub numbersWritten : List ℕ → ℕ → ℕ → List Float → Bool
 numbersWritten s at n out = everyFrom (λ i. hasPattern (getD out i nan) (wordAt s (at + 8 * i))) n 0
 
--- they are the first n kinds
-unfoldable pub kindsWritten : List ℕ → ℕ → ℕ → List ℕ → Bool
-kindsWritten s at n kinds = everyFrom (λ i. eqb (getD kinds i 0) (getD s (at + 8 * i) 0)) n 0
+-- the n bytes from `at` on are the first n of `bytes`
+unfoldable pub bytesWritten : List ℕ → ℕ → ℕ → List ℕ → Bool
+bytesWritten s at n bytes = everyFrom (λ i. eqb (getD bytes i 0) (getD s (at + i) 0)) n 0
 
 -- ---- what a call left: the known number, or byte, stands at each index from `from` on and below `to`
 unfoldable pub numbersLeft : List Float → ℕ → ℕ → Float → Bool

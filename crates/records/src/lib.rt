@@ -6,7 +6,7 @@ ghost use mathlib.Core.Path.{_≡_};
 ghost use Prim.Native.Nat.{_+_, _*_, _≤_};
 ghost use lib.ListN.{length};
 ghost use lib.Seq.{sets};
-ghost use Rattle.records.specs.Words.{hasPattern, numbersAt, kindsAt, numbersWritten, kindsWritten, numbersLeft, bytesLeft};
+ghost use Rattle.records.specs.Words.{hasPattern, numbersAt, numbersWritten, bytesWritten, numbersLeft, bytesLeft};
 
 // Whether x has the pattern, or both are a NaN. Numbers are not compared, since -0 == 0.
 pub fn has_pattern(x: f64, p: u64) -> bool
@@ -28,16 +28,6 @@ pub fn read_numbers(s: &[u8], at: usize, n: usize, numbers: &mut [f64])
     }
 }
 
-// Reads the n kinds of s from `at` on, each the lowest byte of a word.
-pub fn read_kinds(s: &[u8], at: usize, n: usize, kinds: &mut [u8])
-    requires { ⌜ (n ≤ length (now kinds)) × (at + 8 * n ≤ length (now s)) ⌝ }
-    ensures { λ _. ⌜ now (kinds .exit) ≡ sets (now (kinds .entry)) 0 (kindsAt (now (s .entry)) at n) ⌝ }
-{
-    for i in 0..n {
-        kinds[i] = s[at + 8 * i];
-    }
-}
-
 // Whether the first n numbers have the patterns of s from `at` on.
 pub fn are_numbers_written(s: &[u8], at: usize, n: usize, out: &[f64]) -> bool
     requires { ⌜ (n ≤ length (now out)) × (at + 8 * n ≤ length (now s)) ⌝ }
@@ -51,13 +41,13 @@ pub fn are_numbers_written(s: &[u8], at: usize, n: usize, out: &[f64]) -> bool
     true
 }
 
-// Whether the first n kinds are those of s from `at` on.
-pub fn are_kinds_written(s: &[u8], at: usize, n: usize, kinds: &[u8]) -> bool
-    requires { ⌜ (n ≤ length (now kinds)) × (at + 8 * n ≤ length (now s)) ⌝ }
-    ensures { λ r. ⌜ r ≡ kindsWritten (now (s .entry)) at n (now (kinds .entry)) ⌝ }
+// Whether the first n bytes are those of s from `at` on.
+pub fn are_bytes_written(s: &[u8], at: usize, n: usize, bytes: &[u8]) -> bool
+    requires { ⌜ (n ≤ length (now bytes)) × (at + n ≤ length (now s)) ⌝ }
+    ensures { λ r. ⌜ r ≡ bytesWritten (now (s .entry)) at n (now (bytes .entry)) ⌝ }
 {
     for i in 0..n {
-        if kinds[i] != s[at + 8 * i] {
+        if bytes[i] != s[at + i] {
             return false;
         }
     }

@@ -3,19 +3,18 @@ use std::process::ExitCode;
 
 const USAGE: &str = "\
 geometry bezier COUNT SEED | geometry arc COUNT SEED | geometry grid | geometry bench-bezier
-geometry list-bezier COUNT SEED
-geometry simplify COUNT SEED | geometry grid-simplify | geometry bench-simplify | geometry list-simplify COUNT SEED
+geometry simplify COUNT SEED | geometry grid-simplify | geometry bench-simplify
 geometry fit COUNT SEED | geometry recordings COUNT SEED | geometry grid-fit | geometry bench-fit | geometry zigzag-in KIB
-geometry list-fit COUNT SEED | geometry list-course COUNT SEED
-geometry course COUNT SEED | geometry laps COUNT SEED | geometry bench-laps | geometry list-laps COUNT SEED
-geometry lapfit COUNT SEED | geometry bench-lapfit";
+geometry course COUNT SEED | geometry laps COUNT SEED | geometry bench-laps
+geometry lapfit COUNT SEED | geometry bench-lapfit
+geometry list COUNT SEED";
 
 /// Whether nothing differed or failed; none where the words ask for nothing.
 #[cfg(given)]
 fn run(words: &[String]) -> Option<bool> {
     use oracle::geometry::{
         arc, bench_bezier, bench_fit, bench_laps, bench_simplify, bezier, course, fit, frame, grid, grid_fit,
-        grid_simplify, laps, list, list_course, list_fit, list_laps, list_simplify, listing, simplify,
+        grid_simplify, laps, list, listing, simplify,
     };
     use std::io::{BufWriter, stdout};
 
@@ -38,21 +37,7 @@ fn run(words: &[String]) -> Option<bool> {
         ("zigzag-in", [kib]) => Some(bench_fit::zigzag_in(*kib as usize)),
         ("bench-laps", []) => Some(bench_laps::run()),
         ("bench-simplify", []) => Some(bench_simplify::run()),
-        ("list-bezier", [count, seed]) => {
-            Some(list::list(*count as usize, *seed, &mut BufWriter::new(stdout())).is_ok())
-        }
-        ("list-course", [count, seed]) => {
-            Some(list_course::list(*count as usize, *seed, &mut BufWriter::new(stdout())).is_ok())
-        }
-        ("list-fit", [count, seed]) => {
-            Some(list_fit::list(*count as usize, *seed, &mut BufWriter::new(stdout())).is_ok())
-        }
-        ("list-laps", [count, seed]) => {
-            Some(list_laps::list(*count as usize, *seed, &mut BufWriter::new(stdout())).is_ok())
-        }
-        ("list-simplify", [count, seed]) => {
-            Some(list_simplify::list(*count as usize, *seed, &mut BufWriter::new(stdout())).is_ok())
-        }
+        ("list", [count, seed]) => Some(list::list(*count as usize, *seed, &mut BufWriter::new(stdout())).is_ok()),
         _ => None,
     }
 }

@@ -1,25 +1,33 @@
-//! A list of calls and of what is expected of each, for a replay with no Rust: records of words, eight bytes each, the
-//! lowest first.
+//! The list of recorded calls and of what is expected of each, for the replay with no Rust (`crates/replay`). A record is a
+//! head of words, eight bytes each, the lowest first; then what is lent, and what is written.
 //!
 //! | word | what |
 //! |---|---|
 //! | 0 | the function: its place in `NAMES` |
-//! | 1 | how many numbers go in |
-//! | 2 | the step count or the depth; 1 where a tolerance is given, 0 where the source's own is asked for |
-//! | 3 | how many numbers the lent output holds |
-//! | 4 | the number of the refusal, or 0 |
-//! | 5 | the count of items written, or the truth; 0 where there is none |
-//! | 6 | how many numbers are written |
-//! | then | the numbers that go in, and those that are written |
-use super::draw::Draw;
-use super::frame::{Compared, Function};
+//! | 1 | the pattern of the tolerance, of a Bezier's parameter or of its resolution; 0 where there is none |
+//! | 2 | the start of a range, the step count, the depth, the lap; 1 where a tolerance is given, or arcs are fitted |
+//! | 3 | the end of a range |
+//! | 4 | how many numbers are lent |
+//! | 5 | how many kinds |
+//! | 6 | how many bytes of a recorded file |
+//! | 7 | how many bytes of a fitted file |
+//! | 8 | how many numbers the output holds |
+//! | 9 | how many bytes, which are kinds or a file's |
+//! | 10 | the number of the refusal, or 0 |
+//! | 11 | the count of items written, the index, or the truth; 0 where there is none |
+//! | 12 | how many numbers are written |
+//! | 13 | how many bytes |
+//! | then | the numbers that are lent, eight bytes each; the kinds and both files; the numbers and the bytes that are written |
+//!
+//! A centre or a circle stands among the numbers where it stands among the arguments: before the points of an arc, behind those
+//! of a chord.
+use super::frame::Compared;
+use super::laps::first_bytes;
 use super::lent::Purpose;
-use super::{arc, bezier};
-use crate::random::Random;
-use std::collections::HashMap;
+use super::{list_bezier, list_course, list_fit, list_laps, list_simplify};
 use std::io::{Result, Write};
 
-const NAMES: [&str; 10] = [
+const NAMES: [&str; 25] = [
     "get_midpoint_3d",
     "get_bezier_point_at",
     "split_bezier",
@@ -30,128 +38,118 @@ const NAMES: [&str; 10] = [
     "linearize_bezier_segment",
     "fit_cubic_bezier",
     "is_arc_clockwise",
+    "simplify_polyline",
+    "simplify_polyline_3d",
+    "simplify_data",
+    "are_points_collinear_3d",
+    "fit_circle_to_3_points",
+    "fit_circle_to_points_3d",
+    "project_circle_center_to_bisector",
+    "get_polyline_line_deviation",
+    "get_polyline_arc_deviation",
+    "fit_points_recursive",
+    "fit_points_with_primitives",
+    "fit_arcs",
+    "optimize_path_from_array",
+    "fit_file",
+    "replace_lap",
 ];
 
-/// A record above so many words is a long one, and those that are drawn for a function have at most so many together.
-const LONG: usize = 100;
-const LONG_WORDS: usize = 4_000;
+const VALUES: [&str; 4] = ["t", "tolerance_sq", "resolution", "tolerance"];
+const WHOLES: [&str; 5] = ["steps", "depth", "range", "lap", "use_fit_arcs"];
+const NUMBERS: [&str; 5] = ["curve", "centre", "circle", "points", "numbers"];
 
-/// The argument of one of these names.
-fn argument<'a>(call: &'a Compared, names: &[&str]) -> Option<&'a Vec<u64>> {
-    call.arguments.iter().find(|(name, _)| names.contains(name)).map(|(_, words)| words)
+/// A recorded call.
+pub struct Record {
+    pub bytes: Vec<u8>,
+    /// How many numbers and kinds are lent and written.
+    pub items: usize,
 }
 
-/// The numbers that go in, one argument behind the other.
-fn numbers(call: &Compared) -> Vec<u64> {
-    let whole = ["steps", "depth", "room"];
-    call.arguments.iter().filter(|(name, _)| !whole.contains(name)).flat_map(|(_, words)| words.clone()).collect()
+/// The argument of one of these names; nothing where there is none.
+fn argument<'a>(call: &'a Compared, names: &[&str]) -> &'a [u64] {
+    call.arguments.iter().find(|(name, _)| names.contains(name)).map_or(&[], |(_, words)| words)
 }
 
-fn whole(call: &Compared) -> u64 {
-    match argument(call, &["tolerance"]) {
-        Some(tolerance) => tolerance.len() as u64,
-        None => argument(call, &["steps", "depth"]).map_or(0, |words| words[0]),
+fn first(words: &[u64]) -> u64 {
+    words.first().copied().unwrap_or(0)
+}
+
+/// A file that is an argument: its length, and its bytes by eights.
+fn file(words: &[u64]) -> Vec<u8> {
+    words.iter().skip(1).flat_map(|word| word.to_le_bytes()).take(first(words) as usize).collect()
+}
+
+/// Words 2 and 3.
+fn wholes(call: &Compared) -> [u64; 2] {
+    match (call.function, argument(call, &WHOLES)) {
+        ("linearize_bezier_segment", _) => [argument(call, &VALUES).len() as u64, 0],
+        (_, [start, end]) => [*start, *end],
+        (_, words) => [first(words), 0],
     }
 }
 
-fn record(call: &Compared) -> Vec<u64> {
+pub fn record(call: &Compared) -> Record {
     let function = NAMES.iter().position(|name| *name == call.function).expect("a function with a place");
-    let numbers = numbers(call);
+    let numbers: Vec<u64> =
+        call.arguments.iter().filter(|(name, _)| NUMBERS.contains(name)).flat_map(|(_, words)| words.clone()).collect();
+    let kinds = argument(call, &["kinds"]);
+    let (recorded, fitted) = (file(argument(call, &["recorded"])), file(argument(call, &["fitted"])));
     let answer = call.lent(Purpose::Answer);
     let written = answer.map_or(&[][..], |lent| lent.front());
-    let mut words = vec![
+    let stored = call.lent(Purpose::Kinds).map_or(vec![], |lent| first_bytes(lent, call.count() as usize));
+    let [start, end] = wholes(call);
+    let head = [
         function as u64,
+        first(argument(call, &VALUES)),
+        start,
+        end,
         numbers.len() as u64,
-        whole(call),
+        kinds.len() as u64,
+        recorded.len() as u64,
+        fitted.len() as u64,
         answer.map_or(0, |lent| lent.len() as u64),
+        first(argument(call, &["rooms"])),
         call.given.number as u64,
         call.count(),
         written.len() as u64,
+        stored.len() as u64,
     ];
-    words.extend(numbers);
-    words.extend(written);
-    words
+    let mut bytes: Vec<u8> = head.iter().chain(&numbers).flat_map(|word| word.to_le_bytes()).collect();
+    bytes.extend(kinds.iter().map(|kind| *kind as u8));
+    bytes.extend([recorded, fitted].concat());
+    bytes.extend(written.iter().flat_map(|word| word.to_le_bytes()));
+    bytes.extend(&stored);
+    Record { bytes, items: numbers.len() + kinds.len() + written.len() + stored.len() }
 }
 
-/// The functions that are listed.
-fn functions() -> Vec<Function> {
-    bezier::FUNCTIONS.iter().chain(&arc::FUNCTIONS).copied().collect()
-}
-
-/// A list of so many points.
-fn points(count: usize) -> Vec<f64> {
-    (0..count).flat_map(|i| [i as f64 * 0.5, (i * i % 97) as f64]).collect()
-}
-
-/// Calls at the edges that a draw seldom meets: the least numbers, fewest and most steps and one more, both depths and one
-/// more, most points and one more, outputs exactly full and one item short.
-fn edges() -> Vec<Compared> {
-    let flat = [0.0, 0.0, 300.0, 500.0, 700.0, -400.0, 1_000.0, 0.0];
-    let steep = [1_000.0, 0.0, 30.0, 300.0, 500.0, 10.0, 700.0, -400.0, 20.0, -0.0, 0.0, -0.0];
-    let length = bezier::polygon_length(&steep);
-    let least = f64::from_bits(1);
-    vec![
-        bezier::midpoint_of(&[least, -least, -0.0, least, -least, -0.0]),
-        bezier::steps_of(&steep, 1, 6),
-        bezier::steps_of(&steep, 2_048, 12_288),
-        bezier::steps_of(&steep, 2_048, 12_282),
-        bezier::steps_of(&steep, 2_049, 12_294),
-        bezier::steps_of(&steep, 0, 6),
-        bezier::params_of(&steep, length / 799.5, 4_800),
-        bezier::params_of(&steep, length / 800.5, 4_806),
-        bezier::params_of(&[1.0; 12], 0.001, 12),
-        bezier::params_of(&[1.0; 12], 0.001, 6),
-        bezier::adaptive_of(&flat, 1e-6, 0, 4),
-        bezier::adaptive_of(&flat, 1e-6, 10, 2_050),
-        bezier::adaptive_of(&flat, 1e-6, 10, 2_048),
-        bezier::adaptive_of(&flat, 1e-6, 11, 4_098),
-        bezier::segment_of(&steep, Some(0.001), 3_075),
-        bezier::segment_of(&steep, Some(0.001), 3_072),
-        bezier::segment_of(&steep, None, 3_075),
-        bezier::fit_of(&points(2_048), false),
-        bezier::fit_of(&points(2_049), false),
-        arc::direction_of(&points(2_048), [10.0, 20.0], false),
-        arc::direction_of(&points(2_049), [10.0, 20.0], false),
-    ]
-}
-
-/// How many words of long records each function has left.
-struct Budget {
-    used: HashMap<&'static str, usize>,
-}
-
-impl Budget {
-    /// Whether a record of so many words may stand in the list.
-    fn takes(&mut self, function: &'static str, words: usize) -> bool {
-        let used = self.used.entry(function).or_default();
-        if words <= LONG {
-            return true;
-        }
-        *used += words;
-        *used <= LONG_WORDS
+/// The fixed records, and drawn ones up to `count`. `drawn` draws one for a place, or none where it is not to be listed.
+pub fn filled(mut records: Vec<Record>, count: usize, mut drawn: impl FnMut(usize) -> Option<Record>) -> Vec<Record> {
+    while records.len() < count {
+        records.extend(drawn(records.len()));
     }
+    records.truncate(count);
+    records
 }
 
-fn write(words: &[u64], out: &mut impl Write) -> Result<()> {
-    words.iter().try_for_each(|word| out.write_all(&word.to_le_bytes()))
-}
+/// A layer's records: so many, from this seed.
+type Layer = fn(usize, u64) -> Vec<Record>;
 
-/// Writes `count` records: the edges, and then the functions in turn. A long record that the list does not take is drawn
-/// again.
+/// The layers, each with its share of a list.
+const LAYERS: [(usize, Layer); 5] = [
+    (200, list_bezier::records),
+    (100, list_simplify::records),
+    (100, list_fit::records),
+    (60, list_course::records),
+    (33, list_laps::records),
+];
+
+/// Writes `count` records, layer by layer, each from the seed.
 pub fn list(count: usize, seed: u64, out: &mut impl Write) -> Result<()> {
-    let mut draw = Draw::new(Random::new(seed));
-    let mut budget = Budget { used: HashMap::new() };
-    let (edges, functions) = (edges(), functions());
-    for call in edges.iter().take(count) {
-        write(&record(call), out)?;
-    }
-    let mut index = edges.len();
-    while index < count {
-        let call = functions[index % functions.len()](&mut draw);
-        let words = record(&call);
-        if budget.takes(call.function, words.len()) {
-            write(&words, out)?;
-            index += 1;
+    let shares: usize = LAYERS.iter().map(|(share, _)| share).sum();
+    for (share, records) in LAYERS {
+        for record in records(count * share / shares, seed) {
+            out.write_all(&record.bytes)?;
         }
     }
     out.flush()

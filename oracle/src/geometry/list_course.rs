@@ -1,22 +1,14 @@
-//! A list of calls of `fit_arcs` and `optimize_path_from_array` and of what is expected of each, for a replay with no
-//! Rust. The records are laid out as those of thinning (`list_simplify.rs`); the function is 0 for `fit_arcs`, 1 for
-//! `optimize_path_from_array` that thins, 2 for one that fits. A fit is listed only where document 01's margins that are
+//! The recorded calls of `fit_arcs` and `optimize_path_from_array`. A fit is listed only where document 01's margins that are
 //! asked hold.
 use super::course::{arcs_of, draw_arcs, draw_optimized, most, optimized_of};
 use super::draw::Draw;
 use super::fit::Judged;
-use super::frame::Compared;
-use super::list_simplify::{LONG, argument, full, lines, record_of, write};
+use super::list::{Record, filled, record};
+use super::list_simplify::{LONG, full, lines};
 use super::margins::Margins;
 use super::shapes::{raised, track, zigzag};
 use super::simplify::{Commands, Rooms};
 use crate::random::Random;
-use std::io::{Result, Write};
-
-fn record(call: &Compared) -> Vec<u64> {
-    let fitted = argument(call, &["use_fit_arcs"]).first().copied();
-    record_of(call, fitted.map_or(0, |fitted| 1 + fitted), 9)
-}
 
 /// A Move to the first place and Lines to the others, all in the plane.
 fn course(plane: &[f64]) -> Commands {
@@ -93,8 +85,8 @@ fn edges(draw: &mut Draw) -> Vec<Judged> {
     calls
 }
 
-/// Writes `count` records: the corners, the edges, and then both functions in turn. A long one is drawn again.
-pub fn list(count: usize, seed: u64, out: &mut impl Write) -> Result<()> {
+/// The corners, the edges, and then both functions in turn. A long one is drawn again.
+pub fn records(count: usize, seed: u64) -> Vec<Record> {
     let mut draw = Draw::new(Random::new(seed));
     let mut fixed = edges(&mut draw);
     for c in corners() {
@@ -103,14 +95,9 @@ pub fn list(count: usize, seed: u64, out: &mut impl Write) -> Result<()> {
         }
     }
     let held = |one: &Judged| one.stands.is_none_or(|stands| stands.margins != Margins::Outside);
-    let mut records: Vec<Vec<u64>> = fixed.iter().filter(|one| held(one)).map(|one| record(&one.call)).collect();
-    while records.len() < count {
-        let call = if records.len() % 2 == 0 { draw_arcs(&mut draw) } else { draw_optimized(&mut draw) };
-        let words = record(&call);
-        if words.len() <= LONG && !draw.labels().contains(&Margins::Outside.label()) {
-            records.push(words);
-        }
-    }
-    records.iter().take(count).try_for_each(|words| write(words, out))?;
-    out.flush()
+    filled(fixed.iter().filter(|one| held(one)).map(|one| record(&one.call)).collect(), count, |index| {
+        let call = if index % 2 == 0 { draw_arcs(&mut draw) } else { draw_optimized(&mut draw) };
+        let record = record(&call);
+        (record.items <= LONG && !draw.labels().contains(&Margins::Outside.label())).then_some(record)
+    })
 }

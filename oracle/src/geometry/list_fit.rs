@@ -1,85 +1,19 @@
-//! A list of calls of circle fits, deviations and fits of points, and of what is expected of each, for a replay with no
-//! Rust: records of words, eight bytes each, the lowest first.
-//!
-//! | word | what |
-//! |---|---|
-//! | 0 | the function: its place in `NAMES` |
-//! | 1 | the tolerance, or 0 |
-//! | 2 | the range's start, or 0 |
-//! | 3 | the range's end, or 0 |
-//! | 4 | how many numbers go in |
-//! | 5 | how many numbers the lent output holds |
-//! | 6 | how many kinds the lent output holds |
-//! | 7 | the number of the refusal, or 0 |
-//! | 8 | the count of commands written, the truth, or the index |
-//! | 9 | how many numbers are written |
-//! | 10 | how many kinds are written |
-//! | then | the numbers that go in (a circle before the points, a centre behind them), the numbers that are written, the kinds that are written |
-//!
-//! A fit stands in the list only where document 01's margins hold. A deviation from an arc is the proved function's, and
-//! stands there only where it is within document 01's bound of the Rust's.
+//! The recorded calls of circle fits, deviations and fits of points. A fit stands in the list only where document 01's margins
+//! hold. A deviation from an arc is the proved function's, and stands there only where it is within document 01's bound of
+//! the Rust's.
 use super::circle;
 use super::draw::Draw;
 use super::fit::{FUNCTIONS, Judged, deviation_round, primitives_of, recursive_of};
 use super::frame::Compared;
-use super::lent::Purpose;
+use super::list::{Record, filled, record};
 use super::margins::Margins;
 use super::shapes::{raised, reversed, track, zigzag};
 use super::simplify::{Rooms, triples};
 use crate::random::Random;
 use raygeo::geo::algo::fitting;
-use std::io::{Result, Write};
 
-const NAMES: [&str; 8] = [
-    "are_points_collinear_3d",
-    "fit_circle_to_3_points",
-    "fit_circle_to_points_3d",
-    "project_circle_center_to_bisector",
-    "get_polyline_line_deviation",
-    "get_polyline_arc_deviation",
-    "fit_points_recursive",
-    "fit_points_with_primitives",
-];
-
-/// A drawn record has at most so many words.
-const LONG: usize = 120;
-
-/// The argument of this name; nothing where there is none.
-fn argument<'a>(call: &'a Compared, name: &str) -> &'a [u64] {
-    call.arguments.iter().find(|argument| argument.0 == name).map_or(&[], |argument| &argument.1)
-}
-
-fn first(words: &[u64]) -> u64 {
-    words.first().copied().unwrap_or(0)
-}
-
-fn record(call: &Compared) -> Vec<u64> {
-    let function = NAMES.iter().position(|name| *name == call.function).expect("a function with a place");
-    let numbers = [argument(call, "circle"), argument(call, "points"), argument(call, "centre")].concat();
-    let (range, rooms) = (argument(call, "range"), argument(call, "rooms"));
-    let answer = call.lent(Purpose::Answer);
-    let written = answer.map_or(&[][..], |lent| lent.front());
-    let kinds: Vec<u64> = call.lent(Purpose::Kinds).map_or(vec![], |lent| {
-        lent.words().iter().flat_map(|word| word.to_le_bytes()).take(call.count() as usize).map(u64::from).collect()
-    });
-    let mut words = vec![
-        function as u64,
-        first(argument(call, "tolerance")),
-        first(range),
-        range.get(1).copied().unwrap_or(0),
-        numbers.len() as u64,
-        answer.map_or(0, |lent| lent.len() as u64),
-        first(rooms),
-        call.given.number as u64,
-        call.count(),
-        written.len() as u64,
-        kinds.len() as u64,
-    ];
-    for part in [&numbers[..], written, &kinds] {
-        words.extend(part);
-    }
-    words
-}
+/// A drawn record has at most so many numbers and kinds.
+const LONG: usize = 109;
 
 /// The most of all points of a list.
 fn full(list: &[f64]) -> Rooms {
@@ -240,27 +174,17 @@ fn owed(calls: Vec<Judged>) -> impl Iterator<Item = Compared> {
     calls.into_iter().filter(inside).map(|call| call.call)
 }
 
-fn write(words: &[u64], out: &mut impl Write) -> Result<()> {
-    words.iter().try_for_each(|word| out.write_all(&word.to_le_bytes()))
-}
-
-/// Writes `count` records: the worked cases, the corners, the edges, and then the functions in turn, fits in every other
-/// place. One that is long, or whose answer is not owed, is drawn again.
-pub fn list(count: usize, seed: u64, out: &mut impl Write) -> Result<()> {
+/// The worked cases, the corners, the edges, and then the functions in turn, fits in every other place. One that is long, or
+/// whose answer is not owed, is drawn again.
+pub fn records(count: usize, seed: u64) -> Vec<Record> {
     let mut draw = Draw::new(Random::new(seed));
     let fits = [worked(), at_tolerances(), second_trials(), edges(&mut draw)];
     let fixed = fits.into_iter().flat_map(owed).chain(measures()).chain(limits());
-    let mut records: Vec<Vec<u64>> = fixed.map(|call| record(&call)).collect();
-    while records.len() < count {
-        let index = records.len();
+    filled(fixed.map(|call| record(&call)).collect(), count, |index| {
         let function = if index % 2 == 0 { FUNCTIONS[6 + index / 2 % 2] } else { FUNCTIONS[index / 2 % 6] };
         let call = function(&mut draw);
         assert!(call.proved == call.given, "a difference in {}", call.function);
-        let words = record(&call);
-        if words.len() <= LONG && !draw.labels().contains(&Margins::Outside.label()) {
-            records.push(words);
-        }
-    }
-    records.iter().take(count).try_for_each(|words| write(words, out))?;
-    out.flush()
+        let record = record(&call);
+        (record.items <= LONG && !draw.labels().contains(&Margins::Outside.label())).then_some(record)
+    })
 }

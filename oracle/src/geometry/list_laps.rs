@@ -1,68 +1,15 @@
-//! A list of fits of lap files and of replacements of laps, and of what is expected of each, for a replay with no Rust:
-//! records of ten words of eight bytes, the lowest first, and then of bytes.
-//!
-//! | word | what |
-//! |---|---|
-//! | 0 | the function: its place in `NAMES` |
-//! | 1 | the tolerance |
-//! | 2 | the lap's number, or 0 |
-//! | 3 | how many bytes the recorded file has |
-//! | 4 | how many bytes the fitted file has, or 0 |
-//! | 5 | how many kinds of new commands there are |
-//! | 6 | how many numbers of new commands there are |
-//! | 7 | how many bytes the lent output holds |
-//! | 8 | the number of the refusal, or 0 |
-//! | 9 | how many bytes are written |
-//! | then | the numbers, eight bytes each; the kinds, the recorded file, the fitted file and what is written, as bytes |
-//!
-//! A call stands in the list only where document 01's margins hold for each lap.
+//! The recorded fits of lap files and replacements of laps. A call stands in the list only where document 01's margins hold for
+//! each lap.
 use super::draw::Draw;
 use super::fit::Judged;
-use super::frame::Compared;
-use super::laps::{FUNCTIONS, Replacement, first_bytes, fit_of, lap, recording, replacement_of, workout};
+use super::laps::{FUNCTIONS, Replacement, fit_of, lap, recording, replacement_of, workout};
+use super::list::{Record, filled, record};
 use super::margins::Margins;
 use super::simplify::Commands;
 use crate::random::Random;
-use std::io::{Result, Write};
-
-const NAMES: [&str; 2] = ["fit_file", "replace_lap"];
 
 /// A drawn record has at most so many bytes.
-const LONG: usize = 8_000;
-
-/// The argument of this name; nothing where there is none.
-fn argument<'a>(call: &'a Compared, name: &str) -> &'a [u64] {
-    call.arguments.iter().find(|argument| argument.0 == name).map_or(&[], |argument| &argument.1)
-}
-
-/// A file that is an argument: its length, and its bytes by eights.
-fn bytes(words: &[u64]) -> Vec<u8> {
-    let count = words.first().copied().unwrap_or(0) as usize;
-    words.iter().skip(1).flat_map(|word| word.to_le_bytes()).take(count).collect()
-}
-
-fn record(call: &Compared) -> Vec<u8> {
-    let function = NAMES.iter().position(|name| *name == call.function).expect("a function with a place");
-    let (recorded, fitted) = (bytes(argument(call, "recorded")), bytes(argument(call, "fitted")));
-    let (kinds, numbers) = (argument(call, "kinds"), argument(call, "numbers"));
-    let count = if call.given.number == 0 { call.given.lent[1].words()[0] as usize } else { 0 };
-    let words = [
-        function as u64,
-        argument(call, "tolerance")[0],
-        argument(call, "lap").first().copied().unwrap_or(0),
-        recorded.len() as u64,
-        fitted.len() as u64,
-        kinds.len() as u64,
-        numbers.len() as u64,
-        argument(call, "rooms")[0],
-        call.given.number as u64,
-        count as u64,
-    ];
-    let mut all: Vec<u8> = words.iter().chain(numbers).flat_map(|word| word.to_le_bytes()).collect();
-    all.extend(kinds.iter().map(|kind| *kind as u8));
-    all.extend([recorded, fitted, first_bytes(&call.given.lent[0], count)].concat());
-    all
-}
+const LONG: usize = 8_032;
 
 /// Lines to these places, the first a Move.
 fn lines(plane: &[f64]) -> Commands {
@@ -169,22 +116,18 @@ fn edges(draw: &mut Draw) -> Vec<Judged> {
     ]
 }
 
-/// Writes `count` records: the worked cases, changed bits, replacements, the edges, and then drawn calls, half of them
-/// replacements. One that is long, or whose answer is not owed, is drawn again.
-pub fn list(count: usize, seed: u64, out: &mut impl Write) -> Result<()> {
+/// The worked cases, changed bits, replacements, the edges, and then drawn calls, half of them replacements. One that is long,
+/// or whose answer is not owed, is drawn again.
+pub fn records(count: usize, seed: u64) -> Vec<Record> {
     let mut draw = Draw::new(Random::new(seed));
     let fixed = [worked(), flipped(), replacements(&mut draw), edges(&mut draw)];
     let inside = |call: &&Judged| call.stands.is_none_or(|stands| stands.margins != Margins::Outside);
-    let mut records: Vec<Vec<u8>> = fixed.iter().flatten().filter(inside).map(|judged| record(&judged.call)).collect();
+    let fixed: Vec<Record> = fixed.iter().flatten().filter(inside).map(|judged| record(&judged.call)).collect();
     draw.labels();
-    while records.len() < count {
-        let call = FUNCTIONS[[0, 1, 1, 2][records.len() % 4]](&mut draw);
+    filled(fixed, count, |index| {
+        let call = FUNCTIONS[[0, 1, 1, 2][index % 4]](&mut draw);
         assert!(call.proved == call.given, "a difference in {}", call.function);
-        let bytes = record(&call);
-        if bytes.len() <= LONG && !draw.labels().contains(&Margins::Outside.label()) {
-            records.push(bytes);
-        }
-    }
-    records.iter().take(count).try_for_each(|bytes| out.write_all(bytes))?;
-    out.flush()
+        let record = record(&call);
+        (record.bytes.len() <= LONG && !draw.labels().contains(&Margins::Outside.label())).then_some(record)
+    })
 }

@@ -1,75 +1,13 @@
-//! A list of calls of thinning and of what is expected of each, for a replay with no Rust: records of words, eight bytes
-//! each, the lowest first.
-//!
-//! | word | what |
-//! |---|---|
-//! | 0 | the function: its place in `NAMES` |
-//! | 1 | the tolerance |
-//! | 2 | how many numbers go in |
-//! | 3 | how many kinds go in |
-//! | 4 | how many numbers the lent output holds |
-//! | 5 | how many kinds the lent output holds |
-//! | 6 | the number of the refusal, or 0 |
-//! | 7 | the count of items written |
-//! | 8 | how many numbers are written |
-//! | 9 | how many kinds are written |
-//! | then | the numbers that go in, the kinds that go in, the numbers that are written, the kinds that are written |
+//! The recorded calls of thinning.
 use super::draw::Draw;
 use super::frame::Compared;
-use super::lent::{Lent, Purpose};
+use super::list::{Record, filled, record};
 use super::shapes::{raised, reversed, track, zigzag};
 use super::simplify::{Commands, FUNCTIONS, Rooms, data_of, pairs_of, triples_of};
 use crate::random::Random;
-use std::io::{Result, Write};
 
-const NAMES: [&str; 3] = ["simplify_polyline", "simplify_polyline_3d", "simplify_data"];
-
-/// A drawn record has at most so many words.
-pub const LONG: usize = 140;
-
-/// The argument of this name; nothing where there is none.
-pub fn argument<'a>(call: &'a Compared, names: &[&str]) -> &'a [u64] {
-    call.arguments.iter().find(|(name, _)| names.contains(name)).map_or(&[], |(_, words)| words)
-}
-
-/// The first kinds of lent bytes, a word each.
-fn kinds(lent: &Lent, count: usize) -> Vec<u64> {
-    lent.words().iter().flat_map(|word| word.to_le_bytes()).take(count).map(u64::from).collect()
-}
-
-fn record(call: &Compared) -> Vec<u64> {
-    let function = NAMES.iter().position(|name| *name == call.function).expect("a function with a place");
-    record_of(call, function as u64, [2, 3, 9][function])
-}
-
-/// The record of a call under the function's number; an item that is written has so many numbers.
-pub fn record_of(call: &Compared, function: u64, width: usize) -> Vec<u64> {
-    let (numbers, kinds_in) = (argument(call, &["points", "numbers"]), argument(call, &["kinds"]));
-    let answer = call.lent(Purpose::Answer).expect("an output");
-    let count = match call.given.number {
-        0 => call.lent(Purpose::Count).expect("a count").words()[0],
-        _ => 0,
-    };
-    let written = &answer.words()[..count as usize * width];
-    let kinds_out = call.lent(Purpose::Kinds).map_or(vec![], |lent| kinds(lent, count as usize));
-    let kind_room = argument(call, &["rooms"]).first().copied().unwrap_or(0);
-    let mut words = vec![
-        function,
-        argument(call, &["tolerance"])[0],
-        numbers.len() as u64,
-        kinds_in.len() as u64,
-        answer.len() as u64,
-        kind_room,
-        call.given.number as u64,
-        count,
-        written.len() as u64,
-        kinds_out.len() as u64,
-    ];
-    for part in [numbers, kinds_in, written, &kinds_out] {
-        words.extend(part);
-    }
-    words
-}
+/// A drawn record has at most so many numbers and kinds.
+pub const LONG: usize = 130;
 
 /// Lines to these ends, one in so many a Move.
 pub fn lines(ends: &[f64], moves: usize) -> Commands {
@@ -141,22 +79,12 @@ fn edges(draw: &mut Draw) -> Vec<Compared> {
     ]
 }
 
-pub fn write(words: &[u64], out: &mut impl Write) -> Result<()> {
-    words.iter().try_for_each(|word| out.write_all(&word.to_le_bytes()))
-}
-
-/// Writes `count` records: the worked cases, the corners, the edges, and then the functions in turn. A long one is drawn
-/// again.
-pub fn list(count: usize, seed: u64, out: &mut impl Write) -> Result<()> {
+/// The worked cases, the corners, the edges, and then the functions in turn. A long one is drawn again.
+pub fn records(count: usize, seed: u64) -> Vec<Record> {
     let mut draw = Draw::new(Random::new(seed));
     let fixed = [worked(), in_all_forms(), edges(&mut draw)];
-    let mut records: Vec<Vec<u64>> = fixed.iter().flatten().map(record).collect();
-    while records.len() < count {
-        let words = record(&FUNCTIONS[records.len() % 3](&mut draw));
-        if words.len() <= LONG {
-            records.push(words);
-        }
-    }
-    records.iter().take(count).try_for_each(|words| write(words, out))?;
-    out.flush()
+    filled(fixed.iter().flatten().map(record).collect(), count, |index| {
+        let record = record(&FUNCTIONS[index % 3](&mut draw));
+        (record.items <= LONG).then_some(record)
+    })
 }

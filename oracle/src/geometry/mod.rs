@@ -22,6 +22,7 @@ pub mod grid_simplify;
 pub mod laps;
 pub mod lent;
 pub mod list;
+pub mod list_bezier;
 pub mod list_course;
 pub mod list_fit;
 pub mod list_laps;
