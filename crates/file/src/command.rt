@@ -1,6 +1,6 @@
 // The 73 bytes of a command: its kind, and its nine numbers.
-use crate::bytes::number_at;
-use crate::bytes::put_f64;
+use crate::words::number_at;
+use crate::words::put_f64;
 use geo::domain::is_formed;
 use geo::lent::command_at;
 use geo::lent::make_command;

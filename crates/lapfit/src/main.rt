@@ -1,6 +1,6 @@
 // Reads eight bytes of tolerance, then a lap file, from standard input. A refusal prints one line. An accepted file prints
 // the listing of its fit: lap, kind letter and steps of each command that the fit writes.
-use file::bytes::number_at;
+use file::words::number_at;
 use geo::types::Answer;
 use lap_rows::lap_rows::list_file;
 use libc::STDIN_FILENO;

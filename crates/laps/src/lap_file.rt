@@ -1,9 +1,9 @@
 // The lap file: its head, its table and its rows.
-use file::bytes::half_at;
-use file::bytes::put_u32;
 use file::command::COMMAND_BYTES;
 use file::command::is_well_formed;
 use file::command::read_command;
+use file::words::half_at;
+use file::words::put_u32;
 use geo::domain::command_in;
 ghost use mathlib.Core.Path.{_≡_};
 ghost use mathlib.Core.Bool.{true};

@@ -1,7 +1,7 @@
 // What the replays of recorded calls share: floats by their patterns, and lists of words as numbers or kinds.
-use file::bytes::float_of;
-use file::bytes::is_nan;
-use file::bytes::word_at;
+use file::words::float_of;
+use file::words::is_nan;
+use file::words::word_at;
 ghost use mathlib.Core.Path.{_≡_};
 ghost use Prim.Native.Nat.{_+_, _*_, _≤_};
 ghost use lib.ListN.{length};

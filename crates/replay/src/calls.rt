@@ -1,7 +1,7 @@
 // The recorded functions by number, as oracle/src/geometry/list.rs numbers them. Each reads its arguments from the front of what
 // is lent and writes to the front of its outputs.
 use crate::layout::Head;
-use file::bytes::float_of;
+use file::words::float_of;
 use geo::types::Answer;
 
 // What no record expects.

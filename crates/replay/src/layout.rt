@@ -1,6 +1,6 @@
 // A recorded call: a head of 14 words, what is lent to the call, and what it has to write. oracle/src/geometry/list.rs says
 // how it is laid out, and makes it.
-use file::bytes::word_at;
+use file::words::word_at;
 use geo::types::Answer;
 use records::are_bytes_left;
 use records::are_bytes_written;

@@ -1,7 +1,7 @@
 // Compares the proved root with the machine's. Standard input has up to 4,096 records of 16 bytes: the pattern of a number, and
 // that of its root as the machine gave it, each with the lowest byte first. The program prints how many differ.
-use file::bytes::float_of;
-use file::bytes::word_at;
+use file::words::float_of;
+use file::words::word_at;
 use libc::STDIN_FILENO;
 use libc::STDOUT_FILENO;
 use records::has_pattern;

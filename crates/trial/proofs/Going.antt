@@ -19,7 +19,7 @@ use Rattle.geo.specs.Domain.{everyFrom}
 use Rattle.geo.proofs.Walk.{fold-turn, fold-done}
 use Rattle.geo.proofs.Every.{every-step, every-stop, every-done}
 use Rattle.trial.proofs.Whole.{more, less}
-use Rattle.trial.specs.Traversal.{offsetOf, crossOf, atCentre, halfOf, turned, turnsOf, passesBy, awayFrom, traverses}
+use Rattle.trial.specs.Traversal.{offsetOf, cross2, atCentre, halfOf, turned, turnsOf, passesBy, awayFrom, traverses}
 
 -- a step changes W by at most one, so that after i steps it is within i of zero
 turned-small : (h k : Bool) (c : Float) (w : ℤ) (i : ℕ) → mag w ≤ i → mag (turned h k c w) ≤ i + 1
@@ -30,7 +30,7 @@ turned-small false true c w i a = ⊎-elim (λ e. rw e (more w i a)) (λ e. rw e
 turned-small false false c w i a = omega arith
 
 abbrev pub turning : (ℕ → Point) → ℕ → ℕ → ℤ → ℤ
-turning q lo i = turned (halfOf (q lo) (q i)) (halfOf (q lo) (q (i + 1))) (crossOf (q i) (q (i + 1)))
+turning q lo i = turned (halfOf (q lo) (q i)) (halfOf (q lo) (q (i + 1))) (cross2 (q i) (q (i + 1)))
 
 abbrev pub free : (ℕ → Point) → ℕ → Bool
 free q j = not (atCentre (q j))
@@ -60,7 +60,7 @@ go-start q lo hi u h b l eu eh eb f =
     }
 
 pub go-turn : (q : ℕ → Point) (lo hi : ℕ) (u v q0 : Point) (h k b : Bool) (c : Float) (w w′ : ℤ) (i : ℕ) → Going q lo hi u h w i → i < hi → q0 ≡ q lo
-    → v ≡ q (i + 1) → k ≡ halfOf q0 v → c ≡ crossOf u v → w′ ≡ turned h k c w → b ≡ atCentre v → b ≡ false
+    → v ≡ q (i + 1) → k ≡ halfOf q0 v → c ≡ cross2 u v → w′ ≡ turned h k c w → b ≡ atCentre v → b ≡ false
     → Going q lo hi v k w′ (i + 1)
 go-turn q lo hi u v q0 h k b c w w′ i g l e0 ev ek ec et eb f =
     let k′ : k ≡ halfOf (q lo) (q (i + 1)) = rw (ek, e0, ev) in

@@ -19,11 +19,11 @@ nearShare = thousandth
 unfoldable pub offsetOf : Point → Point3D → Point
 offsetOf m p = record { x = p .x ⊖ m .x; y = p .y ⊖ m .y }
 
-unfoldable pub crossOf : Point → Point → Float
-crossOf p q = perpDot (p .x) (p .y) (q .x) (q .y)
+unfoldable pub cross2 : Point → Point → Float
+cross2 p q = perpDot (p .x) (p .y) (q .x) (q .y)
 
-unfoldable pub dotOf : Point → Point → Float
-dotOf p q = dot (p .x) (p .y) (q .x) (q .y)
+unfoldable pub dot2 : Point → Point → Float
+dot2 p q = dot (p .x) (p .y) (q .x) (q .y)
 
 -- q = (0, 0)
 unfoldable pub atCentre : Point → Bool
@@ -31,8 +31,8 @@ atCentre q = eq (q .x) +0 && eq (q .y) +0
 
 -- true: q is in half 0 as seen from q0, that is cross(q0, q) > 0, or it is 0 and dot(q0, q) > 0
 unfoldable pub halfOf : Point → Point → Bool
-unfolding crossOf dotOf
-halfOf q0 q = if +0 ≺ crossOf q0 q then true else if eq (crossOf q0 q) +0 then +0 ≺ dotOf q0 q else false
+unfolding cross2 dot2
+halfOf q0 q = if +0 ≺ cross2 q0 q then true else if eq (cross2 q0 q) +0 then +0 ≺ dot2 q0 q else false
 
 -- W, a whole number, after a step of cross c from one half to another, true being half 0: a step with cross ≥ 0 from half 1 to half 0 adds 1,
 -- a step with cross < 0 from half 0 to half 1 takes 1 off
@@ -46,7 +46,7 @@ turned false false c w = w
 unfoldable pub turnsOf : (ℕ → Point) → ℕ → ℕ → ℤ
 unfolding fold turned halfOf
 turnsOf q lo hi =
-    fold (λ i. turned (halfOf (q lo) (q i)) (halfOf (q lo) (q (i + 1))) (crossOf (q i) (q (i + 1)))) (hi - lo) lo (pos 0)
+    fold (λ i. turned (halfOf (q lo) (q i)) (halfOf (q lo) (q (i + 1))) (cross2 (q i) (q (i + 1)))) (hi - lo) lo (pos 0)
 
 -- with c and d the cross and dot of q0 and the last q: d > 0, c < 0, −c ≤ 0.001 × d; and d > 0, c ≥ 0, c ≤ 0.001 × d
 unfoldable pub justBehind : Float → Float → Bool
@@ -58,8 +58,8 @@ justAhead c d = (+0 ≺ d) && ((+0 ≼ c) && (c ≼ nearShare ⊗ d))
 -- W = 0 and not just behind, or W = −1 (`negsuc 0`) and not just ahead
 unfoldable pub passesBy : ℤ → Point → Point → Bool
 unfolding justBehind justAhead
-passesBy (pos zero) q0 q = not (justBehind (crossOf q0 q) (dotOf q0 q))
-passesBy (negsuc zero) q0 q = not (justAhead (crossOf q0 q) (dotOf q0 q))
+passesBy (pos zero) q0 q = not (justBehind (cross2 q0 q) (dot2 q0 q))
+passesBy (negsuc zero) q0 q = not (justAhead (cross2 q0 q) (dot2 q0 q))
 passesBy (pos (suc n)) q0 q = false
 passesBy (negsuc (suc n)) q0 q = false
 

@@ -25,7 +25,7 @@ ghost use Rattle.geo.specs.Lent.{pointAt};
 ghost use Rattle.arc.specs.Direction.{clockwise};
 ghost use Rattle.circle.specs.Three.{radiusFrom};
 ghost use Rattle.trial.specs.Deviation.{spokeOf, sagittaOf, endsOf, stepOf, arcDeviation};
-ghost use Rattle.trial.specs.Traversal.{offsetOf, crossOf, dotOf, atCentre, halfOf, turned, justBehind, justAhead, passesBy, traverses};
+ghost use Rattle.trial.specs.Traversal.{offsetOf, cross2, dot2, atCentre, halfOf, turned, justBehind, justAhead, passesBy, traverses};
 ghost use Rattle.trial.specs.Trial.{sharpTurn, sharpAt, closedRange, trialOf, trialThree, trialLeast, orElse, tryArcs};
 
 // A point seen from a centre: its offset and its distance.
@@ -175,13 +175,13 @@ fn offset(m: Point, p: Point3D) -> Point
 }
 
 fn cross(p: Point, q: Point) -> f64
-    ensures { λ r. ⌜ r ≡ crossOf p q ⌝ }
+    ensures { λ r. ⌜ r ≡ cross2 p q ⌝ }
 {
     p.x * q.y - p.y * q.x
 }
 
 fn dot(p: Point, q: Point) -> f64
-    ensures { λ r. ⌜ r ≡ dotOf p q ⌝ }
+    ensures { λ r. ⌜ r ≡ dot2 p q ⌝ }
 {
     p.x * q.x + p.y * q.y
 }

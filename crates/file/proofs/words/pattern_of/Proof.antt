@@ -1,8 +1,8 @@
--- `file::bytes::pattern_of` meets its contract: a NaN is what differs from itself, and of any other the pattern may be read. Assumes nothing.
+-- `file::words::pattern_of` meets its contract: a NaN is what differs from itself, and of any other the pattern may be read. Assumes nothing.
 use Rattle.file.proofs.Floats.{nan-pattern, no-nan}
 use borrow.Author.Needs.{needs}
-use Rattle.file.proofs.bytes.pattern_of.Statement.{statement}
-use Rattle.file.proofs.bytes.pattern_of.Tie as tie
+use Rattle.file.proofs.words.pattern_of.Statement.{statement}
+use Rattle.file.proofs.words.pattern_of.Tie as tie
 
 returns : tie.Need-returns
 returns c = nan-pattern (c .before .args .x) (c .if1 .taken)

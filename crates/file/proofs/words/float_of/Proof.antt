@@ -1,12 +1,12 @@
--- `file::bytes::float_of` meets its contract: a NaN's pattern is that of nan, and any other may be read. Assumes nothing.
+-- `file::words::float_of` meets its contract: a NaN's pattern is that of nan, and any other may be read. Assumes nothing.
 use mathlib.Core.Path.{_≡_, refl, sym, _∙_, subst}
 use mathlib.Core.Bool.{Bool, true, not}
 use lib.Dec.{T}
 use lib.Ieee.{Float, nan, inf, fin, binary64, div, ofBits, isNan}
 use lib.Ieee.Bits.{nanBits-is}
 use borrow.Author.Needs.{needs}
-use Rattle.file.proofs.bytes.float_of.Statement.{statement}
-use Rattle.file.proofs.bytes.float_of.Tie as tie
+use Rattle.file.proofs.words.float_of.Statement.{statement}
+use Rattle.file.proofs.words.float_of.Tie as tie
 
 nan-is : (x : Float) → isNan x ≡ true → x ≡ nan
 unfolding isNan

@@ -1,10 +1,10 @@
--- `file::bytes::number_at` meets its contract: the float of the word that stands there. Assumes nothing.
+-- `file::words::number_at` meets its contract: the float of the word that stands there. Assumes nothing.
 use mathlib.Core.Path.{ap, _∙_}
 use lib.Ieee.{binary64, ofBits}
 use Rattle.file.specs.Bytes.{numberAt}
 use borrow.Author.Needs.{needs}
-use Rattle.file.proofs.bytes.number_at.Statement.{statement}
-use Rattle.file.proofs.bytes.number_at.Tie as tie
+use Rattle.file.proofs.words.number_at.Statement.{statement}
+use Rattle.file.proofs.words.number_at.Tie as tie
 
 word-at-requires : tie.Need-word-at-requires
 word-at-requires c κs = search needs

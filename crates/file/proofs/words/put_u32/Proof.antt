@@ -1,10 +1,10 @@
--- `file::bytes::put_u32` meets its contract: four bytes, one behind the other. Assumes nothing.
+-- `file::words::put_u32` meets its contract: four bytes, one behind the other. Assumes nothing.
 use native.Mathlib.Omega.{arith}
 use lib.ListN.{length-set}
 use Rattle.file.proofs.Stores.{four}
 use borrow.Author.Needs.{needs}
-use Rattle.file.proofs.bytes.put_u32.Statement.{statement}
-use Rattle.file.proofs.bytes.put_u32.Tie as tie
+use Rattle.file.proofs.words.put_u32.Statement.{statement}
+use Rattle.file.proofs.words.put_u32.Tie as tie
 
 low-requires : tie.Need-low-requires
 low-requires c κs = search needs

@@ -1,9 +1,9 @@
--- `file::bytes::is_nan` meets its contract: without the sign's bit, the patterns above the infinity's are the NaNs'. Assumes nothing.
+-- `file::words::is_nan` meets its contract: without the sign's bit, the patterns above the infinity's are the NaNs'. Assumes nothing.
 use mathlib.Core.Path.{sym}
 use lib.Ieee.{binary64}
 use lib.Ieee.Bits.{nanBits-above}
-use Rattle.file.proofs.bytes.is_nan.Statement.{statement}
-use Rattle.file.proofs.bytes.is_nan.Tie as tie
+use Rattle.file.proofs.words.is_nan.Statement.{statement}
+use Rattle.file.proofs.words.is_nan.Tie as tie
 
 returns : tie.Need-returns
 returns c = sym (nanBits-above binary64 (c .args .p))

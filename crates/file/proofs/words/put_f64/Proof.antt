@@ -1,8 +1,8 @@
--- `file::bytes::put_f64` meets its contract: both halves of the pattern. Assumes nothing.
+-- `file::words::put_f64` meets its contract: both halves of the pattern. Assumes nothing.
 use Rattle.file.proofs.Stores.{eight}
 use borrow.Author.Needs.{needs}
-use Rattle.file.proofs.bytes.put_f64.Statement.{statement}
-use Rattle.file.proofs.bytes.put_f64.Tie as tie
+use Rattle.file.proofs.words.put_f64.Statement.{statement}
+use Rattle.file.proofs.words.put_f64.Tie as tie
 
 pattern-of-requires : tie.Need-pattern-of-requires
 pattern-of-requires c κs = search needs

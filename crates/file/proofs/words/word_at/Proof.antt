@@ -1,8 +1,8 @@
--- `file::bytes::word_at` meets its contract: two halves. Assumes nothing.
+-- `file::words::word_at` meets its contract: two halves. Assumes nothing.
 use Rattle.file.specs.Bytes.{wordAt}
 use borrow.Author.Needs.{needs}
-use Rattle.file.proofs.bytes.word_at.Statement.{statement}
-use Rattle.file.proofs.bytes.word_at.Tie as tie
+use Rattle.file.proofs.words.word_at.Statement.{statement}
+use Rattle.file.proofs.words.word_at.Tie as tie
 
 half-at-requires : tie.Need-half-at-requires
 half-at-requires c κs = search needs

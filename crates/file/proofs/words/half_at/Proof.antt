@@ -1,9 +1,9 @@
--- `file::bytes::half_at` meets its contract: four bytes, each below 256. Assumes nothing.
+-- `file::words::half_at` meets its contract: four bytes, each below 256. Assumes nothing.
 use native.Mathlib.Omega.{arith}
 use Rattle.file.specs.Bytes.{halfAt}
 use borrow.Author.Needs.{needs}
-use Rattle.file.proofs.bytes.half_at.Statement.{statement}
-use Rattle.file.proofs.bytes.half_at.Tie as tie
+use Rattle.file.proofs.words.half_at.Statement.{statement}
+use Rattle.file.proofs.words.half_at.Tie as tie
 
 shared-slice-read-wide : tie.Need-shared-slice-read-wide
 shared-slice-read-wide c = search needs
