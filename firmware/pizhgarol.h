@@ -29,7 +29,7 @@
      rt_fit_points_with_primitives   818856 bytes
      rt_fit_arcs                     341720 bytes
      rt_fit_file                     458648 bytes
-     rt_replace_lap                  400232 bytes
+     rt_replace_lap                  458600 bytes
    No input recurses deeper, since each cut takes a point off. What the innermost call takes beside that was measured on
    these zigzags alone, and bytes that a call reserves but never writes do not show: leave a margin of some KiB. */
 #ifndef PIZHGAROL_H
