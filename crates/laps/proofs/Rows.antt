@@ -13,7 +13,8 @@ use Rattle.geo.specs.Outcome.{Row, refusal, unless, answer, left, Wrote}
 use Rattle.geo.specs.Domain.{tolerance}
 use Rattle.geo.proofs.Rows.{row-fails, row-passes, row-passed, refusal-front, done, unless-gives}
 use Rattle.laps.specs.File.{lapCount, lapsOf, short, big, tableOk, lapsOk}
-use Rattle.course.specs.Course.{courseMost, lentCourse, cap}
+use Rattle.course.specs.Course.{courseMost, lentCourse}
+use Rattle.course.specs.Walks.{cap}
 use Rattle.laps.specs.Fit.{lapsMost, others, mostNew, fileSize}
 use Rattle.laps.specs.Calls.{fileRows, sizeRows, fileFitRows, row1, row2, row3, row4, row5, row7, newRows, replaceRows}
 use Rattle.laps.proofs.Walks.{not-short, not-big}
