@@ -1,6 +1,6 @@
 -- The rows of a course: what passed, and what an accepted call answers and leaves. Assumes nothing.
 use Prim.Native.Nat.{ℕ, _+_, _*_, _/_, _≤_, _<_}
-use mathlib.Core.Path.{_≡_, sym, _∙_, subst}
+use mathlib.Core.Path.{_≡_, sym, ap, _∙_, subst}
 use mathlib.Core.Bool.{true}
 use mathlib.Core.List.{List, _∷_, _++_}
 use native.Mathlib.Omega.{arith}
@@ -20,17 +20,28 @@ use Rattle.geo.proofs.Tolerance.{tolerance-positive}
 use Rattle.geo.proofs.Outcomes.{commands-given, nine}
 use Rattle.geo.proofs.Flat.{flat-length}
 use Rattle.fitting.specs.Commands.{chainFit}
-use Rattle.fitting.specs.Written.{FitPlaced}
+use Rattle.fitting.specs.Written.{FitPlaced, commandsOf, chainNoted}
+use Rattle.fitting.proofs.Writing.{commands-length}
+use Rattle.fitting.proofs.Chain.{chain-noted}
 use Rattle.course.specs.Parts.{closed, partsFrom, partFit, fitOf}
-use Rattle.course.specs.Course.{joined, courseParts, courseFit, courseMost, cap, lentCourse, inputRows, roomRows, arcsRows, arcsCall}
+use Rattle.course.specs.Course.{joined, courseParts, courseFit, courseMost, lentCourse, inputRows, roomRows, arcsRows, arcsCall}
+use Rattle.course.specs.Walks.{cap, courseNoted}
 use Rattle.course.proofs.Count.{cap-passed, cap-over}
-use Rattle.course.proofs.Parts.{fit-few}
+use Rattle.course.proofs.Parts.{noted-few, parts-commands}
 use Rattle.course.proofs.Stepping.{chain-few}
 
+-- what is noted beside the commands of a course does not change them
+pub course-commands : (tol : Float) (cs : List Command) → commandsOf (courseNoted tol cs) ≡ courseFit tol cs
+unfolding courseNoted courseFit
+course-commands tol cs = parts-commands (chainNoted tol) (chainFit tol) (chain-noted tol) (courseParts tol cs)
+
 -- what is written of a course is at most its most
+noted-course-few : (tol : Float) → (+0 ≺ tol) ≡ true → (cs : List Command) → length (courseNoted tol cs) ≤ courseMost tol cs
+unfolding courseNoted courseMost
+noted-course-few tol pos cs = noted-few (chainNoted tol) (chain-few tol pos) (courseParts tol cs)
+
 pub course-few : (tol : Float) → (+0 ≺ tol) ≡ true → (cs : List Command) → length (courseFit tol cs) ≤ courseMost tol cs
-unfolding courseFit courseMost
-course-few tol pos cs = fit-few (chainFit tol) (chain-few tol pos) (courseParts tol cs)
+course-few tol pos cs = let a = noted-course-few tol pos cs in let l = commands-length (courseNoted tol cs) in let e = ap length (course-commands tol cs) in omega arith
 
 -- of a course that starts with a Move something is written
 pub course-some : (tol : Float) (p : Point3D) (cs : List Command) → 1 ≤ length (courseFit tol (Move p ∷ cs))

@@ -18,7 +18,7 @@ use Rattle.floats.proofs.Order.{clash, lt-or-ge}
 use Rattle.floats.proofs.Bounds.{or-le}
 use Rattle.floats.proofs.Unsigned.{Plus, round-plus}
 use Rattle.bezier.specs.Calls.{mostSteps}
-use Rattle.course.specs.Course.{cap}
+use Rattle.course.specs.Walks.{cap}
 
 -- ---- counts
 pub cap-few : (n : ℕ) → n ≤ 800 → cap n ≡ n

@@ -30,7 +30,8 @@ use Rattle.fitting.proofs.Own.{unless-given}
 use Rattle.fitting.proofs.Accepted.{fit-accepted}
 use Rattle.course.specs.Parts.{Join, adds, ends, closed, carried, partsFrom, partFit, partMost, mostOf, fitOf}
 use Rattle.floats.specs.Limits.{quarter}
-use Rattle.course.specs.Course.{joined, courseParts, courseFit, courseMost, lentCourse, inputRows, arcsRows, arcsCall, linesJoined, optimizedChain, optimized, optimizeCall, pathFlush, joinsBeziers, joinedBy, partsBy}
+use Rattle.course.specs.Course.{joined, courseParts, courseFit, courseMost, lentCourse, inputRows, arcsRows, arcsCall, linesJoined, optimizedChain, optimized, optimizeCall}
+use Rattle.course.specs.Walks.{pathFlush, joinsBeziers, joinedBy, partsBy}
 use Rattle.course.specs.Finite.{AllFinite, FiniteNumbers, CommandsIn}
 use Rattle.course.proofs.Parts.{chain-counts}
 use Rattle.course.proofs.Accepted.{arcs-accepted}

@@ -1,6 +1,6 @@
 -- Laws of a course's parts: their most, the length of their fit, and a command at a time. Assumes nothing.
 use Prim.Native.Nat.{ℕ, _+_, _-_, _*_, _/_, _%_, _≤_}
-use mathlib.Core.Path.{_≡_, refl, subst}
+use mathlib.Core.Path.{_≡_, refl, ap, _∙_, subst}
 use mathlib.Core.List.{List, [], _∷_, _++_}
 use native.Mathlib.Omega.{arith}
 use lib.ListN.{length, length-append}
@@ -9,34 +9,50 @@ use Rattle.geo.specs.declared.types.Point3D.{Point3D}
 use Rattle.geo.specs.declared.types.Command.{Command}
 use Rattle.geo.specs.Lent.{triple, flat, endOf}
 use Rattle.geo.proofs.Flat.{flat-append, flat-one}
+use Rattle.fitting.specs.Written.{Noted, commandsOf}
+use Rattle.fitting.proofs.Writing.{commands-append}
 use Rattle.course.specs.Parts.{Part, chain, kept, Join, adds, ends, closed, carried, partsFrom, partFit, partMost, mostOf, fitOf}
-use Rattle.course.specs.Walks.{weightOf, weightsFrom}
+use Rattle.course.specs.Walks.{weightOf, weightsFrom, partNoted, notedOf}
 
 pub most-append : (xs ys : List Part) → mostOf (xs ++ ys) ≡ mostOf xs + mostOf ys
 unfolding mostOf
 most-append [] ys = omega arith
 most-append (x ∷ xs) ys = let e = most-append xs ys in omega arith
 
-pub fit-append : (fit : List Float → List Command) (xs ys : List Part) → fitOf fit (xs ++ ys) ≡ fitOf fit xs ++ fitOf fit ys
-unfolding fitOf
-fit-append fit xs ys = flat-append (partFit fit) xs ys
+pub noted-append : (fit : List Float → List Noted) (xs ys : List Part) → notedOf fit (xs ++ ys) ≡ notedOf fit xs ++ notedOf fit ys
+unfolding notedOf
+noted-append fit xs ys = flat-append (partNoted fit) xs ys
 
 -- what is written of several parts is at most their most, where it is so of a chain
-module _ (fit : List Float → List Command) (few : (s : List Float) → length (fit s) ≤ length s / 3 - 1) where
-  part-few : (p : Part) → length (partFit fit p) ≤ partMost p
-  unfolding partFit partMost
+module _ (fit : List Float → List Noted) (few : (s : List Float) → length (fit s) ≤ length s / 3 - 1) where
+  part-few : (p : Part) → length (partNoted fit p) ≤ partMost p
+  unfolding partNoted partMost
   part-few (chain s) = few s
   part-few (kept c) = omega arith
 
-  pub fit-few : (ps : List Part) → length (fitOf fit ps) ≤ mostOf ps
-  unfolding fitOf flat mostOf
-  fit-few [] = omega arith
-  fit-few (p ∷ ps) = let a = part-few p in let b = fit-few ps in let l = length-append (partFit fit p) (flat (partFit fit) ps) in omega arith
+  pub noted-few : (ps : List Part) → length (notedOf fit ps) ≤ mostOf ps
+  unfolding notedOf flat mostOf
+  noted-few [] = omega arith
+  noted-few (p ∷ ps) = let a = part-few p in let b = noted-few ps in let l = length-append (partNoted fit p) (flat (partNoted fit) ps) in omega arith
 
 -- the parts of one chain alone
-pub fit-chain : (fit : List Float → List Command) (s : List Float) → fitOf fit (chain s ∷ []) ≡ fit s
-unfolding fitOf partFit
-fit-chain fit s = flat-one (partFit fit) (chain s)
+pub noted-chain : (fit : List Float → List Noted) (s : List Float) → notedOf fit (chain s ∷ []) ≡ fit s
+unfolding notedOf partNoted
+noted-chain fit s = flat-one (partNoted fit) (chain s)
+
+-- what is noted beside the commands of several parts does not change them, where it is so of a chain
+module _ (noting : List Float → List Noted) (fit : List Float → List Command) (same : (s : List Float) → commandsOf (noting s) ≡ fit s) where
+  part-commands : (p : Part) → commandsOf (partNoted noting p) ≡ partFit fit p
+  unfolding partNoted partFit
+  part-commands (chain s) = same s
+  part-commands (kept c) = unfold commandsOf in refl
+
+  pub parts-commands : (ps : List Part) → commandsOf (notedOf noting ps) ≡ fitOf fit ps
+  unfolding notedOf fitOf flat
+  parts-commands [] = unfold commandsOf in refl
+  parts-commands (p ∷ ps) =
+      commands-append (partNoted noting p) (notedOf noting ps)
+      ∙ ap (λ (l : List Command). l ++ commandsOf (notedOf noting ps)) (part-commands p) ∙ ap (λ (l : List Command). partFit fit p ++ l) (parts-commands ps)
 
 -- a command adds whole triples
 abbrev pub Whole : Join → Type 0

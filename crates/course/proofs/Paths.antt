@@ -20,37 +20,31 @@ use Rattle.geo.proofs.Rows.{row-passed}
 use Rattle.geo.proofs.Tolerance.{tolerance-positive}
 use Rattle.simplify.specs.Simplify.{commandRows}
 use Rattle.simplify.proofs.Accepted.{commands-accepted}
-use Rattle.fitting.specs.Written.{FitPlaced}
+use Rattle.fitting.specs.Written.{commandsOf, NotedPlaced}
+use Rattle.fitting.proofs.Writing.{commands-length, commands-placed}
 use Rattle.course.specs.declared.course.Flush.{Flush}
-use Rattle.course.specs.declared.course.Flush.the-variants.{Fitted}
+use Rattle.course.specs.declared.course.Flush.the-variants.{Fitted, AsItStands, Lines}
 use Rattle.course.specs.Parts.{mostOf, partsFrom}
-use Rattle.course.specs.Course.{courseParts, courseFit, courseMost, lentCourse, linesJoined, optimized, optimizeCall, joinsBeziers, joinedBy, flushedBy, partsBy, fitBy, pathFlush}
-use Rattle.course.specs.Walks.{weightOf, weightsFrom}
-use Rattle.course.proofs.Parts.{Whole, most-by-weights, fit-few}
-use Rattle.course.proofs.Chains.{flushed-few}
+use Rattle.course.specs.Course.{courseParts, courseMost, lentCourse, linesJoined, optimizedChain, optimized, optimizeCall}
+use Rattle.course.specs.Walks.{weightOf, weightsFrom, pathFlush, joinsBeziers, joinedBy, flushedBy, partsBy, fitBy, courseNoted}
+use Rattle.course.proofs.Parts.{Whole, most-by-weights, noted-few, parts-commands}
+use Rattle.course.proofs.Chains.{flushed-few, path-commands}
 use borrow.Author.Tests.{not-false}
 
 -- ---- the course of `fit_arcs`
-pub course-fit : (tol : Float) (cs : List Command) → fitBy Fitted tol cs ≡ courseFit tol cs
-unfolding fitBy partsBy courseFit courseParts joinedBy joinsBeziers flushedBy
+pub course-fit : (tol : Float) (cs : List Command) → fitBy Fitted tol cs ≡ courseNoted tol cs
+unfolding fitBy partsBy courseNoted courseParts joinedBy joinsBeziers flushedBy
 course-fit tol cs = refl
-
-pub fitted-course : {xs ys : List Command} → xs ≡ ys → (k : ℕ) (ks ks′ : List ℕ) (ns ns′ : List Float) → FitPlaced xs 0 k ks ks′ ns ns′ → FitPlaced ys 0 k ks ks′ ns ns′
-fitted-course e k ks ks′ ns ns′ p = subst (λ (cs : List Command). FitPlaced cs 0 k ks ks′ ns ns′) e p
 
 pub course-most : (tol : Float) (cs : List Command) → mostOf (partsBy Fitted tol cs) ≡ courseMost tol cs
 unfolding partsBy courseMost courseParts joinedBy joinsBeziers
 course-most tol cs = refl
 
--- the same way of writing
-pub placed-as : {f g : Flush} → f ≡ g → (tol : Float) (cs : List Command) (k : ℕ) (ks ks′ : List ℕ) (ns ns′ : List Float) → FitPlaced (fitBy f tol cs) 0 k ks ks′ ns ns′ → FitPlaced (fitBy g tol cs) 0 k ks ks′ ns ns′
-placed-as e tol cs k ks ks′ ns ns′ p = subst (λ (h : Flush). FitPlaced (fitBy h tol cs) 0 k ks ks′ ns ns′) e p
-
 -- ---- that of `optimize_path_from_array`
-pub path-fit : (arcs : Bool) (tol : Float) (cs : List Command) → fitBy (pathFlush arcs) tol cs ≡ optimized arcs tol cs
-unfolding pathFlush fitBy partsBy optimized joinedBy joinsBeziers flushedBy
-path-fit true tol cs = refl
-path-fit false tol cs = refl
+pub path-fit : (arcs : Bool) (tol : Float) (cs : List Command) → commandsOf (fitBy (pathFlush arcs) tol cs) ≡ optimized arcs tol cs
+unfolding fitBy partsBy optimized joinedBy joinsBeziers pathFlush
+path-fit true tol cs = parts-commands (flushedBy AsItStands tol) (optimizedChain true tol) (path-commands true tol) (partsFrom linesJoined origin (triple origin) cs)
+path-fit false tol cs = parts-commands (flushedBy Lines tol) (optimizedChain false tol) (path-commands false tol) (partsFrom linesJoined origin (triple origin) cs)
 
 whole-lines : (last : Point3D) (c : Command) → Whole (linesJoined last c)
 unfolding linesJoined
@@ -88,7 +82,7 @@ course-length ks ns (suc n) i = ap suc (course-length ks ns n (i + 1))
 -- what is written is at most the most
 path-few : (arcs : Bool) (tol : Float) → (+0 ≺ tol) ≡ true → (cs : List Command) → length (fitBy (pathFlush arcs) tol cs) ≤ mostOf (partsBy (pathFlush arcs) tol cs)
 unfolding fitBy
-path-few arcs tol pos cs = fit-few (flushedBy (pathFlush arcs) tol) (flushed-few (pathFlush arcs) tol pos) (partsBy (pathFlush arcs) tol cs)
+path-few arcs tol pos cs = noted-few (flushedBy (pathFlush arcs) tol) (flushed-few (pathFlush arcs) tol pos) (partsBy (pathFlush arcs) tol cs)
 
 -- the tolerance of a path that is accepted
 path-positive : (ks : List ℕ) (ns : List Float) (tol : Float) (kinds numbers r : ℕ) → r ≡ refusal (commandRows ks ns tol kinds numbers) → r ≡ 0 → (+0 ≺ tol) ≡ true
@@ -114,13 +108,16 @@ module _ (ks : List ℕ) (ns : List Float) (tol : Float) (arcs : Bool) (oks : Li
       let m = most-is in
       (path-positive ks ns tol (length oks) (length ons) r e z, (omega (arith, a), omega (arith, a, m), omega (arith, a, m), omega (arith, a, m)))
 
-  pub wrote-path : (oks′ : List ℕ) (ons′ : List Float) (k : ℕ) → FitPlaced (fitBy (pathFlush arcs) tol (lentCourse ks ns)) 0 k oks oks′ ons ons′
+  pub wrote-path : (f : Flush) → f ≡ pathFlush arcs → (oks′ : List ℕ) (ons′ : List Float) (oss oss′ : List ℕ) (k : ℕ) → NotedPlaced (fitBy f tol (lentCourse ks ns)) 0 k oks oks′ ons ons′ oss oss′
       → WroteCommands (optimizeCall ks ns tol arcs (length oks) (length ons)) oks oks′ ons ons′ (Written k)
   unfolding optimizeCall
-  wrote-path oks′ ons′ k q =
-      let p = subst (λ (cs : List Command). FitPlaced cs 0 k oks oks′ ons ons′) (path-fit arcs tol (lentCourse ks ns)) q in
+  wrote-path f is oks′ ons′ oss oss′ k q =
+      let fitted = fitBy (pathFlush arcs) tol (lentCourse ks ns) in
+      let d = path-fit arcs tol (lentCourse ks ns) in
+      let p = commands-placed _ _ 0 k oks oks′ ons ons′ oss oss′ (ap (λ (h : Flush). commandsOf (fitBy h tol (lentCourse ks ns))) is ∙ d) q in
       let xs = optimized arcs tol (lentCourse ks ns) in
       let a = path-accepted in
-      let l : length (fitBy (pathFlush arcs) tol (lentCourse ks ns)) ≤ mostOf (partsBy (pathFlush arcs) tol (lentCourse ks ns)) = path-few arcs tol (a .0) (lentCourse ks ns) in
-      let s = ap length (path-fit arcs tol (lentCourse ks ns)) in
+      let l : length fitted ≤ mostOf (partsBy (pathFlush arcs) tol (lentCourse ks ns)) = path-few arcs tol (a .0) (lentCourse ks ns) in
+      let m = commands-length fitted in
+      let s = ap length d in
       commands-given _ r e xs oks oks′ ons ons′ k z (p .count) (omega (arith, a .1)) (omega (arith, a .1, flat-length numbersOf 9 nine xs)) (p .kinds) (p .numbers)

@@ -1,53 +1,44 @@
 -- One command of a course: what the room before it comes to, and how long a chain's fit is. Assumes nothing.
 use Prim.Native.Nat.{ℕ, _+_, _-_, _*_, _/_, _≤_, _<_}
-use mathlib.Core.Path.{_≡_, sym, ap, _∙_, subst}
+use mathlib.Core.Path.{_≡_, sym, ap, subst}
 use mathlib.Core.Logic.{⊎-elim}
 use mathlib.Core.Bool.{true, false}
-use mathlib.Core.List.{List, [], map}
+use mathlib.Core.List.{List}
 use native.Mathlib.Omega.{arith}
 use lib.ListN.{length, length-append}
-use lib.Seq.{length-sets}
 use lib.Ieee.{Float}
 use Rattle.floats.specs.Ops.{_≺_, _⊗_, +0}
 use Rattle.floats.proofs.Order.{lt-or-ge}
 use Rattle.geo.specs.declared.types.Point3D.{Point3D}
 use Rattle.geo.specs.declared.types.Command.{Command}
 use Rattle.geo.specs.declared.types.Command.the-variants.{Move, Line, Arc, Bezier}
-use Rattle.geo.specs.Lent.{pointAt, triple, flat, endOf, kindOf, numbersOf}
+use Rattle.geo.specs.Lent.{pointAt, triple, flat, endOf}
 use Rattle.bezier.specs.Linearize.{stepEnd, paramSteps}
-use Rattle.fitting.specs.Commands.{keptOf, chainFit}
-use Rattle.fitting.specs.Written.{FitPlaced}
-use Rattle.fitting.proofs.Fitted.{fit-length}
-use Rattle.fitting.proofs.Chain.{kept-few, kept-some, no-chain}
+use Rattle.fitting.specs.Commands.{keptOf}
+use Rattle.fitting.specs.Written.{Noted, chainNoted}
+use Rattle.fitting.proofs.Fitted.{noted-length}
+use Rattle.fitting.proofs.Chain.{kept-few, kept-some, no-noted}
 use Rattle.course.specs.declared.course.Walk.{Walk}
 use Rattle.course.specs.Parts.{Join, adds, ends, closed, carried, partMost, mostOf}
 use Rattle.course.specs.declared.course.Flush.{Flush}
 use Rattle.course.specs.declared.course.Flush.the-variants.{Fitted, AsItStands, Lines}
 use Rattle.floats.specs.Limits.{quarter}
-use Rattle.course.specs.Course.{joined, linesJoined, joinsBeziers, joinedBy}
-use Rattle.course.specs.Walks.{underWay, Room, Stepped}
+use Rattle.course.specs.Course.{joined, linesJoined}
+use Rattle.course.specs.Walks.{joinsBeziers, joinedBy, underWay, Room, Stepped}
 use Rattle.course.proofs.Walking.{length-front}
 
 -- a chain gives at most a command for each of its steps
-pub chain-few : (tol : Float) → (+0 ≺ tol) ≡ true → (s : List Float) → length (chainFit tol s) ≤ length s / 3 - 1
+pub chain-few : (tol : Float) → (+0 ≺ tol) ≡ true → (s : List Float) → length (chainNoted tol s) ≤ length s / 3 - 1
 chain-few tol pos s = ⊎-elim none some (lt-or-ge (length s / 3) 2)
   where
-    none : length s / 3 < 2 → length (chainFit tol s) ≤ length s / 3 - 1
-    none h = let e = no-chain tol s h 0 [] [] .count in omega arith
+    none : length s / 3 < 2 → length (chainNoted tol s) ≤ length s / 3 - 1
+    none h = let e = ap length (no-noted tol s h) in omega arith
 
-    some : 2 ≤ length s / 3 → length (chainFit tol s) ≤ length s / 3 - 1
+    some : 2 ≤ length s / 3 → length (chainNoted tol s) ≤ length s / 3 - 1
     some h =
         let k = kept-some tol s h in
         let f = kept-few tol s in
-        let l : length (chainFit tol s) ≤ length (keptOf tol s) - 1 - 0 = unfold chainFit in fit-length tol pos (pointAt (flat triple (keptOf tol s))) 0 (length (keptOf tol s) - 1) (omega arith) in omega arith
-
--- both outputs are as long as before
-module _ (cs : List Command) (at n : ℕ) (ks ks′ : List ℕ) (ns ns′ : List Float) (p : FitPlaced cs at n ks ks′ ns ns′) where
-  pub placed-kinds : length ks′ ≡ length ks
-  placed-kinds = ap length (p .kinds) ∙ length-sets ks at (map kindOf cs)
-
-  pub placed-numbers : length ns′ ≡ length ns
-  placed-numbers = ap length (p .numbers) ∙ length-sets ns (9 * at) (flat numbersOf cs)
+        let l : length (chainNoted tol s) ≤ length (keptOf tol s) - 1 - 0 = unfold chainNoted in noted-length tol pos (pointAt (flat triple (keptOf tol s))) 0 (length (keptOf tol s) - 1) (omega arith) in omega arith
 
 module _ (c : Command) (w : Walk) (s : List Float) (kinds numbers : ℕ) where
   pub front-length : (j : Join) → Room j c w s kinds numbers → length (underWay w s) ≡ 3 * w .points
@@ -113,11 +104,11 @@ unfolding endOf
 bezier-end c p q r e = rw e
 
 -- the same step, where the join is worked out
-pub stepped-as : (fit : List Float → List Command) (j k : Join) (c : Command) (w r : Walk) (s s′ : List Float) (ks ks′ : List ℕ) (ns ns′ : List Float) → j ≡ k
-    → Stepped fit k c w r s s′ ks ks′ ns ns′ → Stepped fit j c w r s s′ ks ks′ ns ns′
-stepped-as fit j k c w r s s′ ks ks′ ns ns′ e t = subst (λ (i : Join). Stepped fit i c w r s s′ ks ks′ ns ns′) (sym e) t
+pub stepped-as : (fit : List Float → List Noted) (j k : Join) (c : Command) (w r : Walk) (s s′ : List Float) (ks ks′ : List ℕ) (ns ns′ : List Float) (ss ss′ : List ℕ) → j ≡ k
+    → Stepped fit k c w r s s′ ks ks′ ns ns′ ss ss′ → Stepped fit j c w r s s′ ks ks′ ns ns′ ss ss′
+stepped-as fit j k c w r s s′ ks ks′ ns ns′ ss ss′ e t = subst (λ (i : Join). Stepped fit i c w r s s′ ks ks′ ns ns′ ss ss′) (sym e) t
 
 -- the same command, written out
-pub stepped-of : (fit : List Float → List Command) (j : Join) (c d : Command) (w r : Walk) (s s′ : List Float) (ks ks′ : List ℕ) (ns ns′ : List Float) → c ≡ d
-    → Stepped fit j d w r s s′ ks ks′ ns ns′ → Stepped fit j c w r s s′ ks ks′ ns ns′
-stepped-of fit j c d w r s s′ ks ks′ ns ns′ e t = subst (λ (x : Command). Stepped fit j x w r s s′ ks ks′ ns ns′) (sym e) t
+pub stepped-of : (fit : List Float → List Noted) (j : Join) (c d : Command) (w r : Walk) (s s′ : List Float) (ks ks′ : List ℕ) (ns ns′ : List Float) (ss ss′ : List ℕ) → c ≡ d
+    → Stepped fit j d w r s s′ ks ks′ ns ns′ ss ss′ → Stepped fit j c w r s s′ ks ks′ ns ns′ ss ss′
+stepped-of fit j c d w r s s′ ks ks′ ns ns′ ss ss′ e t = subst (λ (x : Command). Stepped fit j x w r s s′ ks ks′ ns ns′ ss ss′) (sym e) t

@@ -19,8 +19,8 @@ use Rattle.bezier.proofs.Rows.{param-length}
 use Rattle.bezier.proofs.Count.{max-above}
 use Rattle.course.specs.Parts.{adds}
 use Rattle.floats.specs.Limits.{quarter}
-use Rattle.course.specs.Course.{joined, courseParts, courseMost, cap}
-use Rattle.course.specs.Walks.{weightOf, weightsFrom}
+use Rattle.course.specs.Course.{joined, courseParts, courseMost}
+use Rattle.course.specs.Walks.{cap, weightOf, weightsFrom}
 use Rattle.course.proofs.Count.{cap-few, cap-many, cap-next, many-steps}
 use Rattle.course.proofs.Parts.{Whole, most-by-weights}
 use Rattle.course.proofs.Walking.{commands-step}

@@ -1,12 +1,12 @@
 -- The courses of `fit_arcs` and of `optimize_path_from_array`. Definitions only.
-use Prim.Native.Nat.{ℕ, _+_, _-_, _*_, _/_}
+use Prim.Native.Nat.{ℕ, _-_, _*_, _/_}
 use mathlib.Core.Bool.{Bool, true, false, not}
 use mathlib.Core.List.{List, [], _∷_, _++_, map}
 use lib.ListN.{length, drop}
 use lib.Dec.{ltb, eqb}
 use lib.Ieee.{Float}
 use Rattle.floats.specs.Limits.{quarter}
-use Rattle.floats.specs.Ops.{_⊗_, if_then_else_}
+use Rattle.floats.specs.Ops.{_⊗_}
 use Rattle.geo.specs.declared.types.Point3D.{Point3D}
 use Rattle.geo.specs.declared.types.Command.{Command}
 use Rattle.geo.specs.declared.types.Command.the-variants.{Move, Line, Arc, Bezier}
@@ -17,8 +17,6 @@ use Rattle.simplify.specs.Measure.{lineSq}
 use Rattle.simplify.specs.Simplify.{commandRows}
 use Rattle.bezier.specs.Linearize.{stepEnd, paramSteps}
 use Rattle.fitting.specs.Commands.{fitIn, keptOf, chainFit}
-use Rattle.course.specs.declared.course.Flush.{Flush}
-use Rattle.course.specs.declared.course.Flush.the-variants.{Fitted, AsItStands, Lines}
 use Rattle.course.specs.Parts.{Part, Join, adds, ends, partsFrom, mostOf, fitOf}
 
 -- ---- fit_arcs: a Line adds its end to the chain, a Bezier the ends of its steps, linearised at a quarter of the tolerance from where the last command ended
@@ -39,10 +37,6 @@ courseFit tol cs = fitOf (chainFit tol) (courseParts tol cs)
 -- its most: its Moves and Arcs, and that of each chain, Bezier steps counted
 unfoldable pub courseMost : Float → List Command → ℕ
 courseMost tol cs = mostOf (courseParts tol cs)
-
--- a most as it is counted: 801 stands for every number above 800
-unfoldable pub cap : ℕ → ℕ
-cap n = if ltb 800 n then 801 else n
 
 -- the commands that are lent as the kinds ks and the numbers ns
 abbrev pub lentCourse : List ℕ → List Float → List Command
@@ -85,28 +79,3 @@ optimized arcs tol cs = fitOf (optimizedChain arcs tol) (partsFrom linesJoined o
 
 unfoldable pub optimizeCall : List ℕ → List Float → Float → Bool → ℕ → ℕ → Outcome (List Command)
 optimizeCall ks ns tol arcs kinds numbers = unless (refusal (commandRows ks ns tol kinds numbers)) (optimized arcs tol (lentCourse ks ns))
-
--- ---- both in one: a path is fitted as it stands where arcs are asked for, else thinned to Lines
-unfoldable pub pathFlush : Bool → Flush
-pathFlush true = AsItStands
-pathFlush false = Lines
-
--- : how a course's chains are written, and whether Beziers join them
-unfoldable pub joinsBeziers : Flush → Bool
-joinsBeziers Fitted = true
-joinsBeziers AsItStands = false
-joinsBeziers Lines = false
-
-unfoldable pub joinedBy : Flush → Float → Point3D → Command → Join
-joinedBy f tol last c = if joinsBeziers f then joined tol last c else linesJoined last c
-
-unfoldable pub flushedBy : Flush → Float → List Float → List Command
-flushedBy Fitted tol s = chainFit tol s
-flushedBy AsItStands tol s = optimizedChain true tol s
-flushedBy Lines tol s = optimizedChain false tol s
-
-unfoldable pub partsBy : Flush → Float → List Command → List Part
-partsBy f tol cs = partsFrom (joinedBy f tol) origin (triple origin) cs
-
-unfoldable pub fitBy : Flush → Float → List Command → List Command
-fitBy f tol cs = fitOf (flushedBy f tol) (partsBy f tol cs)

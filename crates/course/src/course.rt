@@ -4,12 +4,12 @@ use bezier::bezier::steps_needed;
 use bezier::bezier::whole_steps;
 use fitting::fitting::fit_range;
 use fitting::fitting::flush_chain;
+use fitting::fitting::put_noted;
 use geo::domain::commands_formed;
 use geo::domain::commands_in;
 use geo::domain::is_within;
 use geo::lent::command_at;
 use geo::lent::point_at;
-use geo::lent::put_command;
 use geo::lent::put_point;
 use geo::types::Answer;
 use geo::types::Command;
@@ -17,7 +17,7 @@ use geo::types::Point3D;
 use simplify::simplify::refuse_commands;
 use simplify::simplify::thin_in_place;
 ghost use mathlib.Core.Path.{_≡_};
-ghost use mathlib.Core.Bool.{true, false};
+ghost use mathlib.Core.Bool.{true};
 ghost use mathlib.Core.List.{map};
 ghost use Prim.Native.Nat.{_+_, _-_, _*_, _/_, _<_, _≤_};
 ghost use lib.ListN.{length};
@@ -25,15 +25,15 @@ ghost use lib.Seq.{sets};
 ghost use Rattle.floats.specs.Ops.{_≺_, _⊗_, +0};
 ghost use Rattle.geo.specs.Lent.{origin, triple, flat, pointAt};
 ghost use Rattle.geo.specs.Walk.{listFrom};
-ghost use Rattle.geo.specs.declared.types.Command.the-variants.{Line};
 ghost use Rattle.geo.specs.Outcome.{refusal};
 ghost use Rattle.geo.specs.Commands.{WroteCommands};
 ghost use Rattle.bezier.specs.Linearize.{stepEnd, paramSteps};
-ghost use Rattle.fitting.specs.Written.{FitPlaced};
+ghost use Rattle.fitting.specs.Written.{FitPlaced, NotedPlaced};
 ghost use Rattle.course.specs.Parts.{ends, mostOf};
 ghost use Rattle.floats.specs.Limits.{quarter};
-ghost use Rattle.course.specs.Course.{joined, courseFit, courseMost, cap, lentCourse, inputRows, arcsRows, arcsCall, optimizedChain, optimizeCall, joinsBeziers, joinedBy, flushedBy, partsBy, fitBy, pathFlush};
-ghost use Rattle.course.specs.Walks.{weightOf, Room, Stepped};
+ghost use Rattle.course.specs.declared.course.Flush.the-variants.{AsItStands, Lines};
+ghost use Rattle.course.specs.Course.{joined, courseFit, courseMost, lentCourse, inputRows, arcsRows, arcsCall, optimizeCall};
+ghost use Rattle.course.specs.Walks.{mostCommands, chainPoints, chainNumbers, cap, weightOf, pathFlush, joinsBeziers, joinedBy, lineNoted, flushedBy, partsBy, fitBy, courseNoted, Room, Stepped};
 
 // Where a walk along a course stands.
 pub struct Walk {
@@ -69,6 +69,17 @@ impl Flush {
 }
 
 impl Walk {
+    // The most of a course that is accepted, and the commands that one is given in.
+    pub const MOST: usize = 800;
+    // The same as a float, for a Bezier's steps before they are a count.
+    pub const MOST_STEPS: f64 = 800.0;
+    // Stands for every count above the most. No longer chain has a course of the most, its first point included.
+    pub const OVER: usize = 801;
+    // The numbers of the longest chain, three a point.
+    pub const CHAIN: usize = 2403;
+    // The numbers of the most commands, nine a command.
+    pub const NUMBERS: usize = 7200;
+
     // A chain has its first point from the start.
     pub fn new() -> Self
         ensures { λ r. ⌜ r ≡ record { points = 1; last = origin; written = 0 } ⌝ }
@@ -92,10 +103,10 @@ fn bezier_steps(
     ensures { λ r. ⌜ r ≡ cap (length (paramSteps end control1 control2 start resolution)) ⌝ }
 {
     let needed = steps_needed(end, control1, control2, start, resolution);
-    if needed <= 800.0 {
+    if needed <= Walk::MOST_STEPS {
         return whole_steps(needed);
     }
-    801
+    Walk::OVER
 }
 
 // What a command adds to the most of its course.
@@ -120,12 +131,12 @@ pub fn weight(c: Command, last: Point3D, tolerance: f64) -> usize
 
 // The sum of two counts, 801 for all above 800.
 pub fn add_capped(a: usize, b: usize) -> usize
-    requires { ⌜ (a ≤ 801) × (b ≤ 801) ⌝ }
-    ensures { λ r. ⌜ (r ≡ cap (a + b)) × (r ≤ 801) ⌝ }
+    requires { ⌜ (a ≤ chainPoints) × (b ≤ chainPoints) ⌝ }
+    ensures { λ r. ⌜ (r ≡ cap (a + b)) × (r ≤ chainPoints) ⌝ }
 {
     let n = a + b;
-    if 800 < n {
-        return 801;
+    if Walk::MOST < n {
+        return Walk::OVER;
     }
     n
 }
@@ -146,8 +157,8 @@ pub fn course_most(kinds: &[u8], nums: &[f64], tolerance: f64) -> usize
 }
 
 // A Line's end joins the chain.
-pub fn add_line(end: Point3D, w: Walk, chain: &mut [f64]) -> Walk
-    requires { ⌜ (w .points ≤ 800) × (3 * w .points + 3 ≤ length (now chain)) ⌝ }
+fn add_line(end: Point3D, w: Walk, chain: &mut [f64]) -> Walk
+    requires { ⌜ (w .points ≤ mostCommands) × (3 * w .points + 3 ≤ length (now chain)) ⌝ }
     ensures { λ r. ⌜ (r ≡ record { points = w .points + 1; last = end; written = w .written }) × (now (chain .exit) ≡ sets (now (chain .entry)) (3 * w .points) (triple end)) ⌝ }
 {
     put_point(chain, 3 * w.points, end);
@@ -159,7 +170,7 @@ pub fn add_line(end: Point3D, w: Walk, chain: &mut [f64]) -> Walk
 }
 
 // The ends of a Bezier's steps join the chain.
-pub fn add_bezier(
+fn add_bezier(
     end: Point3D,
     control1: Point3D,
     control2: Point3D,
@@ -167,7 +178,7 @@ pub fn add_bezier(
     w: Walk,
     chain: &mut [f64],
 ) -> Walk
-    requires { ⌜ (w .points + length (paramSteps end control1 control2 (w .last) (tolerance ⊗ quarter)) ≤ 801) × (1 ≤ w .points) × (length (now chain) ≡ 2403) ⌝ }
+    requires { ⌜ (w .points + length (paramSteps end control1 control2 (w .last) (tolerance ⊗ quarter)) ≤ chainPoints) × (1 ≤ w .points) × (length (now chain) ≡ chainNumbers) ⌝ }
     ensures { λ r. ⌜ (r ≡ record { points = w .points + length (paramSteps end control1 control2 (w .last) (tolerance ⊗ quarter)); last = end; written = w .written }) × (now (chain .exit) ≡ sets (now (chain .entry)) (3 * w .points) (flat stepEnd (paramSteps end control1 control2 (w .last) (tolerance ⊗ quarter)))) ⌝ }
 {
     let n = bezier_steps(end, control1, control2, w.last, tolerance * 0.25);
@@ -179,16 +190,22 @@ pub fn add_bezier(
     }
 }
 
-// Writes a Line to each point but the first.
-fn put_lines(points: &[f64], kinds: &mut [u8], nums: &mut [f64], at: usize) -> usize
-    requires { ⌜ (length (now points) / 3 ≤ 801) × (at + (length (now points) / 3 - 1) ≤ length (now kinds)) × (9 * (at + (length (now points) / 3 - 1)) ≤ length (now nums)) ⌝ }
-    ensures { λ r. ⌜ FitPlaced (map Line (listFrom (pointAt (now (points .entry))) (length (now (points .entry)) / 3 - 1) 1)) at r (now (kinds .entry)) (now (kinds .exit)) (now (nums .entry)) (now (nums .exit)) ⌝ }
+// Writes a Line to each point but the first. Each covers one step.
+fn put_lines(
+    points: &[f64],
+    kinds: &mut [u8],
+    nums: &mut [f64],
+    steps: &mut [u32],
+    at: usize,
+) -> usize
+    requires { ⌜ (length (now points) / 3 ≤ chainPoints) × (at + (length (now points) / 3 - 1) ≤ length (now kinds)) × (9 * (at + (length (now points) / 3 - 1)) ≤ length (now nums)) ⌝ }
+    ensures { λ r. ⌜ NotedPlaced (map lineNoted (listFrom (pointAt (now (points .entry))) (length (now (points .entry)) / 3 - 1) 1)) at r (now (kinds .entry)) (now (kinds .exit)) (now (nums .entry)) (now (nums .exit)) (now (steps .entry)) (now (steps .exit)) ⌝ }
 {
     let n = points.len() / 3;
     let mut written = 0;
     for i in 1..n {
         let end = point_at(points, i);
-        put_command(kinds, nums, at + written, Command::Line { end });
+        put_noted(kinds, nums, steps, at + written, Command::Line { end }, 1);
         written += 1;
     }
     written
@@ -200,50 +217,59 @@ fn thin_chain(
     tolerance: f64,
     kinds: &mut [u8],
     nums: &mut [f64],
+    steps: &mut [u32],
     at: usize,
 ) -> usize
-    requires { ⌜ (length (now chain) / 3 ≤ 801) × (at + (length (now chain) / 3 - 1) ≤ length (now kinds)) × (9 * (at + (length (now chain) / 3 - 1)) ≤ length (now nums)) ⌝ }
-    ensures fit { λ r. ⌜ FitPlaced (optimizedChain false tolerance (now (chain .entry))) at r (now (kinds .entry)) (now (kinds .exit)) (now (nums .entry)) (now (nums .exit)) ⌝ }
-    ensures long { λ _. ⌜ length (now (chain .exit)) ≡ length (now (chain .entry)) ⌝ }
+    requires { ⌜ (length (now chain) / 3 ≤ chainPoints) × (at + (length (now chain) / 3 - 1) ≤ length (now kinds)) × (9 * (at + (length (now chain) / 3 - 1)) ≤ length (now nums)) ⌝ }
+    // What the chain holds at exit is left open.
+    ensures { λ r. ⌜ NotedPlaced (flushedBy Lines tolerance (now (chain .entry))) at r (now (kinds .entry)) (now (kinds .exit)) (now (nums .entry)) (now (nums .exit)) (now (steps .entry)) (now (steps .exit)) ⌝ }
 {
     let n = chain.len() / 3;
     let k = thin_in_place(chain, n, tolerance * tolerance);
-    put_lines(&chain[..3 * k], kinds, nums, at)
+    put_lines(&chain[..3 * k], kinds, nums, steps, at)
 }
 
 // Fits a chain as it stands.
-fn fit_chain(chain: &[f64], tolerance: f64, kinds: &mut [u8], nums: &mut [f64], at: usize) -> usize
-    requires { ⌜ ((+0 ≺ tolerance) ≡ true) × ((length (now chain) / 3 ≤ 801) × (at + (length (now chain) / 3 - 1) ≤ length (now kinds)) × (9 * (at + (length (now chain) / 3 - 1)) ≤ length (now nums))) ⌝ }
-    ensures { λ r. ⌜ FitPlaced (optimizedChain true tolerance (now (chain .entry))) at r (now (kinds .entry)) (now (kinds .exit)) (now (nums .entry)) (now (nums .exit)) ⌝ }
+fn fit_chain(
+    chain: &[f64],
+    tolerance: f64,
+    kinds: &mut [u8],
+    nums: &mut [f64],
+    steps: &mut [u32],
+    at: usize,
+) -> usize
+    requires { ⌜ ((+0 ≺ tolerance) ≡ true) × ((length (now chain) / 3 ≤ chainPoints) × (at + (length (now chain) / 3 - 1) ≤ length (now kinds)) × (9 * (at + (length (now chain) / 3 - 1)) ≤ length (now nums))) ⌝ }
+    ensures { λ r. ⌜ NotedPlaced (flushedBy AsItStands tolerance (now (chain .entry))) at r (now (kinds .entry)) (now (kinds .exit)) (now (nums .entry)) (now (nums .exit)) (now (steps .entry)) (now (steps .exit)) ⌝ }
 {
     let n = chain.len() / 3;
     if n < 2 {
         return 0;
     }
-    fit_range(chain, tolerance, 0, n - 1, kinds, nums, at)
+    fit_range(chain, tolerance, 0, n - 1, kinds, nums, steps, at)
 }
 
-// Writes a chain's commands, and answers how many they are. The chain may be thinned in place.
+// Writes a chain's commands with the steps that each covers, and answers how many they are. The chain may be thinned in place.
 fn flush_by(
     how: Flush,
     chain: &mut [f64],
     tolerance: f64,
     kinds: &mut [u8],
     nums: &mut [f64],
+    steps: &mut [u32],
     at: usize,
 ) -> usize
-    requires { ⌜ ((+0 ≺ tolerance) ≡ true) × ((length (now chain) / 3 ≤ 801) × (at + (length (now chain) / 3 - 1) ≤ length (now kinds)) × (9 * (at + (length (now chain) / 3 - 1)) ≤ length (now nums))) ⌝ }
-    ensures fit { λ r. ⌜ FitPlaced (flushedBy how tolerance (now (chain .entry))) at r (now (kinds .entry)) (now (kinds .exit)) (now (nums .entry)) (now (nums .exit)) ⌝ }
-    ensures long { λ _. ⌜ length (now (chain .exit)) ≡ length (now (chain .entry)) ⌝ }
+    requires { ⌜ ((+0 ≺ tolerance) ≡ true) × ((length (now chain) / 3 ≤ chainPoints) × (at + (length (now chain) / 3 - 1) ≤ length (now kinds)) × (9 * (at + (length (now chain) / 3 - 1)) ≤ length (now nums))) ⌝ }
+    // What the chain holds at exit is left open.
+    ensures { λ r. ⌜ NotedPlaced (flushedBy how tolerance (now (chain .entry))) at r (now (kinds .entry)) (now (kinds .exit)) (now (nums .entry)) (now (nums .exit)) (now (steps .entry)) (now (steps .exit)) ⌝ }
 {
     match how {
-        Flush::Fitted => flush_chain(chain, tolerance, kinds, nums, at),
-        Flush::AsItStands => fit_chain(chain, tolerance, kinds, nums, at),
-        Flush::Lines => thin_chain(chain, tolerance, kinds, nums, at),
+        Flush::Fitted => flush_chain(chain, tolerance, kinds, nums, steps, at),
+        Flush::AsItStands => fit_chain(chain, tolerance, kinds, nums, steps, at),
+        Flush::Lines => thin_chain(chain, tolerance, kinds, nums, steps, at),
     }
 }
 
-// The command ends the chain: the chain is flushed, and the command kept as it stands.
+// The command ends the chain: the chain is flushed, and the command kept as it stands. It covers no step.
 fn end_chain(
     c: Command,
     how: Flush,
@@ -252,9 +278,10 @@ fn end_chain(
     chain: &mut [f64],
     kinds: &mut [u8],
     nums: &mut [f64],
+    steps: &mut [u32],
 ) -> Walk
     requires { ⌜ ((+0 ≺ tolerance) ≡ true) × Room ends c w (now chain) (length (now kinds)) (length (now nums)) ⌝ }
-    ensures { λ r. ⌜ Stepped (flushedBy how tolerance) ends c w r (now (chain .entry)) (now (chain .exit)) (now (kinds .entry)) (now (kinds .exit)) (now (nums .entry)) (now (nums .exit)) ⌝ }
+    ensures { λ r. ⌜ Stepped (flushedBy how tolerance) ends c w r (now (chain .entry)) (now (chain .exit)) (now (kinds .entry)) (now (kinds .exit)) (now (nums .entry)) (now (nums .exit)) (now (steps .entry)) (now (steps .exit)) ⌝ }
 {
     let n = flush_by(
         how,
@@ -262,9 +289,10 @@ fn end_chain(
         tolerance,
         kinds,
         nums,
+        steps,
         w.written,
     );
-    put_command(kinds, nums, w.written + n, c);
+    put_noted(kinds, nums, steps, w.written + n, c, 0);
     let end = c.end_point();
     put_point(chain, 0, end);
     Walk {
@@ -283,9 +311,10 @@ fn take_command(
     chain: &mut [f64],
     kinds: &mut [u8],
     nums: &mut [f64],
+    steps: &mut [u32],
 ) -> Walk
     requires { ⌜ ((+0 ≺ tolerance) ≡ true) × Room (joinedBy how tolerance (w .last) c) c w (now chain) (length (now kinds)) (length (now nums)) ⌝ }
-    ensures { λ r. ⌜ Stepped (flushedBy how tolerance) (joinedBy how tolerance (w .last) c) c w r (now (chain .entry)) (now (chain .exit)) (now (kinds .entry)) (now (kinds .exit)) (now (nums .entry)) (now (nums .exit)) ⌝ }
+    ensures { λ r. ⌜ Stepped (flushedBy how tolerance) (joinedBy how tolerance (w .last) c) c w r (now (chain .entry)) (now (chain .exit)) (now (kinds .entry)) (now (kinds .exit)) (now (nums .entry)) (now (nums .exit)) (now (steps .entry)) (now (steps .exit)) ⌝ }
 {
     match c {
         Command::Line { end } => add_line(end, w, chain),
@@ -297,18 +326,19 @@ fn take_command(
             if how.joins_beziers() {
                 return add_bezier(end, control1, control2, tolerance, w, chain);
             }
-            end_chain(c, how, tolerance, w, chain, kinds, nums)
+            end_chain(c, how, tolerance, w, chain, kinds, nums, steps)
         }
-        Command::Move { end: _ } => end_chain(c, how, tolerance, w, chain, kinds, nums),
+        Command::Move { end: _ } => end_chain(c, how, tolerance, w, chain, kinds, nums, steps),
         Command::Arc {
             end: _,
             center_offset: _,
             normal: _,
-        } => end_chain(c, how, tolerance, w, chain, kinds, nums),
+        } => end_chain(c, how, tolerance, w, chain, kinds, nums, steps),
     }
 }
 
-// Walks along a course, and answers how many commands it gives. The caller lends the chain's buffer, so that many courses share one.
+// Walks along a course, and answers how many commands it gives. The caller lends the chain's buffer, so that many courses
+// share one, and a column for the steps that each command covers, empty where nobody wants them.
 fn walk_course(
     kinds: &[u8],
     nums: &[f64],
@@ -317,17 +347,18 @@ fn walk_course(
     chain: &mut [f64],
     out_kinds: &mut [u8],
     out_nums: &mut [f64],
+    steps: &mut [u32],
 ) -> usize
-    requires { ⌜ ((+0 ≺ tolerance) ≡ true) × ((9 * length (now kinds) ≤ length (now nums)) × (mostOf (partsBy how tolerance (lentCourse (now kinds) (now nums))) ≤ 800) × (mostOf (partsBy how tolerance (lentCourse (now kinds) (now nums))) ≤ length (now «out_kinds»)) × (9 * mostOf (partsBy how tolerance (lentCourse (now kinds) (now nums))) ≤ length (now «out_nums»)) × (length (now chain) ≡ 2403)) ⌝ }
-    ensures fit { λ r. ⌜ FitPlaced (fitBy how tolerance (lentCourse (now (kinds .entry)) (now (nums .entry)))) 0 r (now («out_kinds» .entry)) (now («out_kinds» .exit)) (now («out_nums» .entry)) (now («out_nums» .exit)) ⌝ }
-    ensures long { λ _. ⌜ length (now (chain .exit)) ≡ 2403 ⌝ }
+    requires { ⌜ ((+0 ≺ tolerance) ≡ true) × ((9 * length (now kinds) ≤ length (now nums)) × (mostOf (partsBy how tolerance (lentCourse (now kinds) (now nums))) ≤ mostCommands) × (mostOf (partsBy how tolerance (lentCourse (now kinds) (now nums))) ≤ length (now «out_kinds»)) × (9 * mostOf (partsBy how tolerance (lentCourse (now kinds) (now nums))) ≤ length (now «out_nums»)) × (length (now chain) ≡ chainNumbers)) ⌝ }
+    // What the chain holds at exit is left open.
+    ensures { λ r. ⌜ NotedPlaced (fitBy how tolerance (lentCourse (now (kinds .entry)) (now (nums .entry)))) 0 r (now («out_kinds» .entry)) (now («out_kinds» .exit)) (now («out_nums» .entry)) (now («out_nums» .exit)) (now (steps .entry)) (now (steps .exit)) ⌝ }
 {
     let mut w = Walk::new();
     // The buffer may still hold the chain of another course.
     put_point(chain, 0, Point3D::ZERO);
     for i in 0..kinds.len() {
         let c = command_at(kinds, nums, i);
-        w = take_command(c, how, tolerance, w, chain, out_kinds, out_nums);
+        w = take_command(c, how, tolerance, w, chain, out_kinds, out_nums, steps);
     }
     let n = flush_by(
         how,
@@ -335,9 +366,36 @@ fn walk_course(
         tolerance,
         out_kinds,
         out_nums,
+        steps,
         w.written,
     );
     w.written + n
+}
+
+// Fits a course, notes how many steps each command covers, and answers how many commands there are.
+pub fn fit_course_with_steps(
+    kinds: &[u8],
+    nums: &[f64],
+    tolerance: f64,
+    chain: &mut [f64],
+    out_kinds: &mut [u8],
+    out_nums: &mut [f64],
+    steps: &mut [u32],
+) -> usize
+    requires { ⌜ ((+0 ≺ tolerance) ≡ true) × ((9 * length (now kinds) ≤ length (now nums)) × (courseMost tolerance (lentCourse (now kinds) (now nums)) ≤ mostCommands) × (courseMost tolerance (lentCourse (now kinds) (now nums)) ≤ length (now «out_kinds»)) × (9 * courseMost tolerance (lentCourse (now kinds) (now nums)) ≤ length (now «out_nums»)) × (length (now chain) ≡ chainNumbers)) ⌝ }
+    // The chain is lent as room to work in: what it holds at exit is left open.
+    ensures { λ r. ⌜ NotedPlaced (courseNoted tolerance (lentCourse (now (kinds .entry)) (now (nums .entry)))) 0 r (now («out_kinds» .entry)) (now («out_kinds» .exit)) (now («out_nums» .entry)) (now («out_nums» .exit)) (now (steps .entry)) (now (steps .exit)) ⌝ }
+{
+    walk_course(
+        kinds,
+        nums,
+        Flush::Fitted,
+        tolerance,
+        chain,
+        out_kinds,
+        out_nums,
+        steps,
+    )
 }
 
 // Fits a course, and answers how many commands it gives.
@@ -349,19 +407,11 @@ pub fn fit_course(
     out_kinds: &mut [u8],
     out_nums: &mut [f64],
 ) -> usize
-    requires { ⌜ ((+0 ≺ tolerance) ≡ true) × ((9 * length (now kinds) ≤ length (now nums)) × (courseMost tolerance (lentCourse (now kinds) (now nums)) ≤ 800) × (courseMost tolerance (lentCourse (now kinds) (now nums)) ≤ length (now «out_kinds»)) × (9 * courseMost tolerance (lentCourse (now kinds) (now nums)) ≤ length (now «out_nums»)) × (length (now chain) ≡ 2403)) ⌝ }
-    ensures fit { λ r. ⌜ FitPlaced (courseFit tolerance (lentCourse (now (kinds .entry)) (now (nums .entry)))) 0 r (now («out_kinds» .entry)) (now («out_kinds» .exit)) (now («out_nums» .entry)) (now («out_nums» .exit)) ⌝ }
-    ensures long { λ _. ⌜ length (now (chain .exit)) ≡ 2403 ⌝ }
+    requires { ⌜ ((+0 ≺ tolerance) ≡ true) × ((9 * length (now kinds) ≤ length (now nums)) × (courseMost tolerance (lentCourse (now kinds) (now nums)) ≤ mostCommands) × (courseMost tolerance (lentCourse (now kinds) (now nums)) ≤ length (now «out_kinds»)) × (9 * courseMost tolerance (lentCourse (now kinds) (now nums)) ≤ length (now «out_nums»)) × (length (now chain) ≡ chainNumbers)) ⌝ }
+    // The chain is lent as room to work in: what it holds at exit is left open.
+    ensures { λ r. ⌜ FitPlaced (courseFit tolerance (lentCourse (now (kinds .entry)) (now (nums .entry)))) 0 r (now («out_kinds» .entry)) (now («out_kinds» .exit)) (now («out_nums» .entry)) (now («out_nums» .exit)) ⌝ }
 {
-    walk_course(
-        kinds,
-        nums,
-        Flush::Fitted,
-        tolerance,
-        chain,
-        out_kinds,
-        out_nums,
-    )
+    fit_course_with_steps(kinds, nums, tolerance, chain, out_kinds, out_nums, &mut [])
 }
 
 // Why the commands of a course are refused, or 0: rows 1 to 6.
@@ -379,7 +429,7 @@ fn check_input(kinds: &[u8], nums: &[f64], tolerance: f64, out_nums: usize) -> u
     if out_nums % 9 != 0 {
         return 1;
     }
-    if n > 800 {
+    if n > Walk::MOST {
         return 2;
     }
     if !commands_formed(kinds, nums) {
@@ -409,7 +459,7 @@ fn check_course(
         return refused;
     }
     let most = course_most(kinds, nums, tolerance);
-    if 800 < most {
+    if Walk::MOST < most {
         return 8;
     }
     if out_kinds < most {
@@ -435,7 +485,7 @@ pub fn fit_arcs(
     if refused != 0 {
         return Answer::Refused(refused);
     }
-    let mut chain = [0.0; 2403];
+    let mut chain = [0.0; Walk::CHAIN];
     Answer::Written(fit_course(kinds, nums, tolerance, &mut chain, out_kinds, out_nums))
 }
 
@@ -465,6 +515,15 @@ pub fn optimize_path_from_array(
         return Answer::Refused(refused);
     }
     let how = path_flush(use_fit_arcs);
-    let mut chain = [0.0; 2403];
-    Answer::Written(walk_course(kinds, nums, how, tolerance, &mut chain, out_kinds, out_nums))
+    let mut chain = [0.0; Walk::CHAIN];
+    Answer::Written(walk_course(
+        kinds,
+        nums,
+        how,
+        tolerance,
+        &mut chain,
+        out_kinds,
+        out_nums,
+        &mut [],
+    ))
 }

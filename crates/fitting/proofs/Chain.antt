@@ -17,7 +17,8 @@ use Rattle.simplify.specs.Flags.{Copied}
 use Rattle.simplify.proofs.Thinning.{ends-kept, kept-at-most}
 use Rattle.fitting.specs.Pieces.{piecesBy}
 use Rattle.fitting.specs.Commands.{fitIn, keptOf, chainFit}
-use Rattle.fitting.specs.Written.{FitPlaced}
+use Rattle.fitting.specs.Written.{FitPlaced, commandsOf, notedIn, chainNoted, NotedPlaced}
+use Rattle.fitting.proofs.Fitted.{noted-fit}
 
 module _ (tol : Float) (s : List Float) where
   kept-length : length (keptOf tol s) ≡ length (thinned lineSq (tol ⊗ tol) (pointAt s) (length s / 3))
@@ -53,12 +54,17 @@ module _ (tol : Float) (s : List Float) where
     kept-wide = ap length kept-front ∙ wide
 
     -- what the fit of the buffer's front leaves is the chain's
-    pub fitted-chain : (at n : ℕ) (ks ks′ : List ℕ) (ns ns′ : List Float) → FitPlaced (fitIn lineSq tol (pointAt (take (3 * k) out′)) 0 (k - 1)) at n ks ks′ ns ns′
-        → FitPlaced (chainFit tol s) at n ks ks′ ns ns′
-    unfolding chainFit
-    fitted-chain at n ks ks′ ns ns′ p =
-        subst (λ (j : ℕ). FitPlaced (fitIn lineSq tol (pointAt (flat triple (keptOf tol s))) 0 (j - 1)) at n ks ks′ ns ns′) (c .count)
-        (subst (λ (l : List Float). FitPlaced (fitIn lineSq tol (pointAt l) 0 (k - 1)) at n ks ks′ ns ns′) kept-front p)
+    pub fitted-chain : (at n : ℕ) (ks ks′ : List ℕ) (ns ns′ : List Float) (ss ss′ : List ℕ) → NotedPlaced (notedIn lineSq tol (pointAt (take (3 * k) out′)) 0 (k - 1)) at n ks ks′ ns ns′ ss ss′
+        → NotedPlaced (chainNoted tol s) at n ks ks′ ns ns′ ss ss′
+    unfolding chainNoted
+    fitted-chain at n ks ks′ ns ns′ ss ss′ p =
+        subst (λ (j : ℕ). NotedPlaced (notedIn lineSq tol (pointAt (flat triple (keptOf tol s))) 0 (j - 1)) at n ks ks′ ns ns′ ss ss′) (c .count)
+        (subst (λ (l : List Float). NotedPlaced (notedIn lineSq tol (pointAt l) 0 (k - 1)) at n ks ks′ ns ns′ ss ss′) kept-front p)
+
+  -- what is noted beside a chain's commands does not change them
+  pub chain-noted : commandsOf (chainNoted tol s) ≡ chainFit tol s
+  unfolding chainNoted chainFit
+  chain-noted = noted-fit lineSq tol (pointAt (flat triple (keptOf tol s))) 0 (length (keptOf tol s) - 1)
 
   -- a chain with no step
   pub no-chain : length s / 3 < 2 → (at : ℕ) (ks : List ℕ) (ns : List Float) → FitPlaced (chainFit tol s) at 0 ks ks ns ns
@@ -66,3 +72,9 @@ module _ (tol : Float) (s : List Float) where
   no-chain h at ks ns =
       let f = kept-few in
       let d : length (keptOf tol s) - 1 ≡ 0 = omega arith in rw d (record { count = refl; kinds = refl; numbers = refl })
+
+  pub no-noted : length s / 3 < 2 → chainNoted tol s ≡ []
+  unfolding chainNoted notedIn piecesBy
+  no-noted h =
+      let f = kept-few in
+      let d : length (keptOf tol s) - 1 ≡ 0 = omega arith in rw d

@@ -1,15 +1,49 @@
--- What a function that writes commands at a place leaves. Definitions only.
-use Prim.Native.Nat.{ℕ, _*_}
+-- The code's own way: what a function that writes commands at a place leaves, and what it notes beside each of them. Definitions only.
+use Prim.Native.Nat.{ℕ, _-_, _*_}
 use mathlib.Core.List.{List, map}
 use mathlib.Core.Path.{_≡_}
 use lib.ListN.{length}
 use lib.Seq.{sets}
 use lib.Ieee.{Float}
+use Rattle.geo.specs.declared.types.Point3D.{Point3D}
 use Rattle.geo.specs.declared.types.Command.{Command}
-use Rattle.geo.specs.Lent.{flat, kindOf, numbersOf}
+use Rattle.geo.specs.Lent.{pointAt, triple, flat, kindOf, numbersOf}
+use Rattle.simplify.specs.Measure.{Measure, lineSq}
+use Rattle.fitting.specs.Pieces.{Piece, piecesIn}
+use Rattle.fitting.specs.Commands.{pieceCommand, keptOf}
 
 -- the commands cs, n in number, written from place `at` on
 pub record FitPlaced (cs : List Command) (at n : ℕ) (ks ks′ : List ℕ) (ns ns′ : List Float) : Type 0 where
   pub count : n ≡ length cs
   pub kinds : ks′ ≡ sets ks at (map kindOf cs)
   pub numbers : ns′ ≡ sets ns (9 * at) (flat numbersOf cs)
+
+-- ---- a command with what is noted beside it: how many steps of the fitted points it covers
+pub record Noted : Type 0 where
+  pub command : Command
+  pub steps : ℕ
+
+abbrev pub noted : Command → ℕ → Noted
+noted c n = record { command = c; steps = n }
+
+unfoldable pub commandsOf : List Noted → List Command
+commandsOf xs = map (λ (x : Noted). x .command) xs
+
+unfoldable pub notesOf : List Noted → List ℕ
+notesOf xs = map (λ (x : Noted). x .steps) xs
+
+-- the commands of a range's pieces, and of a chain's
+unfoldable pub pieceNoted : (ℕ → Point3D) → Piece → Noted
+pieceNoted at p = noted (pieceCommand at p) (p .to - p .from)
+
+unfoldable pub notedIn : Measure Point3D → Float → (ℕ → Point3D) → ℕ → ℕ → List Noted
+notedIn m tol at lo hi = map (pieceNoted at) (piecesIn m tol at lo hi)
+
+unfoldable pub chainNoted : Float → List Float → List Noted
+chainNoted tol s = notedIn lineSq tol (pointAt (flat triple (keptOf tol s))) 0 (length (keptOf tol s) - 1)
+
+-- Written from place `at` on, with the steps in a column of their own, as far as the column reaches (`sets` changes no place that is not there): nobody who lends an empty one
+-- gets any.
+pub record NotedPlaced (xs : List Noted) (at n : ℕ) (ks ks′ : List ℕ) (ns ns′ : List Float) (ss ss′ : List ℕ) : Type 0 where
+  pub commands : FitPlaced (commandsOf xs) at n ks ks′ ns ns′
+  pub notes : ss′ ≡ sets ss at (notesOf xs)

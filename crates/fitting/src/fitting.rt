@@ -17,6 +17,7 @@ use trial::trial::arc_deviation;
 use trial::trial::try_arcs;
 ghost use mathlib.Core.Path.{_≡_};
 ghost use mathlib.Core.Bool.{true, not, _&&_};
+ghost use mathlib.Core.List.{[], _∷_};
 ghost use Prim.Native.Nat.{_+_, _-_, _*_, _/_, _<_, _≤_};
 ghost use lib.ListN.{length};
 ghost use lib.Dec.{ltb};
@@ -26,8 +27,8 @@ ghost use Rattle.geo.specs.Outcome.{refusal};
 ghost use Rattle.geo.specs.Commands.{WroteCommands};
 ghost use Rattle.simplify.specs.Measure.{lineSq};
 ghost use Rattle.fitting.specs.Pieces.{lineDeviation, arc};
-ghost use Rattle.fitting.specs.Commands.{normalOf, shaped, fitIn, chainFit};
-ghost use Rattle.fitting.specs.Written.{FitPlaced};
+ghost use Rattle.fitting.specs.Commands.{normalOf, shaped};
+ghost use Rattle.fitting.specs.Written.{noted, notedIn, chainNoted, NotedPlaced};
 ghost use Rattle.fitting.specs.Calls.{lineRows, lineCall, lineAnswer, arcRows, arcCall, arcAnswer, fitRows, fitCall, primitivesCall};
 
 // What get_polyline_line_deviation answers: the greatest distance and where it first stands.
@@ -86,6 +87,25 @@ fn arc_command(a: Point3D, b: Point3D, center: Point, clockwise: bool) -> Comman
     }
 }
 
+// Writes a command at place `at`, and notes beside it how many steps it covers, where the column of steps reaches so
+// far: who wants no steps lends an empty one.
+pub fn put_noted(
+    kinds: &mut [u8],
+    nums: &mut [f64],
+    steps: &mut [u32],
+    at: usize,
+    c: Command,
+    covered: u32,
+)
+    requires { ⌜ (at < length (now kinds)) × (9 * at + 8 < length (now nums)) ⌝ }
+    ensures { λ _. ⌜ NotedPlaced (noted c covered ∷ []) at 1 (now (kinds .entry)) (now (kinds .exit)) (now (nums .entry)) (now (nums .exit)) (now (steps .entry)) (now (steps .exit)) ⌝ }
+{
+    put_command(kinds, nums, at, c);
+    if at < steps.len() {
+        steps[at] = covered;
+    }
+}
+
 // Writes the commands for the points from start to end, from place `at` on, and answers how many they are. Where neither
 // a Line nor an Arc passes, the range is cut at the Line's first farthest point, which lies strictly inside: a tolerance
 // above 0 lets a Line pass whose deviation is 0.
@@ -96,15 +116,17 @@ pub fn fit_range(
     end: usize,
     kinds: &mut [u8],
     nums: &mut [f64],
+    steps: &mut [u32],
     at: usize,
 ) -> usize
     requires { ⌜ ((+0 ≺ tolerance) ≡ true) × ((start < end) × (end < 2048) × (3 * end + 2 < length (now points)) × (at + (end - start) ≤ length (now kinds)) × (9 * (at + (end - start)) ≤ length (now nums))) ⌝ }
-    ensures { λ r. ⌜ FitPlaced (fitIn lineSq tolerance (pointAt (now (points .entry))) start end) at r (now (kinds .entry)) (now (kinds .exit)) (now (nums .entry)) (now (nums .exit)) ⌝ }
+    ensures { λ r. ⌜ NotedPlaced (notedIn lineSq tolerance (pointAt (now (points .entry))) start end) at r (now (kinds .entry)) (now (kinds .exit)) (now (nums .entry)) (now (nums .exit)) (now (steps .entry)) (now (steps .exit)) ⌝ }
 {
     let w = line_deviation(points, start, end);
     let b = point_at(points, end);
+    let covered = (end - start) as u32;
     if w.dist < tolerance {
-        put_command(kinds, nums, at, Command::Line { end: b });
+        put_noted(kinds, nums, steps, at, Command::Line { end: b }, covered);
         return 1;
     }
     let split = w.index;
@@ -112,12 +134,13 @@ pub fn fit_range(
     match t {
         Trial::Arc { center, clockwise } => {
             let a = point_at(points, start);
-            put_command(kinds, nums, at, arc_command(a, b, center, clockwise));
+            let c = arc_command(a, b, center, clockwise);
+            put_noted(kinds, nums, steps, at, c, covered);
             1
         }
         Trial::None => {
-            let n = fit_range(points, tolerance, start, split, kinds, nums, at);
-            let m = fit_range(points, tolerance, split, end, kinds, nums, at + n);
+            let n = fit_range(points, tolerance, start, split, kinds, nums, steps, at);
+            let m = fit_range(points, tolerance, split, end, kinds, nums, steps, at + n);
             n + m
         }
     }
@@ -129,18 +152,19 @@ pub fn flush_chain(
     tolerance: f64,
     kinds: &mut [u8],
     nums: &mut [f64],
+    steps: &mut [u32],
     at: usize,
 ) -> usize
     requires { ⌜ ((+0 ≺ tolerance) ≡ true) × ((length (now chain) / 3 ≤ 801) × (at + (length (now chain) / 3 - 1) ≤ length (now kinds)) × (9 * (at + (length (now chain) / 3 - 1)) ≤ length (now nums))) ⌝ }
-    ensures fit { λ r. ⌜ FitPlaced (chainFit tolerance (now (chain .entry))) at r (now (kinds .entry)) (now (kinds .exit)) (now (nums .entry)) (now (nums .exit)) ⌝ }
-    ensures long { λ _. ⌜ length (now (chain .exit)) ≡ length (now (chain .entry)) ⌝ }
+    // The chain is lent as room to work in: what it holds at exit is left open.
+    ensures { λ r. ⌜ NotedPlaced (chainNoted tolerance (now (chain .entry))) at r (now (kinds .entry)) (now (kinds .exit)) (now (nums .entry)) (now (nums .exit)) (now (steps .entry)) (now (steps .exit)) ⌝ }
 {
     let n = chain.len() / 3;
     if n < 2 {
         return 0;
     }
     let k = thin_in_place(chain, n, tolerance * tolerance);
-    fit_range(&chain[..3 * k], tolerance, 0, k - 1, kinds, nums, at)
+    fit_range(&chain[..3 * k], tolerance, 0, k - 1, kinds, nums, steps, at)
 }
 
 // The number of the first row that a line's deviation falls under, or 0.
@@ -279,7 +303,7 @@ pub fn fit_points_recursive(
     if end <= start {
         return Answer::Written(0);
     }
-    Answer::Written(fit_range(points, tolerance, start, end, kinds, nums, 0))
+    Answer::Written(fit_range(points, tolerance, start, end, kinds, nums, &mut [], 0))
 }
 
 // Fits primitives to all points.

@@ -4,7 +4,7 @@ use mathlib.Core.Path.{_≡_, ap, _∙_}
 use mathlib.Core.Logic.{⊎-elim}
 use native.Mathlib.Omega.{arith}
 use Rattle.floats.proofs.Order.{lt-or-ge}
-use Rattle.course.specs.Course.{cap}
+use Rattle.course.specs.Walks.{cap}
 use Rattle.course.proofs.Count.{cap-few, cap-many, cap-most, cap-left, cap-passed, cap-over}
 
 pub cap-small : (r n : ℕ) → r ≡ cap n → r ≤ 801

@@ -9,7 +9,7 @@ use mathlib.Core.Logic.{⊎-elim}
 use Rattle.floats.proofs.Order.{lt-or-ge}
 use Rattle.geo.specs.Outcome.{refusal}
 use Rattle.geo.specs.Domain.{tolerance}
-use Rattle.course.specs.Course.{cap}
+use Rattle.course.specs.Walks.{cap}
 use Rattle.geo.proofs.Rows.{row-fails, row-passes, row-passed}
 use Rattle.laps.specs.File.{lapCount, lapsOf}
 use Rattle.laps.specs.Rows.{fileSize, sizeRows}

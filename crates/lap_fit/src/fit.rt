@@ -1,4 +1,5 @@
 // The fit of a lap file: `fit_arcs` of each lap, under a new table.
+use course::course::Walk;
 use course::course::add_capped;
 use course::course::fit_course;
 use course::course::weight;
@@ -9,8 +10,6 @@ use file::command::write_commands;
 use geo::domain::is_within;
 use geo::types::Answer;
 use geo::types::Point3D;
-use laps::lap_file::MOST_COMMANDS;
-use laps::lap_file::MOST_NUMBERS;
 use laps::lap_file::check_file;
 use laps::lap_file::check_sizes;
 use laps::lap_file::count_at;
@@ -25,13 +24,11 @@ ghost use lib.ListN.{length, drop};
 ghost use Rattle.floats.specs.Ops.{_≺_, +0};
 ghost use Rattle.geo.specs.Outcome.{refusal, Wrote};
 ghost use Rattle.file.specs.Command.{commandsAt};
-ghost use Rattle.course.specs.Course.{courseMost, lentCourse, cap};
+ghost use Rattle.course.specs.Course.{courseMost, lentCourse};
+ghost use Rattle.course.specs.Walks.{cap};
 ghost use Rattle.laps.specs.File.{lapCount, lapsOf, encode, tableOk, PutLap};
 ghost use Rattle.laps.specs.Rows.{fileSize};
 ghost use Rattle.lap_fit.specs.Fit.{fitLap, mostLap, lapsMost, fitNew, fileFitRows, fitFile};
-
-// The longest chain of a course of 800 commands: 801 points, three numbers each.
-pub const CHAIN_NUMBERS: usize = 2403;
 
 // What the n commands from `at` on could become at most.
 fn most_lap(s: &[u8], at: usize, n: usize, tolerance: f64) -> usize
@@ -93,9 +90,9 @@ pub fn fit_commands(kinds: &[u8], nums: &[f64], tolerance: f64, out: &mut [u8], 
     requires { ⌜ ((+0 ≺ tolerance) ≡ true) × (9 * length (now kinds) ≤ length (now nums)) × (courseMost tolerance (lentCourse (now kinds) (now nums)) ≤ 800) × (to + 73 * length (fitNew tolerance (now kinds) (now nums)) ≤ length (now out)) ⌝ }
     ensures { λ r. ⌜ PutLap (fitNew tolerance (now (kinds .entry)) (now (nums .entry))) (now (out .entry)) (now (out .exit)) to r ⌝ }
 {
-    let mut chain = [0.0; CHAIN_NUMBERS];
-    let mut out_kinds = [0u8; MOST_COMMANDS];
-    let mut out_nums = [0.0f64; MOST_NUMBERS];
+    let mut chain = [0.0; Walk::CHAIN];
+    let mut out_kinds = [0u8; Walk::MOST];
+    let mut out_nums = [0.0f64; Walk::NUMBERS];
     fit_lent(
         kinds,
         nums,
@@ -145,11 +142,11 @@ fn fit_laps(s: &[u8], tolerance: f64, out: &mut [u8]) -> usize
     ensures { λ r. ⌜ (r ≡ length (encode (map (fitLap tolerance) (lapsOf (now (s .entry)))))) × (now (out .exit) ≡ encode (map (fitLap tolerance) (lapsOf (now (s .entry)))) ++ drop (length (encode (map (fitLap tolerance) (lapsOf (now (s .entry)))))) (now (out .entry))) ⌝ }
 {
     // filled here once, and lent for each lap
-    let mut kinds = [0u8; MOST_COMMANDS];
-    let mut nums = [0.0f64; MOST_NUMBERS];
-    let mut chain = [0.0; CHAIN_NUMBERS];
-    let mut out_kinds = [0u8; MOST_COMMANDS];
-    let mut out_nums = [0.0f64; MOST_NUMBERS];
+    let mut kinds = [0u8; Walk::MOST];
+    let mut nums = [0.0f64; Walk::NUMBERS];
+    let mut chain = [0.0; Walk::CHAIN];
+    let mut out_kinds = [0u8; Walk::MOST];
+    let mut out_nums = [0.0f64; Walk::NUMBERS];
     let l = lap_count(s);
     put_head(out, l);
     let mut at = 8 + 8 * l;

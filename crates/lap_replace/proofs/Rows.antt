@@ -13,7 +13,7 @@ use Rattle.floats.proofs.Order.{lt-or-ge}
 use Rattle.geo.specs.Outcome.{Row, refusal}
 use Rattle.geo.specs.Domain.{tolerance}
 use Rattle.geo.proofs.Rows.{row-passes, row-passed}
-use Rattle.course.specs.Course.{cap}
+use Rattle.course.specs.Walks.{cap}
 use Rattle.laps.specs.File.{lapCount, lapsOf, commandCount, short, big, tableOk}
 use Rattle.laps.specs.Rows.{fileSize, sizeRows}
 use Rattle.laps.proofs.Rows.{or-false, refused-front, sized, size-8}

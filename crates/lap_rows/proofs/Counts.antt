@@ -13,11 +13,12 @@ use Rattle.fitting.proofs.Chain.{kept-few}
 use Rattle.course.specs.Parts.{Part, chain, kept, partMost}
 use Rattle.course.specs.Parts as parts
 use Rattle.course.specs.Course.{courseParts, courseMost}
-use Rattle.listing.specs.Rows.{Row, courseRows, stepsIn, total, chainsSteps}
+use Rattle.listing.specs.Rows.{ListRow, courseRows, stepsIn, sumOf, chainsSteps}
 use Rattle.listing.proofs.Laws.{course-steps, course-rows-few}
 use Rattle.laps.specs.File.{Lap}
 use Rattle.lap_fit.specs.Fit.{mostLap}
-use Rattle.lap_rows.specs.Listing.{lapRows, lapText, Short}
+use Rattle.lap_rows.specs.Listing.{lapRows, lapText}
+use Rattle.lap_rows.specs.Left.{Short}
 use Rattle.lap_rows.proofs.Text.{lines-length}
 
 -- the thinned chains among several parts have no more steps than the parts' most
@@ -28,13 +29,13 @@ chains-few tol (chain s ∷ ps) = let a = chains-few tol ps in let f = kept-few 
 chains-few tol (kept c ∷ ps) = let a = chains-few tol ps in omega arith
 
 -- where the steps are few together, each row has few
-total-short : (rs : List Row) → total (stepsIn rs) < 1000 → Short rs
-unfolding total stepsIn
-total-short [] h = tt
-total-short (r ∷ rs) h = (omega arith, total-short rs (omega arith))
+sum-short : (rs : List ListRow) → sumOf (stepsIn rs) < 1000 → Short rs
+unfolding sumOf stepsIn
+sum-short [] h = tt
+sum-short (r ∷ rs) h = (omega arith, sum-short rs (omega arith))
 
 module _ (tol : Float) (pos : (+0 ≺ tol) ≡ true) where
-  steps-few : (cs : List Command) → total (stepsIn (courseRows tol cs)) ≤ courseMost tol cs
+  steps-few : (cs : List Command) → sumOf (stepsIn (courseRows tol cs)) ≤ courseMost tol cs
   unfolding courseMost
   steps-few cs = let a = course-steps tol pos cs in let b = chains-few tol (courseParts tol cs) in omega arith
 
@@ -46,7 +47,7 @@ module _ (tol : Float) (pos : (+0 ≺ tol) ≡ true) where
 
     pub rows-short : mostLap tol l ≤ 800 → Short (lapRows tol l)
     unfolding lapRows mostLap
-    rows-short h = total-short (courseRows tol (map decoded l)) (let a = steps-few (map decoded l) in omega arith)
+    rows-short h = sum-short (courseRows tol (map decoded l)) (let a = steps-few (map decoded l) in omega arith)
 
     pub text-few : (lap : ℕ) → lap < 100 → mostLap tol l ≤ 800 → length (lapText tol lap l) ≤ 9 * mostLap tol l
     unfolding lapText

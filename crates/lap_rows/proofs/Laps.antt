@@ -16,7 +16,8 @@ use Rattle.laps.proofs.Here.{Here, Step, step, start-at, all-laps}
 use Rattle.laps.proofs.Turns.{laps-cons, laps-nil}
 use Rattle.lap_fit.specs.Fit.{mostLap, lapsMost}
 use Rattle.lap_fit.proofs.Lap.{mosts-step}
-use Rattle.lap_rows.specs.Listing.{ascii, header, lapText, lapsText, listText, mostText, TextPut}
+use Rattle.lap_rows.specs.Listing.{ascii, header, lapText, lapsText, listText, mostText}
+use Rattle.lap_rows.specs.Left.{TextPut}
 use Rattle.lap_rows.proofs.Text.{put-both, Writing, write-start, write-step, write-done}
 use Rattle.lap_rows.proofs.Counts.{text-few}
 

@@ -8,9 +8,11 @@ use Rattle.geo.specs.Lent.{flat}
 use Rattle.geo.specs.Walk.{listFrom}
 use Rattle.geo.proofs.Stores.{sets-front}
 use Rattle.geo.proofs.Walk.{list-step, list-done}
-use Rattle.listing.specs.Rows.{Row, kindsOf, stepsIn, RowsPlaced}
-use Rattle.listing.proofs.Writing.{kinds-length, steps-length}
-use Rattle.lap_rows.specs.Listing.{rowText, rowsText, TextPut, rowAt, rowsFrom, Short}
+use Rattle.listing.specs.Rows.{ListRow, kindsOf, stepsIn}
+use Rattle.listing.specs.Placed.{RowsPlaced}
+use Rattle.listing.proofs.Columns.{kinds-length, steps-length}
+use Rattle.lap_rows.specs.Listing.{rowText, rowsText}
+use Rattle.lap_rows.specs.Left.{TextPut, rowAt, rowsFrom, Short}
 use Rattle.lap_rows.proofs.Text.{line-length, Writing, write-start, write-step, write-done}
 
 -- where the loop stands before row i: what is left, written from here, gives the whole, and has room
@@ -27,11 +29,11 @@ module _ (ks ss : List ℕ) (n lap : ℕ) (out₀ : List ℕ) (at : ℕ) where
 
   text-step : (i : ℕ) → i < n → rowsText lap (rowsFrom ks ss (n - i) i) ≡ rowText lap (rowAt ks ss i) ++ rowsText lap (rowsFrom ks ss (n - (i + 1)) (i + 1))
   unfolding rowsText flat
-  text-step i h = ap (λ (rs : List Row). flat (rowText lap) rs) (rows-step i h)
+  text-step i h = ap (λ (rs : List ListRow). flat (rowText lap) rs) (rows-step i h)
 
   text-done : (i : ℕ) → n ≤ i → rowsText lap (rowsFrom ks ss (n - i) i) ≡ []
   unfolding rowsText flat rowsFrom
-  text-done i h = ap (λ (rs : List Row). flat (rowText lap) rs) (list-done (rowAt ks ss) n i h)
+  text-done i h = ap (λ (rs : List ListRow). flat (rowText lap) rs) (list-done (rowAt ks ss) n i h)
 
   pub lines-start : Short (rowsFrom ks ss n 0) → at + 9 * n ≤ length out₀ → Lines ks ss n lap out₀ out₀ at at 0
   lines-start w h =
@@ -67,8 +69,8 @@ module _ (ks ss : List ℕ) (n lap : ℕ) (out₀ : List ℕ) (at : ℕ) where
   lines-done out to i w h = write-done out₀ out at to _ _ (text-done i h) (w .going)
 
 -- ---- rows by another name
-pub placed-same : (rs ts : List Row) (n : ℕ) (ks ks′ ss ss′ : List ℕ) → rs ≡ ts → RowsPlaced rs 0 n ks ks′ ss ss′ → RowsPlaced ts 0 n ks ks′ ss ss′
-placed-same rs ts n ks ks′ ss ss′ e p = subst (λ (xs : List Row). RowsPlaced xs 0 n ks ks′ ss ss′) e p
+pub placed-same : (rs ts : List ListRow) (n : ℕ) (ks ks′ ss ss′ : List ℕ) → rs ≡ ts → RowsPlaced rs n ks ks′ ss ss′ → RowsPlaced ts n ks ks′ ss ss′
+placed-same rs ts n ks ks′ ss ss′ e p = subst (λ (xs : List ListRow). RowsPlaced xs n ks ks′ ss ss′) e p
 
 -- ---- rows written to two arrays, read back
 rows-shift : (k s : ℕ) (ks ss : List ℕ) (n i : ℕ) → rowsFrom (k ∷ ks) (s ∷ ss) n (i + 1) ≡ rowsFrom ks ss n i
@@ -76,18 +78,18 @@ unfolding rowsFrom listFrom
 rows-shift k s ks ss zero i = refl
 rows-shift k s ks ss (suc n) i =
     let e : i + 1 ≡ suc i = omega arith in
-    ap (λ (r : Row). r ∷ rowsFrom (k ∷ ks) (s ∷ ss) n (i + 1 + 1)) (ap (rowAt (k ∷ ks) (s ∷ ss)) e) ∙ ap (λ (rs : List Row). rowAt ks ss i ∷ rs) (rows-shift k s ks ss n (i + 1))
+    ap (λ (r : ListRow). r ∷ rowsFrom (k ∷ ks) (s ∷ ss) n (i + 1 + 1)) (ap (rowAt (k ∷ ks) (s ∷ ss)) e) ∙ ap (λ (rs : List ListRow). rowAt ks ss i ∷ rs) (rows-shift k s ks ss n (i + 1))
 
-rows-front : (rs : List Row) (us vs : List ℕ) → rowsFrom (kindsOf rs ++ us) (stepsIn rs ++ vs) (length rs) 0 ≡ rs
+rows-front : (rs : List ListRow) (us vs : List ℕ) → rowsFrom (kindsOf rs ++ us) (stepsIn rs ++ vs) (length rs) 0 ≡ rs
 unfolding rowsFrom listFrom kindsOf stepsIn
 rows-front [] us vs = refl
-rows-front (r ∷ rs) us vs = ap (λ (ts : List Row). r ∷ ts) (rows-shift (r .kind) (r .steps) (kindsOf rs ++ us) (stepsIn rs ++ vs) (length rs) 0 ∙ rows-front rs us vs)
+rows-front (r ∷ rs) us vs = ap (λ (ts : List ListRow). r ∷ ts) (rows-shift (r .kind) (r .steps) (kindsOf rs ++ us) (stepsIn rs ++ vs) (length rs) 0 ∙ rows-front rs us vs)
 
-pub rows-back : (rs : List Row) (n : ℕ) (ks ks′ ss ss′ : List ℕ) → RowsPlaced rs 0 n ks ks′ ss ss′ → length rs ≤ length ks → length rs ≤ length ss → rowsFrom ks′ ss′ n 0 ≡ rs
+pub rows-back : (rs : List ListRow) (n : ℕ) (ks ks′ ss ss′ : List ℕ) → RowsPlaced rs n ks ks′ ss ss′ → length rs ≤ length ks → length rs ≤ length ss → rowsFrom ks′ ss′ n 0 ≡ rs
 rows-back rs n ks ks′ ss ss′ p h k =
     let a = p .kinds ∙ sets-front (kindsOf rs) ks (rw (kinds-length rs) h) in
     let b = p .steps ∙ sets-front (stepsIn rs) ss (rw (steps-length rs) k) in
     rw (a, b, p .count) (rows-front rs (drop (length (kindsOf rs)) ks) (drop (length (stepsIn rs)) ss))
 
-pub text-same : (lap : ℕ) (rs ts : List Row) (out out′ : List ℕ) (at to : ℕ) → rs ≡ ts → TextPut (rowsText lap rs) out out′ at to → TextPut (rowsText lap ts) out out′ at to
-text-same lap rs ts out out′ at to e p = subst (λ (xs : List Row). TextPut (rowsText lap xs) out out′ at to) e p
+pub text-same : (lap : ℕ) (rs ts : List ListRow) (out out′ : List ℕ) (at to : ℕ) → rs ≡ ts → TextPut (rowsText lap rs) out out′ at to → TextPut (rowsText lap ts) out out′ at to
+text-same lap rs ts out out′ at to e p = subst (λ (xs : List ListRow). TextPut (rowsText lap xs) out out′ at to) e p

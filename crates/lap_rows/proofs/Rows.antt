@@ -2,14 +2,13 @@
 use Prim.Native.Nat.{ℕ, zero, suc, _≤_, _<_}
 use mathlib.Core.Path.{_≡_, refl, sym, _∙_}
 use mathlib.Core.Bool.{true, false, not}
-use mathlib.Core.List.{List, _++_}
+use mathlib.Core.List.{List, [], _∷_, _++_}
 use native.Mathlib.Omega.{arith}
 use borrow.Author.Tests.{not-false, lt-ltb, le-ltb, ltb-false}
 use lib.Dec.{ltb}
 use lib.Ieee.{Float}
 use Rattle.geo.specs.Domain.{tolerance}
-use Rattle.geo.specs.Outcome as table
-use Rattle.geo.specs.Outcome.{refusal}
+use Rattle.geo.specs.Outcome.{Row, row, refusal}
 use Rattle.geo.proofs.Rows.{row-fails, row-passes, row-passed, refusal-front, done}
 use Rattle.laps.specs.File.{lapsOf}
 use Rattle.laps.specs.Rows.{fileRows}
@@ -18,12 +17,28 @@ use Rattle.lap_fit.specs.Fit.{lapsMost}
 use Rattle.lap_rows.specs.Listing.{mostText, textRows}
 
 -- rows in front of others that pass
-front-passed : (rs ts : List table.Row) → 0 ≡ refusal (rs ++ ts) → 0 ≡ refusal rs
+front-passed : (rs ts : List Row) → 0 ≡ refusal (rs ++ ts) → 0 ≡ refusal rs
 front-passed rs ts e = either (refusal rs) refl
   where
     either : (n : ℕ) → refusal rs ≡ n → 0 ≡ refusal rs
     either zero q = sym q
     either (suc n) q = let z = refusal-front rs ts (omega arith) in absurd (omega arith)
+
+-- no row has a number above k
+abbrev Numbered : ℕ → List Row → Type 0
+Numbered k [] = Unit
+Numbered k (row n fails ∷ rs) = (n ≤ k) × Numbered k rs
+
+refusal-few : (k : ℕ) (rs : List Row) → Numbered k rs → refusal rs ≤ k
+unfolding refusal
+refusal-few k [] h = omega arith
+refusal-few k (row n true ∷ rs) h = h .0
+refusal-few k (row n false ∷ rs) h = refusal-few k rs (h .1)
+
+-- A listing is refused by at most 9.
+pub text-number : (s : List ℕ) (tol : Float) (room : ℕ) → refusal (textRows s tol room) ≤ 9
+unfolding textRows fileRows
+text-number s tol room = refusal-few 9 (textRows s tol room) (omega arith, (omega arith, (omega arith, (omega arith, (omega arith, (omega arith, (omega arith, (omega arith, tt))))))))
 
 pub record TextPassed (s : List ℕ) (tol : Float) (room : ℕ) : Type 0 where
   pub file : FilePassed s

@@ -3,12 +3,14 @@ use Prim.Native.Nat.{ℕ, suc, _+_, _*_, _≤_, _<_}
 use mathlib.Core.Path.{_≡_, refl, sym, ap, _∙_}
 use mathlib.Core.List.{List, [], _∷_, _++_}
 use native.Mathlib.Omega.{arith}
-use lib.ListN.{length, set, length-append}
+use lib.ListN.{length, set, drop, length-append}
 use lib.Seq.{sets, length-sets}
 use Rattle.geo.specs.Lent.{flat}
-use Rattle.geo.proofs.Stores.{sets-append}
-use Rattle.listing.specs.Rows.{Row, letterOf}
-use Rattle.lap_rows.specs.Listing.{decimal, comma, newline, rowText, rowsText, TextPut, listed, Short}
+use Rattle.geo.specs.Walk.{listFrom}
+use Rattle.geo.proofs.Stores.{sets-append, sets-front}
+use Rattle.listing.specs.Rows.{ListRow, letterOf}
+use Rattle.lap_rows.specs.Listing.{ascii, decimal, refusalText, comma, newline, rowText, rowsText}
+use Rattle.lap_rows.specs.Left.{TextPut, listed, Short}
 use Rattle.lap_rows.proofs.Decimal.{below-100, below-1000}
 
 -- a text, and another behind it
@@ -53,20 +55,41 @@ put-line out out₁ out₂ at a b lap kind steps letter p e q =
     (put-one out₂ b newline)
 
 -- it has at most nine bytes
-pub line-length : (lap : ℕ) (r : Row) → lap < 100 → r .steps < 1000 → length (rowText lap r) ≤ 9
+pub line-length : (lap : ℕ) (r : ListRow) → lap < 100 → r .steps < 1000 → length (rowText lap r) ≤ 9
 unfolding rowText
 line-length lap r h k =
     let a = below-100 lap h in
     let b = below-1000 (r .steps) k in
     simp length-append (omega arith)
 
-pub lines-length : (lap : ℕ) (rs : List Row) → lap < 100 → Short rs → length (rowsText lap rs) ≤ 9 * length rs
+pub lines-length : (lap : ℕ) (rs : List ListRow) → lap < 100 → Short rs → length (rowsText lap rs) ≤ 9 * length rs
 unfolding rowsText flat
 lines-length lap [] h w = omega arith
 lines-length lap (r ∷ rs) h w =
     let a = line-length lap r h (w .0) in
     let b = lines-length lap rs h (w .1) in
     let l = length-append (rowText lap r) (rowsText lap rs) in omega arith
+
+-- ---- the line of a refusal
+refused-word : length (ascii "refused,") ≡ 8
+unfolding ascii listFrom
+refused-word = refl
+
+pub put-refused : (out out₁ out₂ : List ℕ) (n at end : ℕ) → at ≡ 8 → 8 ≤ length out → out₁ ≡ ascii "refused," ++ drop 8 out → TextPut (decimal n) out₁ out₂ at end
+    → TextPut (refusalText n) out (set out₂ end newline) 0 (end + 1)
+unfolding refusalText
+put-refused out out₁ out₂ n at end e h o p =
+    let d = refused-word in
+    let front : out₁ ≡ sets out 0 (ascii "refused,") = o ∙ sym (sets-front (ascii "refused,") out (omega arith) ∙ ap (λ (k : ℕ). ascii "refused," ++ drop k out) d) in
+    put-both (ascii "refused," ++ decimal n) (newline ∷ []) out out₂ _ 0 end (end + 1)
+    (put-both (ascii "refused,") (decimal n) out out₁ out₂ 0 at end (record { ends = omega arith; bytes = front }) p) (put-one out₂ end newline)
+
+-- it has at most twelve bytes
+pub refused-length : (n : ℕ) → n < 1000 → length (refusalText n) ≤ 12
+unfolding refusalText
+refused-length n h =
+    let a = refused-word in
+    let b = below-1000 n h in simp length-append (omega arith)
 
 -- ---- a loop that writes a text: `left` of it is left, to be written from `to` on
 pub record Writing (out₀ out : List ℕ) (at to : ℕ) (left all : List ℕ) : Type 0 where

@@ -10,7 +10,7 @@ use Rattle.file.specs.Command.{decoded}
 use Rattle.course.specs.Parts.{chain}
 use Rattle.course.specs.Course.{courseParts}
 use Rattle.course.specs.Demand.{chainPieces}
-use Rattle.listing.specs.Rows.{pieceRow, partRows, kindsOf, stepsIn, total, chainsSteps}
+use Rattle.listing.specs.Rows.{pieceRow, partRows, kindsOf, stepsIn, sumOf, chainsSteps}
 use Rattle.laps.specs.File.{lapCount, lapsOf}
 use Rattle.laps.specs.Rows.{fileSize}
 use Rattle.lap_fit.specs.Fit.{fileFitRows, fitFile}
@@ -64,4 +64,4 @@ RowsOfAChain = (tol : Float) (points : List Float) → partRows tol (chain point
 abbrev pub StepsOfTheChains : Type 0
 StepsOfTheChains =
     (s f : List ℕ) (tol : Float) (room : ℕ) → fitFile s tol room ≡ gives f
-    → (k : ℕ) → 1 ≤ k → k ≤ lapCount s → total (stepsIn (lapRows tol (lapAt s k))) ≡ chainsSteps tol (courseParts tol (map decoded (lapAt s k)))
+    → (k : ℕ) → 1 ≤ k → k ≤ lapCount s → sumOf (stepsIn (lapRows tol (lapAt s k))) ≡ chainsSteps tol (courseParts tol (map decoded (lapAt s k)))

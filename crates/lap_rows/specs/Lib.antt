@@ -1,3 +1,4 @@
 pub mod Listing
+pub mod Left
 pub mod Demand
 pub mod Worked

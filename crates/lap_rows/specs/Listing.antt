@@ -1,23 +1,19 @@
 -- The listing of a recorded file as text: which row of document 01's table refuses it, else its bytes. Definitions only.
 -- "It lists lap, kind letter (M, L, A) and steps of the thinned chain covered (0 for M and a kept Arc)" (document 01, "Worked laps").
-use Prim.Native.Nat.{ℕ, zero, suc, _+_, _*_, _/_, _%_, _<_}
+use Prim.Native.Nat.{ℕ, zero, suc, _+_, _*_, _/_, _%_}
 use Prim.Native.Char.{code}
 use Prim.Native.String.{String, len, charAt}
 use mathlib.Core.Bool.{not}
-use mathlib.Core.Path.{_≡_}
 use mathlib.Core.List.{List, [], _∷_, _++_, map}
-use lib.ListN.{length, getD}
-use lib.Seq.{sets}
 use lib.Dec.{ltb}
 use lib.Ieee.{Float}
 use Rattle.floats.specs.Ops.{if_then_else_}
 use Rattle.geo.specs.Domain.{tolerance}
 use Rattle.geo.specs.Lent.{flat}
-use Rattle.geo.specs.Outcome as table
-use Rattle.geo.specs.Outcome.{row, refusal, Outcome, unless}
+use Rattle.geo.specs.Outcome.{Row, row, refusal, Outcome, unless}
 use Rattle.geo.specs.Walk.{listFrom}
 use Rattle.file.specs.Command.{decoded}
-use Rattle.listing.specs.Rows.{Row, letterOf, courseRows}
+use Rattle.listing.specs.Rows.{ListRow, letterOf, courseRows}
 use Rattle.laps.specs.File.{Lap, lapsOf}
 use Rattle.laps.specs.Rows.{fileRows}
 use Rattle.lap_fit.specs.Fit.{lapsMost}
@@ -42,15 +38,15 @@ abbrev pub newline : ℕ
 newline = 10
 
 -- one line: lap, kind letter, steps
-unfoldable pub rowText : ℕ → Row → List ℕ
+unfoldable pub rowText : ℕ → ListRow → List ℕ
 rowText lap r = decimal lap ++ (comma ∷ letterOf (r .kind) ∷ comma ∷ []) ++ decimal (r .steps) ++ (newline ∷ [])
 
 -- a line for each row of a lap,
-unfoldable pub rowsText : ℕ → List Row → List ℕ
+unfoldable pub rowsText : ℕ → List ListRow → List ℕ
 rowsText lap rs = flat (rowText lap) rs
 
 -- whose rows are those of its commands
-unfoldable pub lapRows : Float → Lap → List Row
+unfoldable pub lapRows : Float → Lap → List ListRow
 lapRows tol l = courseRows tol (map decoded l)
 
 unfoldable pub lapText : Float → ℕ → Lap → List ℕ
@@ -67,35 +63,18 @@ header = ascii "lap,kind,steps\n"
 unfoldable pub listText : Float → List Lap → List ℕ
 listText tol ls = header ++ lapsText tol 1 ls
 
+-- "A refusal prints the one line `refused,N`"
+unfoldable pub refusalText : ℕ → List ℕ
+refusalText n = ascii "refused," ++ decimal n ++ (newline ∷ [])
+
 -- ---- the listing of the file s into an output of `room` bytes
 -- room for the first line and `most` rows: a row has at most nine bytes, as a lap's number is at most 64, and its steps at most 800
 abbrev pub mostText : ℕ → ℕ
 mostText most = 15 + 9 * most
 
-unfoldable pub textRows : List ℕ → Float → ℕ → List table.Row
+unfoldable pub textRows : List ℕ → Float → ℕ → List Row
 textRows s tol room =
     fileRows s ++ (row 6 (not (tolerance tol)) ∷ row 8 (ltb 800 (lapsMost tol (lapsOf s))) ∷ row 9 (ltb room (mostText (lapsMost tol (lapsOf s)))) ∷ [])
 
 unfoldable pub listFile : List ℕ → Float → ℕ → Outcome (List ℕ)
 listFile s tol room = unless (refusal (textRows s tol room)) (listText tol (lapsOf s))
-
--- ---- what the code leaves
--- a text written from place `at` on, which ends before place `end`
-pub record TextPut (text out out′ : List ℕ) (at end : ℕ) : Type 0 where
-  pub ends : end ≡ at + length text
-  pub bytes : out′ ≡ sets out at text
-
-abbrev pub listed : ℕ → ℕ → Row
-listed kind steps = record { kind = kind; steps = steps }
-
--- the n rows from index i on, of which ks are the kinds and ss the steps
-abbrev pub rowAt : List ℕ → List ℕ → ℕ → Row
-rowAt ks ss i = listed (getD ks i 0) (getD ss i 0)
-
-unfoldable pub rowsFrom : List ℕ → List ℕ → ℕ → ℕ → List Row
-rowsFrom ks ss n i = listFrom (rowAt ks ss) n i
-
--- each row has fewer than 1,000 steps
-abbrev pub Short : List Row → Type 0
-Short [] = Unit
-Short (r ∷ rs) = (r .steps < 1000) × Short rs

@@ -1,17 +1,15 @@
 // The listing of a recorded file as text: a line for each row of `listing`, for the commands of each lap.
+use course::course::Walk;
+use course::course::fit_course_with_steps;
 use file::command::COMMAND_BYTES;
 use file::command::read_commands;
 use geo::domain::is_within;
 use geo::types::Answer;
-use lap_fit::fit::CHAIN_NUMBERS;
 use lap_fit::fit::most_of;
-use laps::lap_file::MOST_COMMANDS;
-use laps::lap_file::MOST_NUMBERS;
 use laps::lap_file::check_file;
 use laps::lap_file::count_at;
 use laps::lap_file::lap_count;
 use listing::listing::letter;
-use listing::listing::list_course;
 ghost use mathlib.Core.Path.{_≡_};
 ghost use mathlib.Core.Bool.{true};
 ghost use mathlib.Core.List.{List, _++_};
@@ -20,10 +18,12 @@ ghost use lib.ListN.{length, drop};
 ghost use Rattle.floats.specs.Ops.{_≺_, +0};
 ghost use Rattle.geo.specs.Outcome.{refusal, Wrote};
 ghost use Rattle.file.specs.Command.{commandsAt};
-ghost use Rattle.listing.specs.Rows.{RowsPlaced};
+ghost use Rattle.course.specs.Walks.{mostCommands, chainNumbers};
+ghost use Rattle.listing.specs.Placed.{RowsPlaced};
 ghost use Rattle.laps.specs.File.{lapCount, lapsOf, tableOk};
 ghost use Rattle.lap_fit.specs.Fit.{mostLap, lapsMost};
-ghost use Rattle.lap_rows.specs.Listing.{decimal, rowText, rowsText, lapRows, lapText, listText, mostText, textRows, listFile, TextPut, listed, rowsFrom, Short};
+ghost use Rattle.lap_rows.specs.Listing.{decimal, refusalText, rowText, rowsText, lapRows, lapText, listText, mostText, textRows, listFile};
+ghost use Rattle.lap_rows.specs.Left.{TextPut, listed, rowsFrom, Short};
 
 // Writes a number's decimal digits from `at` on, and answers where they end.
 fn put_decimal(out: &mut [u8], at: usize, n: usize) -> usize
@@ -45,6 +45,17 @@ fn put_decimal(out: &mut [u8], at: usize, n: usize) -> usize
     at + 3
 }
 
+// Writes the line of a refusal to the front of out, and answers where it ends.
+pub fn put_refusal(number: u32, out: &mut [u8]) -> usize
+    requires { ⌜ (number < 1000) × (12 ≤ length (now out)) ⌝ }
+    ensures { λ r. ⌜ TextPut (refusalText number) (now (out .entry)) (now (out .exit)) 0 r ⌝ }
+{
+    let at = bytes::copy(b"refused,", out);
+    let end = put_decimal(out, at, number as usize);
+    out[end] = 10;
+    end + 1
+}
+
 // Writes one line from `at` on, and answers where it ends: lap, kind letter, steps.
 fn put_row(out: &mut [u8], at: usize, lap: usize, kind: u8, steps: usize) -> usize
     requires { ⌜ (lap < 100) × (steps < 1000) × (at + 9 ≤ length (now out)) ⌝ }
@@ -60,19 +71,19 @@ fn put_row(out: &mut [u8], at: usize, lap: usize, kind: u8, steps: usize) -> usi
 }
 
 // Writes the first n rows of a lap from `at` on, and answers where they end.
-fn put_rows(kinds: &[u8], steps: &[usize], n: usize, lap: usize, out: &mut [u8], at: usize) -> usize
+fn put_rows(kinds: &[u8], steps: &[u32], n: usize, lap: usize, out: &mut [u8], at: usize) -> usize
     requires { ⌜ (lap < 100) × (n ≤ length (now kinds)) × (n ≤ length (now steps)) × Short (rowsFrom (now kinds) (now steps) n 0) × (at + 9 * n ≤ length (now out)) ⌝ }
     ensures { λ r. ⌜ TextPut (rowsText lap (rowsFrom (now (kinds .entry)) (now (steps .entry)) n 0)) (now (out .entry)) (now (out .exit)) at r ⌝ }
 {
     let mut to = at;
     for i in 0..n {
-        to = put_row(out, to, lap, kinds[i], steps[i]);
+        to = put_row(out, to, lap, kinds[i], steps[i] as usize);
     }
     to
 }
 
-// Lists the n commands from `at` on, and answers how many rows they have. The arrays in front of the outputs are for the
-// commands and their chains.
+// Lists the n commands from `at` on, and answers how many rows they have: they are fitted, and beside each command stands
+// how many steps it covers.
 fn list_commands(
     s: &[u8],
     at: usize,
@@ -82,19 +93,22 @@ fn list_commands(
     nums: &mut [f64],
     chain: &mut [f64],
     out_kinds: &mut [u8],
-    out_steps: &mut [usize],
+    out_nums: &mut [f64],
+    out_steps: &mut [u32],
 ) -> usize
-    requires { ⌜ ((+0 ≺ tolerance) ≡ true) × (at + 73 * n ≤ length (now s)) × (n ≤ length (now kinds)) × (9 * n ≤ length (now nums)) × (mostLap tolerance (commandsAt (now s) at n) ≤ 800) × (mostLap tolerance (commandsAt (now s) at n) ≤ length (now «out_kinds»)) × (mostLap tolerance (commandsAt (now s) at n) ≤ length (now «out_steps»)) × (length (now chain) ≡ 2403) ⌝ }
-    ensures { λ r. ⌜ RowsPlaced (lapRows tolerance (commandsAt (now (s .entry)) at n)) 0 r (now («out_kinds» .entry)) (now («out_kinds» .exit)) (now («out_steps» .entry)) (now («out_steps» .exit)) ⌝ }
+    requires { ⌜ ((+0 ≺ tolerance) ≡ true) × (at + 73 * n ≤ length (now s)) × (n ≤ length (now kinds)) × (9 * n ≤ length (now nums)) × (mostLap tolerance (commandsAt (now s) at n) ≤ mostCommands) × (mostLap tolerance (commandsAt (now s) at n) ≤ length (now «out_kinds»)) × (9 * mostLap tolerance (commandsAt (now s) at n) ≤ length (now «out_nums»)) × (length (now chain) ≡ chainNumbers) ⌝ }
+    // The commands' arrays, the chain and the numbers of the fit are lent as room to work in: what they hold at exit is left open.
+    ensures { λ r. ⌜ RowsPlaced (lapRows tolerance (commandsAt (now (s .entry)) at n)) r (now («out_kinds» .entry)) (now («out_kinds» .exit)) (now («out_steps» .entry)) (now («out_steps» .exit)) ⌝ }
 {
     read_commands(s, at, n, kinds, nums);
     let m = 9 * n;
-    list_course(
+    fit_course_with_steps(
         &kinds[..n],
         &nums[..m],
         tolerance,
         chain,
         out_kinds,
+        out_nums,
         out_steps,
     )
 }
@@ -110,12 +124,14 @@ fn put_lap(
     nums: &mut [f64],
     chain: &mut [f64],
     row_kinds: &mut [u8],
-    row_steps: &mut [usize],
+    row_nums: &mut [f64],
+    row_steps: &mut [u32],
     out: &mut [u8],
     to: usize,
 ) -> usize
-    requires { ⌜ ((+0 ≺ tolerance) ≡ true) × (at + 73 * n ≤ length (now s)) × (n ≤ 800) × (lap < 100) × (mostLap tolerance (commandsAt (now s) at n) ≤ 800) × (to + 9 * mostLap tolerance (commandsAt (now s) at n) ≤ length (now out)) ⌝ }
-    requires { ⌜ (800 ≤ length (now kinds)) × (7200 ≤ length (now nums)) × (800 ≤ length (now «row_kinds»)) × (800 ≤ length (now «row_steps»)) × (length (now chain) ≡ 2403) ⌝ }
+    requires { ⌜ ((+0 ≺ tolerance) ≡ true) × (at + 73 * n ≤ length (now s)) × (n ≤ mostCommands) × (lap < 100) × (mostLap tolerance (commandsAt (now s) at n) ≤ mostCommands) × (to + 9 * mostLap tolerance (commandsAt (now s) at n) ≤ length (now out)) ⌝ }
+    requires { ⌜ (mostCommands ≤ length (now kinds)) × (9 * mostCommands ≤ length (now nums)) × (mostCommands ≤ length (now «row_kinds»)) × (9 * mostCommands ≤ length (now «row_nums»)) × (mostCommands ≤ length (now «row_steps»)) × (length (now chain) ≡ chainNumbers) ⌝ }
+    // All arrays but the output are lent as room to work in: what they hold at exit is left open.
     ensures { λ r. ⌜ TextPut (lapText tolerance lap (commandsAt (now (s .entry)) at n)) (now (out .entry)) (now (out .exit)) to r ⌝ }
 {
     let rows = list_commands(
@@ -127,6 +143,7 @@ fn put_lap(
         nums,
         chain,
         row_kinds,
+        row_nums,
         row_steps,
     );
     put_rows(row_kinds, row_steps, rows, lap, out, to)
@@ -135,14 +152,15 @@ fn put_lap(
 // Writes the listing's text, its first line first, and answers how many bytes it has. The arrays stand here and not in
 // `put_lap`, which would fill them for each lap.
 fn list_laps(s: &[u8], tolerance: f64, out: &mut [u8]) -> usize
-    requires { ⌜ ((+0 ≺ tolerance) ≡ true) × (8 ≤ length (now s)) × (tableOk (now s) ≡ true) × (lapCount (now s) ≤ 64) × (lapsMost tolerance (lapsOf (now s)) ≤ 800) × (mostText (lapsMost tolerance (lapsOf (now s))) ≤ length (now out)) ⌝ }
+    requires { ⌜ ((+0 ≺ tolerance) ≡ true) × (8 ≤ length (now s)) × (tableOk (now s) ≡ true) × (lapCount (now s) ≤ 64) × (lapsMost tolerance (lapsOf (now s)) ≤ mostCommands) × (mostText (lapsMost tolerance (lapsOf (now s))) ≤ length (now out)) ⌝ }
     ensures { λ r. ⌜ (r ≡ length (listText tolerance (lapsOf (now (s .entry))))) × (now (out .exit) ≡ listText tolerance (lapsOf (now (s .entry))) ++ drop (length (listText tolerance (lapsOf (now (s .entry))))) (now (out .entry))) ⌝ }
 {
-    let mut kinds = [0u8; MOST_COMMANDS];
-    let mut nums = [0.0f64; MOST_NUMBERS];
-    let mut chain = [0.0f64; CHAIN_NUMBERS];
-    let mut row_kinds = [0u8; MOST_COMMANDS];
-    let mut row_steps = [0usize; MOST_COMMANDS];
+    let mut kinds = [0u8; Walk::MOST];
+    let mut nums = [0.0f64; Walk::NUMBERS];
+    let mut chain = [0.0f64; Walk::CHAIN];
+    let mut row_kinds = [0u8; Walk::MOST];
+    let mut row_nums = [0.0f64; Walk::NUMBERS];
+    let mut row_steps = [0u32; Walk::MOST];
     let mut to = bytes::copy(b"lap,kind,steps\n", out);
     let l = lap_count(s);
     let mut at = 8 + 8 * l;
@@ -159,6 +177,7 @@ fn list_laps(s: &[u8], tolerance: f64, out: &mut [u8]) -> usize
             &mut nums,
             &mut chain,
             &mut row_kinds,
+            &mut row_nums,
             &mut row_steps,
             out,
             to,
@@ -181,7 +200,7 @@ fn check_text(s: &[u8], tolerance: f64, room: usize) -> u32
         return 6;
     }
     let most = most_of(s, tolerance);
-    if MOST_COMMANDS < most {
+    if Walk::MOST < most {
         return 8;
     }
     if room < 15 + 9 * most {

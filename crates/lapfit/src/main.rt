@@ -3,14 +3,16 @@
 use file::words::number_at;
 use geo::types::Answer;
 use lap_rows::lap_rows::list_file;
+use lap_rows::lap_rows::put_refusal;
 use libc::STDIN_FILENO;
 use libc::STDOUT_FILENO;
 ghost use mathlib.Core.Path.{_≡_};
-ghost use mathlib.Core.List.{List};
+ghost use mathlib.Core.List.{List, _++_};
 ghost use Prim.Native.Nat.{ℕ};
-ghost use lib.ListN.{length};
+ghost use lib.ListN.{length, drop};
 ghost use Rattle.geo.specs.Outcome.{Wrote};
-ghost use Rattle.lapfit.specs.Input.{listInput};
+ghost use Rattle.lap_rows.specs.Listing.{mostText};
+ghost use Rattle.lapfit.specs.Input.{listInput, lapfitText};
 
 // Lists the file behind the tolerance, to the front of out.
 fn list_input(input: &[u8], out: &mut [u8]) -> Answer
@@ -21,6 +23,18 @@ fn list_input(input: &[u8], out: &mut [u8]) -> Answer
     }
     let tolerance = number_at(input, 0);
     list_file(&input[8..], tolerance, out)
+}
+
+// Writes what the program prints to the front of out, and answers how many bytes it has.
+fn print_input(input: &[u8], out: &mut [u8]) -> usize
+    requires { ⌜ length (now out) ≡ mostText 800 ⌝ }
+    ensures count { λ r. ⌜ r ≡ length (lapfitText (now (input .entry))) ⌝ }
+    ensures text { λ _. ⌜ now (out .exit) ≡ lapfitText (now (input .entry)) ++ drop (length (lapfitText (now (input .entry)))) (now (out .entry)) ⌝ }
+{
+    match list_input(input, out) {
+        Answer::Written(n) => n,
+        Answer::Refused(number) => put_refusal(number, out),
+    }
 }
 
 // Room for eight bytes, the largest file, and one byte more, by which a larger one is told. The promise gives only the
@@ -56,14 +70,6 @@ fn main() {
     let mut out = output_buffer();
     let n = io::read_full(STDIN_FILENO, &mut input);
     drain(n);
-    match list_input(&input[..n], &mut out) {
-        Answer::Written(m) => {
-            io::write_all(STDOUT_FILENO, &out[..m]);
-        }
-        Answer::Refused(number) => {
-            io::write_all(STDOUT_FILENO, b"refused,");
-            io::print_decimal(STDOUT_FILENO, number as u64);
-            io::write_all(STDOUT_FILENO, b"\n");
-        }
-    }
+    let m = print_input(&input[..n], &mut out);
+    io::write_all(STDOUT_FILENO, &out[..m]);
 }

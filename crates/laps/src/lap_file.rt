@@ -24,9 +24,6 @@ pub const MOST_COMMANDS: usize = 800;
 
 pub const MOST_BYTES: usize = 65536;
 
-// The numbers of 800 commands, nine each.
-pub const MOST_NUMBERS: usize = 7200;
-
 // What is asked of each command of a lap.
 pub enum Check {
     // row 4: its kind, its unused numbers, and where a Move stands

@@ -1,12 +1,12 @@
 -- What the rows of a course say of its fit. Assumes nothing.
-use Prim.Native.Nat.{ℕ, zero, suc, _+_, _/_, _≤_}
+use Prim.Native.Nat.{ℕ, zero, suc, _+_, _-_, _/_, _≤_, _<_}
 use mathlib.Core.Path.{_≡_, refl, sym, ap, _∙_, subst}
 use mathlib.Core.Logic.{⊎-elim}
 use mathlib.Core.Bool.{true}
 use mathlib.Core.List.{List, [], _∷_, _++_, map, map-append}
 use native.Mathlib.Nat.{zero-add}
 use native.Mathlib.Omega.{arith}
-use lib.ListN.{length}
+use lib.ListN.{length, length-map}
 use lib.Ieee.{Float}
 use Rattle.floats.specs.Ops.{_≺_, +0}
 use Rattle.floats.proofs.Order.{lt-or-ge}
@@ -14,9 +14,10 @@ use Rattle.geo.specs.declared.types.Point3D.{Point3D}
 use Rattle.geo.specs.declared.types.Command.{Command}
 use Rattle.geo.specs.declared.types.Command.the-variants.{Move, Line, Arc, Bezier}
 use Rattle.geo.specs.Lent.{triple, flat, origin, endOf, kindOf}
+use Rattle.geo.proofs.Flat.{flat-append, flat-one}
 use Rattle.simplify.specs.Measure.{lineSq}
-use Rattle.fitting.specs.Pieces.{Shape, line, arc, Piece}
-use Rattle.fitting.specs.Commands.{shaped, pieceCommand, fitIn, chainFit}
+use Rattle.fitting.specs.Pieces.{Shape, line, arc, Piece, piecesBy}
+use Rattle.fitting.specs.Commands.{shaped, pieceCommand, fitIn, keptOf, chainFit}
 use Rattle.fitting.specs.Laws.{Covers}
 use Rattle.fitting.proofs.Pieces.{pieces-cover}
 use Rattle.fitting.proofs.Chain.{kept-few, kept-some}
@@ -24,10 +25,24 @@ use Rattle.course.specs.Parts.{Part, chain, kept, closed, carried, partsFrom, p
 use Rattle.course.specs.Course.{joined, courseParts, courseFit, courseMost}
 use Rattle.course.specs.Demand.{thinnedAt, stepsOf, chainPieces}
 use Rattle.course.proofs.Parts.{parts-step, parts-end}
-use Rattle.listing.specs.Rows.{Row, keptRow, shapeKind, letterOf, pieceRow, chainRows, partRows, rowsOf, courseRows, kindsOf, stepsIn, Lettered, total, chainsSteps}
-use Rattle.listing.proofs.Writing.{kinds-append, steps-append}
-use Rattle.listing.proofs.Chain.{no-rows}
-use Rattle.listing.proofs.Parts.{rows-append, rows-chain, parts-few}
+use Rattle.course.proofs.Accepted.{course-few}
+use Rattle.listing.specs.Rows.{ListRow, keptRow, shapeKind, letterOf, pieceRow, chainRows, partRows, rowsOf, courseRows, kindsOf, stepsIn, Lettered, sumOf, chainsSteps}
+use Rattle.listing.proofs.Columns.{kinds-append, steps-append, kinds-length}
+
+-- ---- rows of parts: one list of them behind another, one chain alone, and a chain with no step, which has no row
+rows-append : (tol : Float) (xs ys : List Part) → rowsOf tol (xs ++ ys) ≡ rowsOf tol xs ++ rowsOf tol ys
+unfolding rowsOf
+rows-append tol xs ys = flat-append (partRows tol) xs ys
+
+rows-chain : (tol : Float) (s : List Float) → rowsOf tol (chain s ∷ []) ≡ chainRows tol s
+unfolding rowsOf partRows
+rows-chain tol s = flat-one (partRows tol) (chain s)
+
+no-rows : (tol : Float) (s : List Float) → length s / 3 < 2 → chainRows tol s ≡ []
+unfolding chainRows piecesBy
+no-rows tol s h =
+    let f = kept-few tol s in
+    let d : length (keptOf tol s) - 1 ≡ 0 = omega arith in rw d
 
 -- ---- kinds
 shape-kind : (a b : Point3D) (s : Shape) → shapeKind s ≡ kindOf (shaped a b s)
@@ -108,7 +123,7 @@ closed-lettered tol last s (Arc p o n) = kept-lettered tol s (Arc p o n) (unfold
 closed-lettered tol last s (Bezier p q r) = none-lettered tol
 
 parts-lettered : (tol : Float) (last : Point3D) (s : List Float) (cs : List Command) → Lettered (kindsOf (rowsOf tol (partsFrom (joined tol) last s cs)))
-parts-lettered tol last s [] = subst (λ (rs : List Row). Lettered (kindsOf rs)) (sym (ap (rowsOf tol) (parts-end (joined tol) last s) ∙ rows-chain tol s)) (chain-lettered tol s)
+parts-lettered tol last s [] = subst (λ (rs : List ListRow). Lettered (kindsOf rs)) (sym (ap (rowsOf tol) (parts-end (joined tol) last s) ∙ rows-chain tol s)) (chain-lettered tol s)
 parts-lettered tol last s (c ∷ cs) =
     let j = joined tol last c in
     let next = partsFrom (joined tol) (endOf c) (carried s c j) cs in
@@ -122,14 +137,14 @@ unfolding courseRows courseParts
 course-letters tol cs = parts-lettered tol origin (triple origin) cs
 
 -- ---- steps
-total-append : (xs ys : List ℕ) → total (xs ++ ys) ≡ total xs + total ys
-unfolding total
-total-append [] ys = omega arith
-total-append (x ∷ xs) ys = let e = total-append xs ys in omega arith
+sum-append : (xs ys : List ℕ) → sumOf (xs ++ ys) ≡ sumOf xs + sumOf ys
+unfolding sumOf
+sum-append [] ys = omega arith
+sum-append (x ∷ xs) ys = let e = sum-append xs ys in omega arith
 
 -- pieces that follow one another from lo to hi have hi - lo steps together
-covered : (lo hi : ℕ) (ps : List Piece) → Covers lo ps hi → lo + total (stepsIn (map pieceRow ps)) ≡ hi
-unfolding total stepsIn pieceRow
+covered : (lo hi : ℕ) (ps : List Piece) → Covers lo ps hi → lo + sumOf (stepsIn (map pieceRow ps)) ≡ hi
+unfolding sumOf stepsIn pieceRow
 covered lo hi [] v = let e = v in omega arith
 covered lo hi (p ∷ ps) v =
     let a = v .0 in
@@ -137,42 +152,45 @@ covered lo hi (p ∷ ps) v =
     let r = covered (p .to) hi ps (v .2) in omega arith
 
 -- The steps that a chain's rows give are, together, the steps of its thinned chain: each is counted once.
-pub chain-steps : (tol : Float) → (+0 ≺ tol) ≡ true → (s : List Float) → 2 ≤ length s / 3 → total (stepsIn (chainRows tol s)) ≡ stepsOf tol s
+pub chain-steps : (tol : Float) → (+0 ≺ tol) ≡ true → (s : List Float) → 2 ≤ length s / 3 → sumOf (stepsIn (chainRows tol s)) ≡ stepsOf tol s
 unfolding chainRows
 chain-steps tol pos s h =
     let k = kept-some tol s h in
     let e = covered 0 (stepsOf tol s) (chainPieces tol s) (pieces-cover lineSq tol pos (thinnedAt tol s) 0 (stepsOf tol s) (omega arith)) in omega arith
 
-any-steps : (tol : Float) → (+0 ≺ tol) ≡ true → (s : List Float) → total (stepsIn (chainRows tol s)) ≡ stepsOf tol s
+any-steps : (tol : Float) → (+0 ≺ tol) ≡ true → (s : List Float) → sumOf (stepsIn (chainRows tol s)) ≡ stepsOf tol s
 any-steps tol pos s =
     ⊎-elim
     (λ h.
     let f = kept-few tol s in
-    let z : total (stepsIn []) ≡ 0 = unfold total stepsIn in refl in
-    let e = ap (λ (l : List _). total (stepsIn l)) (no-rows tol s h) in omega arith)
+    let z : sumOf (stepsIn []) ≡ 0 = unfold sumOf stepsIn in refl in
+    let e = ap (λ (l : List _). sumOf (stepsIn l)) (no-rows tol s h) in omega arith)
     (λ h. chain-steps tol pos s h) (lt-or-ge (length s / 3) 2)
 
 -- a kept command adds no step
-no-step : (c : Command) (rs : List Row) → total (stepsIn (keptRow c ∷ rs)) ≡ total (stepsIn rs)
-unfolding total stepsIn
-no-step c rs = zero-add (total (stepsIn rs))
+no-step : (c : Command) (rs : List ListRow) → sumOf (stepsIn (keptRow c ∷ rs)) ≡ sumOf (stepsIn rs)
+unfolding sumOf stepsIn
+no-step c rs = zero-add (sumOf (stepsIn rs))
 
-parts-steps : (tol : Float) → (+0 ≺ tol) ≡ true → (ps : List Part) → total (stepsIn (rowsOf tol ps)) ≡ chainsSteps tol ps
+parts-steps : (tol : Float) → (+0 ≺ tol) ≡ true → (ps : List Part) → sumOf (stepsIn (rowsOf tol ps)) ≡ chainsSteps tol ps
 unfolding rowsOf flat partRows chainsSteps
-parts-steps tol pos [] = unfold total stepsIn in refl
+parts-steps tol pos [] = unfold sumOf stepsIn in refl
 parts-steps tol pos (chain s ∷ ps) =
-    let e = ap total (steps-append (chainRows tol s) (rowsOf tol ps)) in
-    let t = total-append (stepsIn (chainRows tol s)) (stepsIn (rowsOf tol ps)) in
+    let e = ap sumOf (steps-append (chainRows tol s) (rowsOf tol ps)) in
+    let t = sum-append (stepsIn (chainRows tol s)) (stepsIn (rowsOf tol ps)) in
     let a = any-steps tol pos s in
     let r = parts-steps tol pos ps in omega arith
 parts-steps tol pos (kept c ∷ ps) = no-step c (rowsOf tol ps) ∙ parts-steps tol pos ps
 
 -- So the steps that a course's rows give are, together, the steps of its thinned chains; a kept command adds none.
-pub course-steps : (tol : Float) → (+0 ≺ tol) ≡ true → (cs : List Command) → total (stepsIn (courseRows tol cs)) ≡ chainsSteps tol (courseParts tol cs)
+pub course-steps : (tol : Float) → (+0 ≺ tol) ≡ true → (cs : List Command) → sumOf (stepsIn (courseRows tol cs)) ≡ chainsSteps tol (courseParts tol cs)
 unfolding courseRows
 course-steps tol pos cs = parts-steps tol pos (courseParts tol cs)
 
 -- There are at most as many rows as the most of the course.
 pub course-rows-few : (tol : Float) → (+0 ≺ tol) ≡ true → (cs : List Command) → length (courseRows tol cs) ≤ courseMost tol cs
-unfolding courseRows courseMost
-course-rows-few tol pos cs = parts-few tol pos (courseParts tol cs)
+course-rows-few tol pos cs =
+    let a = kinds-length (courseRows tol cs) in
+    let b = ap length (course-kinds tol cs) in
+    let c = length-map (courseFit tol cs) kindOf in
+    let d = course-few tol pos cs in omega arith

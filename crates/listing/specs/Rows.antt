@@ -1,22 +1,17 @@
 -- The rows of a course's listing. Definitions only.
 -- "It lists lap, kind letter (M, L, A) and steps of the thinned chain covered (0 for M and a kept Arc)" (document 01, "Worked laps").
 use Prim.Native.Nat.{ℕ, zero, suc, _+_, _-_, _≤_}
-use mathlib.Core.Path.{_≡_}
 use mathlib.Core.List.{List, [], _∷_, map}
-use lib.ListN.{length}
-use lib.Seq.{sets}
 use lib.Ieee.{Float}
-use Rattle.geo.specs.declared.types.Point3D.{Point3D}
 use Rattle.geo.specs.declared.types.Command.{Command}
 use Rattle.geo.specs.Lent.{flat, kindOf}
-use Rattle.simplify.specs.Measure.{lineSq}
-use Rattle.fitting.specs.Pieces.{Shape, line, arc, Piece, piecesIn}
+use Rattle.fitting.specs.Pieces.{Shape, line, arc, Piece}
 use Rattle.course.specs.Parts.{Part, chain, kept}
 use Rattle.course.specs.Course.{courseParts}
 use Rattle.course.specs.Demand.{stepsOf, chainPieces}
 
 -- the kind of a command that is written, and how many steps of a thinned chain it covers
-pub record Row : Type 0 where
+pub record ListRow : Type 0 where
   pub kind : ℕ
   pub steps : ℕ
 
@@ -32,39 +27,35 @@ letterOf (suc zero) = 76
 letterOf (suc (suc k)) = 65
 
 -- a piece covers the steps between its first point and its last
-unfoldable pub pieceRow : Piece → Row
+unfoldable pub pieceRow : Piece → ListRow
 pieceRow p = record { kind = shapeKind (p .shape); steps = p .to - p .from }
 
--- one row for each piece, in order: of the points from lo to hi,
-unfoldable pub rowsIn : Float → (ℕ → Point3D) → ℕ → ℕ → List Row
-rowsIn tol at lo hi = map pieceRow (piecesIn lineSq tol at lo hi)
-
--- and of a chain; none where it has fewer than two points
-unfoldable pub chainRows : Float → List Float → List Row
+-- one row for each piece of a chain, in order; none where it has fewer than two points
+unfoldable pub chainRows : Float → List Float → List ListRow
 chainRows tol s = map pieceRow (chainPieces tol s)
 
 -- a command that is kept covers no step
-abbrev pub keptRow : Command → Row
+abbrev pub keptRow : Command → ListRow
 keptRow c = record { kind = kindOf c; steps = 0 }
 
-unfoldable pub partRows : Float → Part → List Row
+unfoldable pub partRows : Float → Part → List ListRow
 partRows tol (chain s) = chainRows tol s
 partRows tol (kept c) = keptRow c ∷ []
 
 -- of several parts
-unfoldable pub rowsOf : Float → List Part → List Row
+unfoldable pub rowsOf : Float → List Part → List ListRow
 rowsOf tol ps = flat (partRows tol) ps
 
 -- the rows of a course
-unfoldable pub courseRows : Float → List Command → List Row
+unfoldable pub courseRows : Float → List Command → List ListRow
 courseRows tol cs = rowsOf tol (courseParts tol cs)
 
 -- ---- their two columns
-unfoldable pub kindsOf : List Row → List ℕ
-kindsOf rs = map (λ (r : Row). r .kind) rs
+unfoldable pub kindsOf : List ListRow → List ℕ
+kindsOf rs = map (λ (r : ListRow). r .kind) rs
 
-unfoldable pub stepsIn : List Row → List ℕ
-stepsIn rs = map (λ (r : Row). r .steps) rs
+unfoldable pub stepsIn : List ListRow → List ℕ
+stepsIn rs = map (λ (r : ListRow). r .steps) rs
 
 -- each kind is that of a Move, a Line or an Arc
 abbrev pub Lettered : List ℕ → Type 0
@@ -72,18 +63,12 @@ Lettered [] = Unit
 Lettered (k ∷ ks) = (k ≤ 2) × Lettered ks
 
 -- the sum of a column
-unfoldable pub total : List ℕ → ℕ
-total [] = 0
-total (n ∷ ns) = n + total ns
+unfoldable pub sumOf : List ℕ → ℕ
+sumOf [] = 0
+sumOf (n ∷ ns) = n + sumOf ns
 
 -- the steps of the thinned chains among several parts
 unfoldable pub chainsSteps : Float → List Part → ℕ
 chainsSteps tol [] = 0
 chainsSteps tol (chain s ∷ ps) = stepsOf tol s + chainsSteps tol ps
 chainsSteps tol (kept c ∷ ps) = chainsSteps tol ps
-
--- the rows rs, n in number, written from place `at` on
-pub record RowsPlaced (rs : List Row) (at n : ℕ) (ks ks′ ss ss′ : List ℕ) : Type 0 where
-  pub count : n ≡ length rs
-  pub kinds : ks′ ≡ sets ks at (kindsOf rs)
-  pub steps : ss′ ≡ sets ss at (stepsIn rs)

@@ -9,8 +9,8 @@ use mathlib.Core.Path.{_≡_, sym, ap, _∙_, subst}
 use Prim.Native.Nat.{ℕ, _+_, _-_, _≤_}
 use lib.ListN.{length}
 use Rattle.geo.specs.Lent.{origin, commandsFrom}
-use Rattle.course.specs.Course.{cap, joined, lentCourse}
-use Rattle.course.specs.Walks.{weightsFrom}
+use Rattle.course.specs.Course.{joined, lentCourse}
+use Rattle.course.specs.Walks.{cap, weightsFrom}
 use Rattle.course.proofs.Walking.{commands-done}
 use Rattle.course.proofs.course.course_most.Statement.{statement}
 use Rattle.course.proofs.course.course_most.Tie as tie

@@ -4,10 +4,10 @@ use mathlib.Core.List.{_++_}
 use lib.ListN.{drop}
 use native.Mathlib.Omega.{arith}
 use mathlib.Core.Path.{refl, sym}
-use Rattle.course.specs.Course.{flushedBy}
+use Rattle.fitting.proofs.Writing.{count-noted}
 use Rattle.course.specs.Parts.{ends}
-use Rattle.course.specs.Walks.{underWay}
-use Rattle.course.proofs.Stepping.{placed-kinds, placed-numbers, front-length, ends-room}
+use Rattle.course.specs.Walks.{flushedBy, underWay}
+use Rattle.course.proofs.Stepping.{front-length, ends-room}
 use Rattle.course.proofs.Walking.{length-refront, stepped-ends}
 use Rattle.course.proofs.Chains.{flushed-few}
 use borrow.Author.Needs.{needs}
@@ -21,49 +21,50 @@ slice-relend-prefix-flush-by : tie.Need-slice-relend-prefix-flush-by
 slice-relend-prefix-flush-by c = search needs
 
 slice-aggregate-flush-by : tie.Need-slice-aggregate-flush-by
-slice-aggregate-flush-by c = sym (front-length (c .before .before .before .before .before .args .c) (c .before .before .before .before .before .args .w) (c .before .before .before .before .before .args .chain .now) _ _ ends (c .before .before .before .before .before .pre .1))
+slice-aggregate-flush-by c = sym (front-length (c .before .before .before .before .before .before .args .c) (c .before .before .before .before .before .before .args .w) (c .before .before .before .before .before .before .args .chain .now) _ _ ends (c .before .before .before .before .before .before .pre .1))
 
 flush-by-requires : tie.Need-flush-by-requires
-flush-by-requires c κs = let a = c .before .before .before .before .before .before .before .args in
-    let r = ends-room (a .c) (a .w) (a .chain .now) _ _ (c .before .before .before .before .before .before .before .pre .1) in
-    let l = front-length (a .c) (a .w) (a .chain .now) _ _ ends (c .before .before .before .before .before .before .before .pre .1) in (c .before .before .before .before .before .before .before .pre .0, (omega (arith, r, l), omega (arith, r, l), omega (arith, r, l)))
+flush-by-requires c κs = let a = c .before .before .before .before .before .before .before .before .before .args in
+    let r = ends-room (a .c) (a .w) (a .chain .now) _ _ (c .before .before .before .before .before .before .before .before .before .pre .1) in
+    let l = front-length (a .c) (a .w) (a .chain .now) _ _ ends (c .before .before .before .before .before .before .before .before .before .pre .1) in (c .before .before .before .before .before .before .before .before .before .pre .0, (omega (arith, r, l), omega (arith, r, l), omega (arith, r, l)))
 
-add-put-command : tie.Need-add-put-command
-add-put-command c = let a = c .before .before .before .before .before .before .before .before .before .before .before .before .before .before .before .before .before .args in
-    let r = ends-room (a .c) (a .w) (a .chain .now) _ _ (c .before .before .before .before .before .before .before .before .before .before .before .before .before .before .before .before .before .pre .1) in
-    let l = front-length (a .c) (a .w) (a .chain .now) _ _ ends (c .before .before .before .before .before .before .before .before .before .before .before .before .before .before .before .before .before .pre .1) in
-    let f = flushed-few (a .how) (a .tolerance) (c .before .before .before .before .before .before .before .before .before .before .before .before .before .before .before .before .before .pre .0) (underWay (a .w) (a .chain .now)) in
-    let n = c .before .before .before .before .before .before .before .before .before .flush-by .ensures .0 .count in omega (arith, r, l, f, n)
+add-put-noted : tie.Need-add-put-noted
+add-put-noted c = let a = c .before .before .before .before .before .before .before .before .before .before .before .before .before .before .before .before .before .before .before .before .before .before .args in
+    let r = ends-room (a .c) (a .w) (a .chain .now) _ _ (c .before .before .before .before .before .before .before .before .before .before .before .before .before .before .before .before .before .before .before .before .before .before .pre .1) in
+    let l = front-length (a .c) (a .w) (a .chain .now) _ _ ends (c .before .before .before .before .before .before .before .before .before .before .before .before .before .before .before .before .before .before .before .before .before .before .pre .1) in
+    let f = flushed-few (a .how) (a .tolerance) (c .before .before .before .before .before .before .before .before .before .before .before .before .before .before .before .before .before .before .before .before .before .before .pre .0) (underWay (a .w) (a .chain .now)) in
+    let n = count-noted _ _ _ _ _ _ _ _ _ (c .before .before .before .before .before .before .before .before .before .before .before .before .flush-by .ensures) in omega (arith, r, l, f, n)
 
-put-command-requires : tie.Need-put-command-requires
-put-command-requires c κs = let a = c .before .before .before .before .before .before .before .before .before .before .before .before .before .before .before .before .before .args in
-    let r = ends-room (a .c) (a .w) (a .chain .now) _ _ (c .before .before .before .before .before .before .before .before .before .before .before .before .before .before .before .before .before .pre .1) in
-    let l = front-length (a .c) (a .w) (a .chain .now) _ _ ends (c .before .before .before .before .before .before .before .before .before .before .before .before .before .before .before .before .before .pre .1) in
-    let f = flushed-few (a .how) (a .tolerance) (c .before .before .before .before .before .before .before .before .before .before .before .before .before .before .before .before .before .pre .0) (underWay (a .w) (a .chain .now)) in
-    let p = c .before .before .before .before .before .before .before .before .before .flush-by .ensures .0 in
-    let n = p .count in
-    let lk = placed-kinds _ _ _ _ _ _ _ p in
-    let ln = placed-numbers _ _ _ _ _ _ _ p in (omega (arith, r, l, f, n, lk), omega (arith, r, l, f, n, ln))
+put-noted-requires : tie.Need-put-noted-requires
+put-noted-requires c κs = let a = c .before .before .before .before .before .before .before .before .before .before .before .before .before .before .before .before .before .before .before .before .before .before .args in
+    let r = ends-room (a .c) (a .w) (a .chain .now) _ _ (c .before .before .before .before .before .before .before .before .before .before .before .before .before .before .before .before .before .before .before .before .before .before .pre .1) in
+    let l = front-length (a .c) (a .w) (a .chain .now) _ _ ends (c .before .before .before .before .before .before .before .before .before .before .before .before .before .before .before .before .before .before .before .before .before .before .pre .1) in
+    let f = flushed-few (a .how) (a .tolerance) (c .before .before .before .before .before .before .before .before .before .before .before .before .before .before .before .before .before .before .before .before .before .before .pre .0) (underWay (a .w) (a .chain .now)) in
+    let n = count-noted _ _ _ _ _ _ _ _ _ (c .before .before .before .before .before .before .before .before .before .before .before .before .flush-by .ensures) in
+    let k = c .before .before .before .before .before .before .before .before .before .before .before .before .flush-by .kept .1 .1 .1 in (omega (arith, r, l, f, n, k .0), omega (arith, r, l, f, n, k .1 .0))
 
 end-point-requires : tie.Need-end-point-requires
 end-point-requires c κs = search needs
 
 put-point-requires : tie.Need-put-point-requires
-put-point-requires c κs = search needs
+put-point-requires c κs = let a = c .before .before .before .before .before .before .before .before .before .before .before .before .before .before .before .before .before .before .before .before .before .before .before .before .before .before .before .before .before .before .before .args in
+    let q = c .before .before .before .before .before .before .before .before .before .before .before .before .before .before .before .before .before .before .before .before .before .before .before .before .before .before .before .before .before .before .before .pre .1 in
+    let b = q .buffer in
+    let l = length-refront (3 * a .w .points) (a .chain .now) (c .before .before .before .before .before .before .before .before .before .before .before .before .before .before .before .before .before .before .before .before .before .flush-by .last .1 .0) (q .inside) (c .before .before .before .before .before .before .before .before .before .before .before .before .before .before .before .before .before .before .before .before .before .flush-by .kept .1 .0) in omega (arith, b, l)
 
-add-t10 : tie.Need-add-t10
-add-t10 c = let a = c .before .before .before .before .before .before .before .before .before .before .before .before .before .before .before .before .before .before .before .before .before .before .before .before .before .before .before .before .args in
-    let r = ends-room (a .c) (a .w) (a .chain .now) _ _ (c .before .before .before .before .before .before .before .before .before .before .before .before .before .before .before .before .before .before .before .before .before .before .before .before .before .before .before .before .pre .1) in
-    let l = front-length (a .c) (a .w) (a .chain .now) _ _ ends (c .before .before .before .before .before .before .before .before .before .before .before .before .before .before .before .before .before .before .before .before .before .before .before .before .before .before .before .before .pre .1) in
-    let f = flushed-few (a .how) (a .tolerance) (c .before .before .before .before .before .before .before .before .before .before .before .before .before .before .before .before .before .before .before .before .before .before .before .before .before .before .before .before .pre .0) (underWay (a .w) (a .chain .now)) in
-    let n = c .before .before .before .before .before .before .before .before .before .before .before .before .before .before .before .before .before .before .before .before .flush-by .ensures .0 .count in omega (arith, r, l, f, n)
+add-t11 : tie.Need-add-t11
+add-t11 c = let a = c .before .before .before .before .before .before .before .before .before .before .before .before .before .before .before .before .before .before .before .before .before .before .before .before .before .before .before .before .before .before .before .before .before .before .before .args in
+    let r = ends-room (a .c) (a .w) (a .chain .now) _ _ (c .before .before .before .before .before .before .before .before .before .before .before .before .before .before .before .before .before .before .before .before .before .before .before .before .before .before .before .before .before .before .before .before .before .before .before .pre .1) in
+    let l = front-length (a .c) (a .w) (a .chain .now) _ _ ends (c .before .before .before .before .before .before .before .before .before .before .before .before .before .before .before .before .before .before .before .before .before .before .before .before .before .before .before .before .before .before .before .before .before .before .before .pre .1) in
+    let f = flushed-few (a .how) (a .tolerance) (c .before .before .before .before .before .before .before .before .before .before .before .before .before .before .before .before .before .before .before .before .before .before .before .before .before .before .before .before .before .before .before .before .before .before .before .pre .0) (underWay (a .w) (a .chain .now)) in
+    let n = count-noted _ _ _ _ _ _ _ _ _ (c .before .before .before .before .before .before .before .before .before .before .before .before .before .before .before .before .before .before .before .before .before .before .before .before .before .flush-by .ensures) in omega (arith, r, l, f, n)
 
-add-t24 : tie.Need-add-t24
-add-t24 c = let a = c .before .before .before .before .before .before .before .before .before .before .before .before .before .before .before .before .before .before .before .before .before .before .before .before .before .before .before .before .args in
-    let r = ends-room (a .c) (a .w) (a .chain .now) _ _ (c .before .before .before .before .before .before .before .before .before .before .before .before .before .before .before .before .before .before .before .before .before .before .before .before .before .before .before .before .pre .1) in
-    let l = front-length (a .c) (a .w) (a .chain .now) _ _ ends (c .before .before .before .before .before .before .before .before .before .before .before .before .before .before .before .before .before .before .before .before .before .before .before .before .before .before .before .before .pre .1) in
-    let f = flushed-few (a .how) (a .tolerance) (c .before .before .before .before .before .before .before .before .before .before .before .before .before .before .before .before .before .before .before .before .before .before .before .before .before .before .before .before .pre .0) (underWay (a .w) (a .chain .now)) in
-    let n = c .before .before .before .before .before .before .before .before .before .before .before .before .before .before .before .before .before .before .before .before .flush-by .ensures .0 .count in omega (arith, r, l, f, n)
+add-t29 : tie.Need-add-t29
+add-t29 c = let a = c .before .before .before .before .before .before .before .before .before .before .before .before .before .before .before .before .before .before .before .before .before .before .before .before .before .before .before .before .before .before .before .before .before .before .before .args in
+    let r = ends-room (a .c) (a .w) (a .chain .now) _ _ (c .before .before .before .before .before .before .before .before .before .before .before .before .before .before .before .before .before .before .before .before .before .before .before .before .before .before .before .before .before .before .before .before .before .before .before .pre .1) in
+    let l = front-length (a .c) (a .w) (a .chain .now) _ _ ends (c .before .before .before .before .before .before .before .before .before .before .before .before .before .before .before .before .before .before .before .before .before .before .before .before .before .before .before .before .before .before .before .before .before .before .before .pre .1) in
+    let f = flushed-few (a .how) (a .tolerance) (c .before .before .before .before .before .before .before .before .before .before .before .before .before .before .before .before .before .before .before .before .before .before .before .before .before .before .before .before .before .before .before .before .before .before .before .pre .0) (underWay (a .w) (a .chain .now)) in
+    let n = count-noted _ _ _ _ _ _ _ _ _ (c .before .before .before .before .before .before .before .before .before .before .before .before .before .before .before .before .before .before .before .before .before .before .before .before .before .flush-by .ensures) in omega (arith, r, l, f, n)
 
 same-length : tie.Need-same-length
 same-length c = search needs
@@ -74,11 +75,14 @@ same-length-2 c = search needs
 same-length-3 : tie.Need-same-length-3
 same-length-3 c = search needs
 
+same-length-4 : tie.Need-same-length-4
+same-length-4 c = search needs
+
 returns : tie.Need-returns
-returns c = let a = c .before .before .before .before .before .before .before .before .before .before .before .before .before .before .before .before .before .before .before .before .before .before .before .before .before .before .before .before .args in
-    let b = c .before .before .before .before .before .before .before .before .before .before .before .before .before .before .before .before .before .before .before .before .before .before .before .before .before .before .before .before .pre .1 .buffer in
-    let t = c .before .before .before .before .before .before .before .before .before .before .before .before .before .before .before .before .before .before .before .before .flush-by .last .1 .0 in
-    stepped-ends (flushedBy (a .how) (a .tolerance)) (a .c) (a .w) (a .chain .now) 0 0 (a .kinds .now) (a .nums .now) _ _ _ _ _ (t ++ drop (3 * a .w .points) (a .chain .now)) (length-refront (3 * a .w .points) (a .chain .now) t (c .before .before .before .before .before .before .before .before .before .before .before .before .before .before .before .before .before .before .before .before .before .before .before .before .before .before .before .before .pre .1 .inside) (c .before .before .before .before .before .before .before .before .before .before .before .before .before .before .before .before .before .before .before .before .flush-by .ensures .1)) (omega (arith, b)) (c .before .before .before .before .before .before .before .before .before .before .before .before .before .before .before .before .before .before .before .before .flush-by .ensures .0) (c .before .before .before .before .before .before .before .before .before .before .put-command .ensures .0) (c .before .before .before .before .before .before .before .before .before .before .put-command .ensures .1) _ _ _ (c .before .before .before .before .before .end-point .ensures) refl (c .before .before .before .put-point .ensures)
+returns c = let a = c .before .before .before .before .before .before .before .before .before .before .before .before .before .before .before .before .before .before .before .before .before .before .before .before .before .before .before .before .before .before .before .before .before .before .before .args in
+    let b = c .before .before .before .before .before .before .before .before .before .before .before .before .before .before .before .before .before .before .before .before .before .before .before .before .before .before .before .before .before .before .before .before .before .before .before .pre .1 .buffer in
+    let t = c .before .before .before .before .before .before .before .before .before .before .before .before .before .before .before .before .before .before .before .before .before .before .before .before .before .flush-by .last .1 .0 in
+    stepped-ends (flushedBy (a .how) (a .tolerance)) (a .c) (a .w) (a .chain .now) (a .kinds .now) (a .nums .now) (a .steps .now) _ _ _ _ _ _ _ (t ++ drop (3 * a .w .points) (a .chain .now)) (length-refront (3 * a .w .points) (a .chain .now) t (c .before .before .before .before .before .before .before .before .before .before .before .before .before .before .before .before .before .before .before .before .before .before .before .before .before .before .before .before .before .before .before .before .before .before .before .pre .1 .inside) (c .before .before .before .before .before .before .before .before .before .before .before .before .before .before .before .before .before .before .before .before .before .before .before .before .before .flush-by .kept .1 .0)) (omega (arith, b)) (c .before .before .before .before .before .before .before .before .before .before .before .before .before .before .before .before .before .before .before .before .before .before .before .before .before .flush-by .ensures) (c .before .before .before .before .before .before .before .before .before .before .before .before .put-noted .ensures) _ _ _ (c .before .before .before .before .before .end-point .ensures) refl (c .before .before .before .put-point .ensures)
 
 pub end-chain-spec : {M : Type 1} → statement M
 end-chain-spec =
@@ -88,13 +92,14 @@ end-chain-spec =
     slice-relend-prefix-flush-by
     slice-aggregate-flush-by
     flush-by-requires
-    add-put-command
-    put-command-requires
+    add-put-noted
+    put-noted-requires
     end-point-requires
     put-point-requires
-    add-t10
-    add-t24
+    add-t11
+    add-t29
     same-length
     same-length-2
     same-length-3
+    same-length-4
     returns)

@@ -32,7 +32,7 @@ same-length-2 : tie.Need-same-length-2
 same-length-2 c = search needs
 
 returns-2 : tie.Need-returns-2
-returns-2 c = let a = c .before .before .before .before .before .before .before .before .before .before .before .before .before .before .before .args in wrote-arcs (a .kinds .now) (a .nums .now) (a .tolerance) (a .out-kinds .now) _ (a .out-nums .now) _ _ _ (c .before .before .before .before .before .before .before .before .before .before .check-course .ensures) (c .before .before .before .before .before .before .before .before .before .if1 .left) (c .before .before .before .before .before .fit-course .ensures .0)
+returns-2 c = let a = c .before .before .before .before .before .before .before .before .before .before .before .before .before .before .before .args in wrote-arcs (a .kinds .now) (a .nums .now) (a .tolerance) (a .out-kinds .now) _ (a .out-nums .now) _ _ _ (c .before .before .before .before .before .before .before .before .before .before .check-course .ensures) (c .before .before .before .before .before .before .before .before .before .if1 .left) (c .before .before .before .before .before .fit-course .ensures)
 
 pub fit-arcs-spec : {M : Type 1} → statement M
 fit-arcs-spec =

@@ -1,15 +1,16 @@
--- `course::course::fit_course` meets its contract: it is the walk whose chains are thinned and fitted. Assumes nothing.
-use native.Mathlib.Omega.{arith}
+-- `course::course::fit_course` meets its contract: it is the fit with steps that nobody wants. Assumes nothing.
+use Rattle.fitting.proofs.Writing.{commands-placed}
 use Rattle.course.specs.Course.{lentCourse}
-use Rattle.course.proofs.Paths.{fitted-course, course-fit, course-most}
+use Rattle.course.proofs.Accepted.{course-commands}
 use borrow.Author.Needs.{needs}
 use Rattle.course.proofs.course.fit_course.Statement.{statement}
 use Rattle.course.proofs.course.fit_course.Tie as tie
 
-walk-course-requires : tie.Need-walk-course-requires
-walk-course-requires c κs = let a = c .before .before .before .before .before .before .before .before .args in
-    let p = c .before .before .before .before .before .before .before .before .pre .1 in
-    let m = course-most (a .tolerance) (lentCourse (a .kinds .now) (a .nums .now)) in (c .before .before .before .before .before .before .before .before .pre .0, (p .0, omega (arith, p, m), omega (arith, p, m), omega (arith, p, m), p .4))
+slice-aggregate-fit-course-with-steps : tie.Need-slice-aggregate-fit-course-with-steps
+slice-aggregate-fit-course-with-steps c = search needs
+
+fit-course-with-steps-requires : tie.Need-fit-course-with-steps-requires
+fit-course-with-steps-requires c κs = search needs
 
 same-length : tie.Need-same-length
 same-length c = search needs
@@ -21,9 +22,16 @@ same-length-3 : tie.Need-same-length-3
 same-length-3 c = search needs
 
 returns : tie.Need-returns
-returns c = let a = c .before .before .before .before .before .before .before .before .before .before .before .before .before .before .before .args in
-    (fitted-course (course-fit (a .tolerance) (lentCourse (a .kinds .now) (a .nums .now))) _ (a .out-kinds .now) _ (a .out-nums .now) _ (c .before .before .before .before .before .before .walk-course .ensures .0), c .before .before .before .before .before .before .walk-course .ensures .1)
+returns c = let a = c .before .before .before .before .before .before .before .before .before .before .before .before .before .before .before .before .before .args in
+    commands-placed _ _ 0 _ (a .out-kinds .now) _ (a .out-nums .now) _ _ _ (course-commands (a .tolerance) (lentCourse (a .kinds .now) (a .nums .now))) (c .before .before .before .before .before .before .before .fit-course-with-steps .ensures)
 
 pub fit-course-spec : {M : Type 1} → statement M
 fit-course-spec =
-    tie.close (tie.spec walk-course-requires same-length same-length-2 same-length-3 returns)
+    tie.close
+    (tie.spec
+    slice-aggregate-fit-course-with-steps
+    fit-course-with-steps-requires
+    same-length
+    same-length-2
+    same-length-3
+    returns)

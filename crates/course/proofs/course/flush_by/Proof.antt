@@ -1,6 +1,5 @@
 -- `course::course::flush_by` meets its contract: by the case. Assumes nothing.
-use mathlib.Core.Path.{refl}
-use Rattle.course.specs.Course.{flushedBy}
+use Rattle.course.specs.Walks.{flushedBy}
 use borrow.Author.Needs.{needs}
 use Rattle.course.proofs.course.flush_by.Statement.{statement}
 use Rattle.course.proofs.course.flush_by.Tie as tie
@@ -32,12 +31,12 @@ same-length-2 c = search needs
 same-length-3 : tie.Need-same-length-3
 same-length-3 c = search needs
 
-returns : tie.Need-returns
-unfolding flushedBy
-returns c = (rw (c .before .before .before .before .before .before .before .before .before .before .enum-told .given .1) (c .before .before .before .before .before .before .flush-chain .ensures .0), c .before .before .before .before .before .before .flush-chain .ensures .1)
-
 same-length-4 : tie.Need-same-length-4
 same-length-4 c = search needs
+
+returns : tie.Need-returns
+unfolding flushedBy
+returns c = rw (c .before .before .before .before .before .before .before .before .before .before .before .before .before .enum-told .given .1) (c .before .before .before .before .before .before .before .before .flush-chain .ensures)
 
 same-length-5 : tie.Need-same-length-5
 same-length-5 c = search needs
@@ -45,22 +44,29 @@ same-length-5 c = search needs
 same-length-6 : tie.Need-same-length-6
 same-length-6 c = search needs
 
-returns-2 : tie.Need-returns-2
-unfolding flushedBy
-returns-2 c = (rw (c .before .before .before .before .before .before .before .before .enum-told2 .given .1) (c .before .before .before .before .fit-chain .ensures), refl)
-
 same-length-7 : tie.Need-same-length-7
 same-length-7 c = search needs
 
 same-length-8 : tie.Need-same-length-8
 same-length-8 c = search needs
 
+returns-2 : tie.Need-returns-2
+returns-2 c = rw (c .before .before .before .before .before .before .before .before .before .before .before .enum-told2 .given .1) (c .before .before .before .before .before .before .fit-chain .ensures)
+
 same-length-9 : tie.Need-same-length-9
 same-length-9 c = search needs
 
+same-length-10 : tie.Need-same-length-10
+same-length-10 c = search needs
+
+same-length-11 : tie.Need-same-length-11
+same-length-11 c = search needs
+
+same-length-12 : tie.Need-same-length-12
+same-length-12 c = search needs
+
 returns-3 : tie.Need-returns-3
-unfolding flushedBy
-returns-3 c = (rw (c .before .before .before .before .before .before .before .before .before .before .enum-told3 .given .1) (c .before .before .before .before .before .before .thin-chain .ensures .0), c .before .before .before .before .before .before .thin-chain .ensures .1)
+returns-3 c = rw (c .before .before .before .before .before .before .before .before .before .before .before .before .before .enum-told3 .given .1) (c .before .before .before .before .before .before .before .before .thin-chain .ensures)
 
 pub flush-by-spec : {M : Type 1} → statement M
 flush-by-spec =
@@ -75,12 +81,15 @@ flush-by-spec =
     same-length
     same-length-2
     same-length-3
-    returns
     same-length-4
+    returns
     same-length-5
     same-length-6
-    returns-2
     same-length-7
     same-length-8
+    returns-2
     same-length-9
+    same-length-10
+    same-length-11
+    same-length-12
     returns-3)

@@ -2,7 +2,7 @@
 use mathlib.Core.Path.{refl}
 use Rattle.geo.proofs.Outcomes.{commands-refused}
 use Rattle.course.specs.Course.{optimizeCall}
-use Rattle.course.proofs.Paths.{placed-as, path-accepted, wrote-path}
+use Rattle.course.proofs.Paths.{path-accepted, wrote-path}
 use borrow.Author.Needs.{needs}
 use Rattle.course.proofs.course.optimize_path_from_array.Statement.{statement}
 use Rattle.course.proofs.course.optimize_path_from_array.Tie as tie
@@ -20,10 +20,13 @@ path-flush-requires c κs = search needs
 slice-aggregate-walk-course : tie.Need-slice-aggregate-walk-course
 slice-aggregate-walk-course c = search needs
 
+slice-aggregate-walk-course-2 : tie.Need-slice-aggregate-walk-course-2
+slice-aggregate-walk-course-2 c = search needs
+
 walk-course-requires : tie.Need-walk-course-requires
-walk-course-requires c κs = let a = c .before .before .before .before .before .before .before .before .before .before .args in
-    let q = path-accepted (a .kinds .now) (a .nums .now) (a .tolerance) (a .use-fit-arcs) (a .out-kinds .now) (a .out-nums .now) _ (c .before .before .before .before .before .refuse-commands .ensures) (c .before .before .before .before .if1 .left) in
-    rw (c .before .before .before .path-flush .ensures) (q .0, (q .1 .0, q .1 .1, q .1 .2, q .1 .3, refl))
+walk-course-requires c κs = let a = c .before .before .before .before .before .before .before .before .before .before .before .args in
+    let q = path-accepted (a .kinds .now) (a .nums .now) (a .tolerance) (a .use-fit-arcs) (a .out-kinds .now) (a .out-nums .now) _ (c .before .before .before .before .before .before .refuse-commands .ensures) (c .before .before .before .before .before .if1 .left) in
+    rw (c .before .before .before .before .path-flush .ensures) (q .0, (q .1 .0, q .1 .1, q .1 .2, q .1 .3, refl))
 
 same-length : tie.Need-same-length
 same-length c = search needs
@@ -32,7 +35,7 @@ same-length-2 : tie.Need-same-length-2
 same-length-2 c = search needs
 
 returns-2 : tie.Need-returns-2
-returns-2 c = let a = c .before .before .before .before .before .before .before .before .before .before .before .before .before .before .before .before .args in wrote-path (a .kinds .now) (a .nums .now) (a .tolerance) (a .use-fit-arcs) (a .out-kinds .now) (a .out-nums .now) _ (c .before .before .before .before .before .before .before .before .before .before .before .refuse-commands .ensures) (c .before .before .before .before .before .before .before .before .before .before .if1 .left) _ _ _ (placed-as (c .before .before .before .before .before .before .before .before .before .path-flush .ensures) (a .tolerance) _ _ (a .out-kinds .now) _ (a .out-nums .now) _ (c .before .before .before .before .before .walk-course .ensures .0))
+returns-2 c = let a = c .before .before .before .before .before .before .before .before .before .before .before .before .before .before .before .before .before .before .args in wrote-path (a .kinds .now) (a .nums .now) (a .tolerance) (a .use-fit-arcs) (a .out-kinds .now) (a .out-nums .now) _ (c .before .before .before .before .before .before .before .before .before .before .before .before .before .refuse-commands .ensures) (c .before .before .before .before .before .before .before .before .before .before .before .before .if1 .left) _ (c .before .before .before .before .before .before .before .before .before .before .before .path-flush .ensures) _ _ _ _ _ (c .before .before .before .before .before .before .walk-course .ensures)
 
 pub optimize-path-from-array-spec : {M : Type 1} → statement M
 optimize-path-from-array-spec =
@@ -42,6 +45,7 @@ optimize-path-from-array-spec =
     returns
     path-flush-requires
     slice-aggregate-walk-course
+    slice-aggregate-walk-course-2
     walk-course-requires
     same-length
     same-length-2

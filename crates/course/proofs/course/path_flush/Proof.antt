@@ -1,5 +1,5 @@
 -- `course::course::path_flush` meets its contract: by the case. Assumes nothing.
-use Rattle.course.specs.Course.{pathFlush}
+use Rattle.course.specs.Walks.{pathFlush}
 use Rattle.course.proofs.course.path_flush.Statement.{statement}
 use Rattle.course.proofs.course.path_flush.Tie as tie
 

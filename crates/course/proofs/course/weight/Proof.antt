@@ -1,7 +1,7 @@
 -- `course::course::weight` meets its contract: by the kind of the command. Assumes nothing.
 use mathlib.Core.Path.{sym, ap, _∙_}
-use Rattle.course.specs.Course.{cap, joined}
-use Rattle.course.specs.Walks.{weightOf}
+use Rattle.course.specs.Course.{joined}
+use Rattle.course.specs.Walks.{cap, weightOf}
 use Rattle.course.proofs.Steps.{bezier-weight}
 use borrow.Author.Needs.{needs}
 use Rattle.course.proofs.course.weight.Statement.{statement}

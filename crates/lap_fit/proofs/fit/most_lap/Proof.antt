@@ -5,7 +5,7 @@ use native.Mathlib.Nat.{sub-zero, zero-add}
 use native.Mathlib.Omega.{arith}
 use borrow.Author.Needs.{needs}
 use lib.ListN.{length-take, length-drop}
-use Rattle.course.specs.Course.{cap}
+use Rattle.course.specs.Walks.{cap}
 use Rattle.file.specs.Command.{commandsAt}
 use Rattle.lap_fit.specs.Fit.{mostLap}
 use Rattle.lap_fit.proofs.Cap.{cap-small, cap-step, cap-done}

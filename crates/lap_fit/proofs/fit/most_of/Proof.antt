@@ -3,7 +3,7 @@ use Prim.Native.Nat.{_+_, _-_, _≤_}
 use mathlib.Core.Path.{_≡_, sym, ap, _∙_}
 use native.Mathlib.Nat.{zero-add}
 use native.Mathlib.Omega.{arith}
-use Rattle.course.specs.Course.{cap}
+use Rattle.course.specs.Walks.{cap}
 use Rattle.laps.specs.File.{lapsAt, lapsOf}
 use Rattle.laps.proofs.Here.{Here, step, start-at, all-laps}
 use Rattle.lap_fit.specs.Fit.{lapsMost}

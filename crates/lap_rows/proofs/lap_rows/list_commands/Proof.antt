@@ -1,7 +1,9 @@
--- `lap_rows::lap_rows::list_commands` meets its contract: what was read into the arrays are the commands of the lap. Assumes nothing.
+-- `lap_rows::lap_rows::list_commands` meets its contract: what was read into the arrays are the commands of the lap, and the rows are what their fit notes. Assumes nothing.
 use mathlib.Core.Path.{sym, ap}
 use native.Mathlib.Omega.{arith}
+use Rattle.course.specs.Course.{lentCourse}
 use Rattle.listing.specs.Rows.{courseRows}
+use Rattle.listing.proofs.Noted.{rows-placed}
 use Rattle.lap_fit.proofs.Arrays.{long-kinds, long-numbers, read-back, most-read}
 use Rattle.lap_rows.specs.Listing.{lapRows}
 use Rattle.lap_rows.proofs.Lines.{placed-same}
@@ -15,20 +17,21 @@ read-commands-requires c κs = search needs
 mul-m : tie.Need-mul-m
 mul-m c = search needs
 
-slice-reshare-prefix-list-course : tie.Need-slice-reshare-prefix-list-course
-slice-reshare-prefix-list-course c = search needs
+slice-reshare-prefix-fit-course-with-steps : tie.Need-slice-reshare-prefix-fit-course-with-steps
+slice-reshare-prefix-fit-course-with-steps c = search needs
 
-slice-aggregate-list-course : tie.Need-slice-aggregate-list-course
-slice-aggregate-list-course c = let a = c .before .before .before .before .before .before .before .before .before .before .before .before .before .before .args in let p = c .before .before .before .before .before .before .before .before .before .before .before .before .before .before .pre in sym (long-kinds (a .s .now) (a .at) (a .n) _ _ _ _ (p .2) (p .3) (c .before .before .before .before .before .read-commands .ensures .0) (c .before .before .before .before .before .read-commands .ensures .1))
+slice-aggregate-fit-course-with-steps : tie.Need-slice-aggregate-fit-course-with-steps
+slice-aggregate-fit-course-with-steps c = let a = c .before .before .before .before .before .before .before .before .before .before .before .before .before .before .before .args in let p = c .before .before .before .before .before .before .before .before .before .before .before .before .before .before .before .pre in sym (long-kinds (a .s .now) (a .at) (a .n) _ _ _ _ (p .2) (p .3) (c .before .before .before .before .before .read-commands .ensures .0) (c .before .before .before .before .before .read-commands .ensures .1))
 
-slice-reshare-prefix-list-course-2 : tie.Need-slice-reshare-prefix-list-course-2
-slice-reshare-prefix-list-course-2 c = search needs
+slice-reshare-prefix-fit-course-with-steps-2 :
+    tie.Need-slice-reshare-prefix-fit-course-with-steps-2
+slice-reshare-prefix-fit-course-with-steps-2 c = search needs
 
-slice-aggregate-list-course-2 : tie.Need-slice-aggregate-list-course-2
-slice-aggregate-list-course-2 c = let a = c .before .before .before .before .before .before .before .before .before .before .before .before .before .before .before .args in let p = c .before .before .before .before .before .before .before .before .before .before .before .before .before .before .before .pre in sym (long-numbers (a .s .now) (a .at) (a .n) _ _ _ _ (p .2) (p .3) (c .before .before .before .before .before .before .read-commands .ensures .0) (c .before .before .before .before .before .before .read-commands .ensures .1))
+slice-aggregate-fit-course-with-steps-2 : tie.Need-slice-aggregate-fit-course-with-steps-2
+slice-aggregate-fit-course-with-steps-2 c = let a = c .before .before .before .before .before .before .before .before .before .before .before .before .before .before .before .before .args in let p = c .before .before .before .before .before .before .before .before .before .before .before .before .before .before .before .before .pre in sym (long-numbers (a .s .now) (a .at) (a .n) _ _ _ _ (p .2) (p .3) (c .before .before .before .before .before .before .read-commands .ensures .0) (c .before .before .before .before .before .before .read-commands .ensures .1))
 
-list-course-requires : tie.Need-list-course-requires
-list-course-requires c κs = let a = c .before .before .before .before .before .before .before .before .before .before .before .before .before .before .before .before .before .before .args in let p = c .before .before .before .before .before .before .before .before .before .before .before .before .before .before .before .before .before .before .pre in let r = c .before .before .before .before .before .before .before .before .before .read-commands .ensures in
+fit-course-with-steps-requires : tie.Need-fit-course-with-steps-requires
+fit-course-with-steps-requires c κs = let a = c .before .before .before .before .before .before .before .before .before .before .before .before .before .before .before .before .before .before .before .before .args in let p = c .before .before .before .before .before .before .before .before .before .before .before .before .before .before .before .before .before .before .before .before .pre in let r = c .before .before .before .before .before .before .before .before .before .before .read-commands .ensures in
     let x = long-kinds (a .s .now) (a .at) (a .n) _ _ _ _ (p .2) (p .3) (r .0) (r .1) in
     let y = long-numbers (a .s .now) (a .at) (a .n) _ _ _ _ (p .2) (p .3) (r .0) (r .1) in
     let z = most-read (a .s .now) (a .at) (a .n) _ _ _ _ (p .2) (p .3) (r .0) (r .1) (a .tolerance) in
@@ -49,10 +52,13 @@ same-length-4 c = search needs
 same-length-5 : tie.Need-same-length-5
 same-length-5 c = search needs
 
+same-length-6 : tie.Need-same-length-6
+same-length-6 c = search needs
+
 returns : tie.Need-returns
 unfolding lapRows
-returns c = let a = c .before .before .before .before .before .before .before .before .before .before .before .before .before .before .before .before .before .before .before .before .before .before .before .before .before .args in let p = c .before .before .before .before .before .before .before .before .before .before .before .before .before .before .before .before .before .before .before .before .before .before .before .before .before .pre in let r = c .before .before .before .before .before .before .before .before .before .before .before .before .before .before .before .before .read-commands .ensures in
-    placed-same _ _ _ _ _ _ _ (ap (courseRows (a .tolerance)) (read-back (a .s .now) (a .at) (a .n) _ _ _ _ (p .2) (p .3) (r .0) (r .1))) (c .before .before .before .before .before .before .list-course .ensures .0)
+returns c = let a = c .before .before .before .before .before .before .before .before .before .before .before .before .before .before .before .before .before .before .before .before .before .before .before .before .before .before .before .before .before .args in let p = c .before .before .before .before .before .before .before .before .before .before .before .before .before .before .before .before .before .before .before .before .before .before .before .before .before .before .before .before .before .pre in let r = c .before .before .before .before .before .before .before .before .before .before .before .before .before .before .before .before .before .before .before .read-commands .ensures in
+    placed-same _ _ _ _ _ _ _ (ap (courseRows (a .tolerance)) (read-back (a .s .now) (a .at) (a .n) _ _ _ _ (p .2) (p .3) (r .0) (r .1))) (rows-placed (a .tolerance) _ _ (a .out-kinds .now) _ (a .out-nums .now) _ (a .out-steps .now) _ (c .before .before .before .before .before .before .before .before .fit-course-with-steps .ensures))
 
 pub list-commands-spec : {M : Type 1} → statement M
 list-commands-spec =
@@ -60,14 +66,15 @@ list-commands-spec =
     (tie.spec
     read-commands-requires
     mul-m
-    slice-reshare-prefix-list-course
-    slice-aggregate-list-course
-    slice-reshare-prefix-list-course-2
-    slice-aggregate-list-course-2
-    list-course-requires
+    slice-reshare-prefix-fit-course-with-steps
+    slice-aggregate-fit-course-with-steps
+    slice-reshare-prefix-fit-course-with-steps-2
+    slice-aggregate-fit-course-with-steps-2
+    fit-course-with-steps-requires
     same-length
     same-length-2
     same-length-3
     same-length-4
     same-length-5
+    same-length-6
     returns)

@@ -1,20 +1,24 @@
 -- `lap_rows::lap_rows::list_laps` meets its contract: the laps that are left, listed from here, give the whole text; each place lies in the file, and each text in what is left of the output. The measure is how many laps are left. Assumes nothing.
-use Prim.Native.Nat.{_-_}
+use borrow.Author.Needs.{needs}
+use Prim.Native.Nat.{_-_, _*_}
 use mathlib.Core.Path.{_≡_, refl, sym}
 use native.Mathlib.Omega.{arith}
-use borrow.Author.Needs.{needs}
 use lib.ListN.{length}
 use Rattle.geo.specs.Walk.{listFrom}
+use Rattle.course.specs.Walks.{mostCommands, chainNumbers}
 use Rattle.lap_rows.specs.Listing.{ascii}
 use Rattle.lap_rows.proofs.Laps.{Listing, laps-start, turn, laps-step, laps-done}
 use Rattle.lap_rows.proofs.lap_rows.list_laps.Statement.{statement}
 use Rattle.lap_rows.proofs.lap_rows.list_laps.Tie as tie
 
 abbrev Inv-loop : tie.InvT-loop
-Inv-loop s tolerance out₀ kinds₀ nums₀ chain₀ row-kinds₀ row-steps₀ to₀ l at₀ j₀ out kinds nums chain row-kinds row-steps to at j = Listing tolerance s l out₀ out at to j × (800 ≡ length kinds) × (7200 ≡ length nums) × (2403 ≡ length chain) × (800 ≡ length row-kinds) × (800 ≡ length row-steps)
+Inv-loop s tolerance out₀ kinds₀ nums₀ chain₀ row-kinds₀ row-nums₀ row-steps₀ to₀ l at₀ j₀ out kinds nums chain row-kinds row-nums row-steps to at j =
+    Listing tolerance s l out₀ out at to j × (mostCommands ≡ length kinds) × (9 * mostCommands ≡ length nums) × (chainNumbers ≡ length chain)
+    × (mostCommands ≡ length row-kinds) × (9 * mostCommands ≡ length row-nums) × (mostCommands ≡ length row-steps)
 
 abbrev μ-loop : tie.MeasureT-loop
-μ-loop s tolerance out₀ kinds₀ nums₀ chain₀ row-kinds₀ row-steps₀ to₀ l at₀ j₀ out kinds nums chain row-kinds row-steps to at j = l - j
+μ-loop s tolerance out₀ kinds₀ nums₀ chain₀ row-kinds₀ row-nums₀ row-steps₀ to₀ l at₀ j₀ out kinds nums chain row-kinds row-nums row-steps to at j =
+    l - j
 
 slice-aggregate-copy : tie.Need-slice-aggregate-copy Inv-loop μ-loop
 slice-aggregate-copy c = search needs
@@ -33,7 +37,7 @@ add-at c = omega arith
 
 loop-holds : tie.Need-loop-holds Inv-loop μ-loop
 loop-holds c = let a = c .before .before .before .before .before .before .before .before .args in let p = c .before .before .before .before .before .before .before .before .pre in let k = c .before .before .before .copy .kept in
-    (laps-start (a .tolerance) (a .s .now) _ _ _ (c .before .before .before .copy .ensures .0) (c .lap-count .ensures .0) (p .2) (p .4) (omega (arith, p .5, k)), refl, refl, refl, refl, refl)
+    (laps-start (a .tolerance) (a .s .now) _ _ _ (c .before .before .before .copy .ensures .0) (c .lap-count .ensures .0) (p .2) (p .4) (omega (arith, p .5, k)), refl, refl, refl, refl, refl, refl)
 
 count-at-requires : tie.Need-count-at-requires Inv-loop μ-loop
 count-at-requires c κs = omega (arith, c .before .loop .inv .0 .here .table)
@@ -56,26 +60,29 @@ slice-aggregate-put-lap-4 c = c .before .before .before .before .before .before 
 slice-aggregate-put-lap-5 : tie.Need-slice-aggregate-put-lap-5 Inv-loop μ-loop
 slice-aggregate-put-lap-5 c = c .before .before .before .before .before .before .before .loop .inv .5
 
+slice-aggregate-put-lap-6 : tie.Need-slice-aggregate-put-lap-6 Inv-loop μ-loop
+slice-aggregate-put-lap-6 c = c .before .before .before .before .before .before .before .before .loop .inv .6
+
 put-lap-requires : tie.Need-put-lap-requires Inv-loop μ-loop
-put-lap-requires c κs = let p = c .before .before .before .before .before .before .before .before .before .before .before .before .before .before .before .before .before .pre in let l = c .before .before .before .before .before .before .before .before .loop in let g = c .before .before .before .before .before .before .before .loop-test .taken in let e = c .before .before .before .before .before .before .before .before .before .lap-count .ensures .0 in let i = l .inv in
-    let t = turn _ _ _ _ (l .out) (l .at) (l .to) (l .j) _ (i .0) g (c .before .before .before .before .before .before .count-at .ensures .0) in
-    ((p .0, t .lap .fits, t .lap .few, omega (arith, p .3, e, g), t .few, t .room), (omega (arith, i .1), omega (arith, i .2), omega (arith, i .4), omega (arith, i .5), sym (i .3)))
+put-lap-requires c κs = let p = c .before .before .before .before .before .before .before .before .before .before .before .before .before .before .before .before .before .before .pre in let l = c .before .before .before .before .before .before .before .before .before .loop in let g = c .before .before .before .before .before .before .before .before .loop-test .taken in let e = c .before .before .before .before .before .before .before .before .before .before .lap-count .ensures .0 in let i = l .inv in
+    let t = turn _ _ _ _ (l .out) (l .at) (l .to) (l .j) _ (i .0) g (c .before .before .before .before .before .before .before .count-at .ensures .0) in
+    ((p .0, t .lap .fits, t .lap .few, omega (arith, p .3, e, g), t .few, t .room), (omega (arith, i .1), omega (arith, i .2), omega (arith, i .4), omega (arith, i .5), omega (arith, i .6), sym (i .3)))
 
 mul-at-2 : tie.Need-mul-at-2 Inv-loop μ-loop
-mul-at-2 c = let l = c .before .before .before .before .before .before .before .before .before .before .before .before .before .before .before .before .loop in let t = turn _ _ _ _ (l .out) (l .at) (l .to) (l .j) _ (l .inv .0) (c .before .before .before .before .before .before .before .before .before .before .before .before .before .before .before .loop-test .taken) (c .before .before .before .before .before .before .before .before .before .before .before .before .before .before .count-at .ensures .0) .lap .few in omega (arith, t)
+mul-at-2 c = let l = c .before .before .before .before .before .before .before .before .before .before .before .before .before .before .before .before .before .before .loop in let t = turn _ _ _ _ (l .out) (l .at) (l .to) (l .j) _ (l .inv .0) (c .before .before .before .before .before .before .before .before .before .before .before .before .before .before .before .before .before .loop-test .taken) (c .before .before .before .before .before .before .before .before .before .before .before .before .before .before .before .before .count-at .ensures .0) .lap .few in omega (arith, t)
 
 add-at-2 : tie.Need-add-at-2 Inv-loop μ-loop
-add-at-2 c = let l = c .before .before .before .before .before .before .before .before .before .before .before .before .before .before .before .before .loop in let t = turn _ _ _ _ (l .out) (l .at) (l .to) (l .j) _ (l .inv .0) (c .before .before .before .before .before .before .before .before .before .before .before .before .before .before .before .loop-test .taken) (c .before .before .before .before .before .before .before .before .before .before .before .before .before .before .count-at .ensures .0) .lap .fits in omega (arith, t)
+add-at-2 c = let l = c .before .before .before .before .before .before .before .before .before .before .before .before .before .before .before .before .before .before .loop in let t = turn _ _ _ _ (l .out) (l .at) (l .to) (l .j) _ (l .inv .0) (c .before .before .before .before .before .before .before .before .before .before .before .before .before .before .before .before .before .loop-test .taken) (c .before .before .before .before .before .before .before .before .before .before .before .before .before .before .before .before .count-at .ensures .0) .lap .fits in omega (arith, t)
 
 add-j : tie.Need-add-j Inv-loop μ-loop
 add-j c = omega arith
 
 loop-less : tie.Need-loop-less Inv-loop μ-loop
-loop-less c = omega (arith, c .before .before .before .before .before .before .before .before .before .before .before .before .before .before .before .loop-test .taken)
+loop-less c = omega (arith, c .before .before .before .before .before .before .before .before .before .before .before .before .before .before .before .before .before .loop-test .taken)
 
 loop-again : tie.Need-loop-again Inv-loop μ-loop
-loop-again c = let a = c .before .before .before .before .before .before .before .before .before .before .before .before .before .before .before .before .before .before .before .before .before .before .before .before .before .args in let p = c .before .before .before .before .before .before .before .before .before .before .before .before .before .before .before .before .before .before .before .before .before .before .before .before .before .pre in let l = c .before .before .before .before .before .before .before .before .before .before .before .before .before .before .before .before .loop in let i = l .inv in let g = c .before .before .before .before .before .before .before .before .before .before .before .before .before .before .before .loop-test .taken in let e = c .before .before .before .before .before .before .before .before .before .before .before .before .before .before .before .before .before .lap-count .ensures .0 in let k = c .before .before .before .before .before .before .before .put-lap .kept in
-    (laps-step (a .tolerance) (a .s .now) _ _ (l .out) (l .at) (l .to) (l .j) _ (i .0) g (c .before .before .before .before .before .before .before .before .before .before .before .before .before .before .count-at .ensures .0) (p .0) (omega (arith, p .3, e)) _ _ (c .before .before .before .before .before .before .before .put-lap .ensures), omega (arith, i .1, k), omega (arith, i .2, k), omega (arith, i .3, k), omega (arith, i .4, k), omega (arith, i .5, k))
+loop-again c = let a = c .before .before .before .before .before .before .before .before .before .before .before .before .before .before .before .before .before .before .before .before .before .before .before .before .before .before .before .args in let p = c .before .before .before .before .before .before .before .before .before .before .before .before .before .before .before .before .before .before .before .before .before .before .before .before .before .before .before .pre in let l = c .before .before .before .before .before .before .before .before .before .before .before .before .before .before .before .before .before .before .loop in let i = l .inv in let g = c .before .before .before .before .before .before .before .before .before .before .before .before .before .before .before .before .before .loop-test .taken in let e = c .before .before .before .before .before .before .before .before .before .before .before .before .before .before .before .before .before .before .before .lap-count .ensures .0 in let k = c .before .before .before .before .before .before .before .before .put-lap .kept in
+    (laps-step (a .tolerance) (a .s .now) _ _ (l .out) (l .at) (l .to) (l .j) _ (i .0) g (c .before .before .before .before .before .before .before .before .before .before .before .before .before .before .before .before .count-at .ensures .0) (p .0) (omega (arith, p .3, e)) _ _ (c .before .before .before .before .before .before .before .before .put-lap .ensures), omega (arith, i .1, k), omega (arith, i .2, k), omega (arith, i .3, k), omega (arith, i .4, k), omega (arith, i .5, k), omega (arith, i .6, k))
 
 same-length : tie.Need-same-length Inv-loop μ-loop
 same-length c = let k = c .before .before .before .before .before .copy .kept in let z = c .before .loop .inv .0 .going .same in omega (arith, k, z)
@@ -103,6 +110,7 @@ list-laps-spec =
     slice-aggregate-put-lap-3
     slice-aggregate-put-lap-4
     slice-aggregate-put-lap-5
+    slice-aggregate-put-lap-6
     put-lap-requires
     mul-at-2
     add-at-2

@@ -3,8 +3,9 @@ use mathlib.Core.Path.{sym, subst}
 use mathlib.Core.List.{List}
 use native.Mathlib.Omega.{arith}
 use Rattle.file.specs.Command.{commandsAt}
-use Rattle.listing.specs.Rows.{Row}
-use Rattle.lap_rows.specs.Listing.{lapText, Short}
+use Rattle.listing.specs.Rows.{ListRow}
+use Rattle.lap_rows.specs.Listing.{lapText}
+use Rattle.lap_rows.specs.Left.{Short}
 use Rattle.lap_rows.proofs.Lines.{rows-back, text-same}
 use Rattle.lap_rows.proofs.Counts.{rows-few, rows-short}
 use borrow.Author.Needs.{needs}
@@ -12,16 +13,16 @@ use Rattle.lap_rows.proofs.lap_rows.put_lap.Statement.{statement}
 use Rattle.lap_rows.proofs.lap_rows.put_lap.Tie as tie
 
 list-commands-requires : tie.Need-list-commands-requires
-list-commands-requires c κs = let p = c .before .before .before .before .before .before .before .before .before .before .before .before .pre .0 in let q = c .before .before .before .before .before .before .before .before .before .before .before .before .pre .1 in (p .0, p .1, omega (arith, p, q), omega (arith, p, q), p .4, omega (arith, p .4, q), omega (arith, p .4, q), q .4)
+list-commands-requires c κs = let p = c .before .before .before .before .before .before .before .before .before .before .before .before .before .before .pre .0 in let q = c .before .before .before .before .before .before .before .before .before .before .before .before .before .before .pre .1 in (p .0, p .1, omega (arith, p, q), omega (arith, p, q), p .4, omega (arith, p .4, q), omega (arith, p .4, q), q .5)
 
 put-rows-requires : tie.Need-put-rows-requires
-put-rows-requires c κs = let a = c .before .before .before .before .before .before .before .before .before .before .before .before .before .before .before .before .before .before .before .before .before .before .before .before .before .before .args in let p = c .before .before .before .before .before .before .before .before .before .before .before .before .before .before .before .before .before .before .before .before .before .before .before .before .before .before .pre .0 in let q = c .before .before .before .before .before .before .before .before .before .before .before .before .before .before .before .before .before .before .before .before .before .before .before .before .before .before .pre .1 in let w = c .before .before .before .before .before .before .before .before .before .before .before .before .before .list-commands .ensures in
+put-rows-requires c κs = let a = c .before .before .before .before .before .before .before .before .before .before .before .before .before .before .before .before .before .before .before .before .before .before .before .before .before .before .before .before .before .before .args in let p = c .before .before .before .before .before .before .before .before .before .before .before .before .before .before .before .before .before .before .before .before .before .before .before .before .before .before .before .before .before .before .pre .0 in let q = c .before .before .before .before .before .before .before .before .before .before .before .before .before .before .before .before .before .before .before .before .before .before .before .before .before .before .before .before .before .before .pre .1 in let w = c .before .before .before .before .before .before .before .before .before .before .before .before .before .before .before .list-commands .ensures in
     let l = commandsAt (a .s .now) (a .at) (a .n) in
     let f = rows-few (a .tolerance) (p .0) l in
     let n = w .count in
     let e = rows-back _ _ _ _ _ _ w (omega (arith, f, p .4, q)) (omega (arith, f, p .4, q)) in
-    let k = c .before .before .before .before .before .before .before .before .before .before .before .before .before .list-commands .kept in
-    (p .3, omega (arith, f, n, p .4, q, k), omega (arith, f, n, p .4, q, k), subst (λ (rs : List Row). Short rs) (sym e) (rows-short (a .tolerance) (p .0) l (p .4)), omega (arith, f, n, p .5))
+    let k = c .before .before .before .before .before .before .before .before .before .before .before .before .before .before .before .list-commands .kept in
+    (p .3, omega (arith, f, n, p .4, q, k), omega (arith, f, n, p .4, q, k), subst (λ (rs : List ListRow). Short rs) (sym e) (rows-short (a .tolerance) (p .0) l (p .4)), omega (arith, f, n, p .5))
 
 same-length : tie.Need-same-length
 same-length c = search needs
@@ -41,9 +42,12 @@ same-length-5 c = search needs
 same-length-6 : tie.Need-same-length-6
 same-length-6 c = search needs
 
+same-length-7 : tie.Need-same-length-7
+same-length-7 c = search needs
+
 returns : tie.Need-returns
 unfolding lapText
-returns c = let a = c .before .before .before .before .before .before .before .before .before .before .before .before .before .before .before .before .before .before .before .before .before .before .before .before .before .before .before .before .before .args in let p = c .before .before .before .before .before .before .before .before .before .before .before .before .before .before .before .before .before .before .before .before .before .before .before .before .before .before .before .before .before .pre .0 in let q = c .before .before .before .before .before .before .before .before .before .before .before .before .before .before .before .before .before .before .before .before .before .before .before .before .before .before .before .before .before .pre .1 in let w = c .before .before .before .before .before .before .before .before .before .before .before .before .before .before .before .before .list-commands .ensures in
+returns c = let a = c .before .before .before .before .before .before .before .before .before .before .before .before .before .before .before .before .before .before .before .before .before .before .before .before .before .before .before .before .before .before .before .before .before .args in let p = c .before .before .before .before .before .before .before .before .before .before .before .before .before .before .before .before .before .before .before .before .before .before .before .before .before .before .before .before .before .before .before .before .before .pre .0 in let q = c .before .before .before .before .before .before .before .before .before .before .before .before .before .before .before .before .before .before .before .before .before .before .before .before .before .before .before .before .before .before .before .before .before .pre .1 in let w = c .before .before .before .before .before .before .before .before .before .before .before .before .before .before .before .before .before .before .list-commands .ensures in
     let f = rows-few (a .tolerance) (p .0) (commandsAt (a .s .now) (a .at) (a .n)) in
     text-same (a .lap) _ _ _ _ _ _ (rows-back _ _ _ _ _ _ w (omega (arith, f, p .4, q)) (omega (arith, f, p .4, q))) (c .before .before .put-rows .ensures)
 
@@ -59,4 +63,5 @@ put-lap-spec =
     same-length-4
     same-length-5
     same-length-6
+    same-length-7
     returns)

@@ -1,7 +1,7 @@
 -- `lap_rows::lap_rows::put_rows` meets its contract: the rows that are left, written from here, give the whole. The measure is how many rows are left. Assumes nothing.
+use borrow.Author.Needs.{needs}
 use Prim.Native.Nat.{_-_}
 use native.Mathlib.Omega.{arith}
-use borrow.Author.Needs.{needs}
 use Rattle.lap_rows.proofs.Lines.{Lines, lines-start, line-short, line-room, lines-step, lines-done}
 use Rattle.lap_rows.proofs.lap_rows.put_rows.Statement.{statement}
 use Rattle.lap_rows.proofs.lap_rows.put_rows.Tie as tie
@@ -23,6 +23,10 @@ mul-put-row c = search needs
 
 shared-slice-read-put-row-2 : tie.Need-shared-slice-read-put-row-2 Inv-loop μ-loop
 shared-slice-read-put-row-2 c = let p = c .before .before .before .before .before .before .before .before .pre in omega (arith, p, c .before .before .before .loop-test .taken)
+
+cast-put-row : tie.Need-cast-put-row Inv-loop μ-loop
+cast-put-row c = let a = c .before .before .before .before .before .before .before .before .args in let l = c .before .before .before .before .loop in
+    let h = line-short (a .kinds .now) (a .steps .now) (a .n) (a .lap) _ (a .at) (l .out) (l .to) (l .i) (l .inv) (c .before .before .before .loop-test .taken) in omega (arith, h)
 
 put-row-requires : tie.Need-put-row-requires Inv-loop μ-loop
 put-row-requires c κs = let a = c .before .before .before .before .before .before .before .before .args in let p = c .before .before .before .before .before .before .before .before .pre in let l = c .before .before .before .before .loop in let t = c .before .before .before .loop-test .taken in
@@ -53,6 +57,7 @@ put-rows-spec =
     shared-slice-read-put-row
     mul-put-row
     shared-slice-read-put-row-2
+    cast-put-row
     put-row-requires
     add-i
     loop-less

@@ -1,5 +1,5 @@
 -- `course::course::Flush::joins_beziers` meets its contract: by the case. Assumes nothing.
-use Rattle.course.specs.Course.{joinsBeziers}
+use Rattle.course.specs.Walks.{joinsBeziers}
 use borrow.Author.Needs.{needs}
 use Rattle.course.proofs.course.Flush.joins_beziers.Statement.{statement}
 use Rattle.course.proofs.course.Flush.joins_beziers.Tie as tie
