@@ -35,7 +35,7 @@ returns-2 c = let a = c .before .before .before .before .before .before .before 
     let z = accepted _ _ (c .before .before .before .before .before .check-linearize .ensures) (c .before .before .before .before .if1 .left) in
     let f = linearize-passed (a .p0) (a .c1) (a .c2) (a .p1) (a .num-steps) _ z in
     let n : a .num-steps ≡ length (steps (a .p0) (a .c1) (a .c2) (a .p1) (a .num-steps)) = sym (unfold steps in list-length _ _ _) in
-    wrote-all (flat six) (linearizeRows (a .p0) (a .c1) (a .c2) (a .p1) (a .num-steps) (length (a .out .now))) (steps (a .p0) (a .c1) (a .c2) (a .p1) (a .num-steps)) (a .out .now) _ _ z n (c .before .before .put-steps .ensures) (omega (arith, f .1, flat-length six 6 (λ s. refl) (steps (a .p0) (a .c1) (a .c2) (a .p1) (a .num-steps))))
+    wrote-all (flat six) (linearizeRows (a .p0) (a .c1) (a .c2) (a .p1) (a .num-steps) (length (a .out .now))) (steps (a .p0) (a .c1) (a .c2) (a .p1) (a .num-steps)) (a .out .now) _ _ z n (c .before .before .put-steps .ensures .0) (omega (arith, f .1, flat-length six 6 (λ s. refl) (steps (a .p0) (a .c1) (a .c2) (a .p1) (a .num-steps))))
 
 pub linearize-bezier-spec : {M : Type 1} → statement M
 linearize-bezier-spec =
