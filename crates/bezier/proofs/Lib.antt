@@ -2,3 +2,4 @@
 pub mod Rows
 pub mod Count
 pub mod Ends
+pub mod Evaluations

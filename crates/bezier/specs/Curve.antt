@@ -7,7 +7,7 @@ use Rattle.geo.specs.declared.types.Point3D.{Point3D}
 use Rattle.geo.specs.declared.types.CubicBezier.{CubicBezier}
 use Rattle.geo.specs.Vector.{lerp, cubic}
 use Rattle.geo.specs.Domain.{pointIn, point3In}
-use Rattle.bezier.specs.declared.bezier.Weights.{Weights}
+use Rattle.bezier.specs.declared.evaluation.Weights.{Weights}
 use Rattle.bezier.specs.declared.bezier.Halves.{Halves}
 
 -- ---- all four points are in the domain

@@ -1,6 +1,6 @@
 -- A curve as steps of equal parameter. Definitions only.
 use Prim.Native.Nat.{ℕ, _+_}
-use mathlib.Core.List.{List, _++_}
+use mathlib.Core.List.{List, [], _∷_, _++_}
 use lib.IntN.{pos}
 use lib.Ieee.{Float, binary64, ofInt, toUnsigned}
 use Rattle.floats.specs.Ops.{_⊕_, _⊗_, _⊘_, one, two, three}
@@ -41,6 +41,21 @@ stepAt p0 c1 c2 p1 n i = record { from = pointOn3 p0 c1 c2 p1 (share n i); to = 
 unfoldable pub steps : Point3D → Point3D → Point3D → Point3D → ℕ → List Step
 unfolding stepAt listFrom
 steps p0 c1 c2 p1 n = listFrom (stepAt p0 c1 c2 p1 n) n 0
+
+-- the parameters at which the curve is evaluated for them: 0, 1/n, .. n/n
+unfoldable pub stepParameters : ℕ → List Float
+unfolding share listFrom
+stepParameters n = listFrom (share n) (n + 1) 0
+
+-- the steps through some points: from p on, each to the next
+unfoldable pub stepsFrom : Point3D → List Point3D → List Step
+stepsFrom p [] = []
+stepsFrom p (q ∷ ps) = record { from = p; to = q } ∷ stepsFrom q ps
+
+unfoldable pub stepsThrough : List Point3D → List Step
+unfolding stepsFrom
+stepsThrough [] = []
+stepsThrough (p ∷ ps) = stepsFrom p ps
 
 -- ---- from a command's parameters: the controls' z is replaced by thirds
 unfoldable pub firstThird : Point3D → Point3D → Point3D → Point3D

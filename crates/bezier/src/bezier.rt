@@ -1,5 +1,7 @@
 // src/geo/shape/bezier.rs, first part: a curve's point, its parts, and its steps. The other parts are the crates
 // `subdivision` and `fit_cubic`.
+use crate::evaluation::Evaluated;
+use crate::evaluation::point_on;
 use floats::float::ceil;
 use floats::float::max;
 use geo::domain::is_within;
@@ -22,8 +24,8 @@ ghost use lib.ListN.{length};
 ghost use lib.Seq.{sets};
 ghost use Rattle.geo.specs.Lent.{triple, flat};
 ghost use Rattle.geo.specs.Outcome.{refusal, Wrote};
-ghost use Rattle.bezier.specs.Curve.{curveIn, curve3In, weightsAt, mixed, pointOn, pointOn3, partsAt};
-ghost use Rattle.bezier.specs.Linearize.{mostAsked, share, six, stepEnd, steps, firstThird, lastThird, stepsNeeded};
+ghost use Rattle.bezier.specs.Curve.{curveIn, curve3In, partsAt};
+ghost use Rattle.bezier.specs.Linearize.{mostAsked, six, stepEnd, steps, stepParameters, firstThird, lastThird, stepsNeeded};
 ghost use Rattle.bezier.specs.Calls.{pointCall, pointAnswer, splitCall, splitAnswer, mostSteps, linearizeRows, linearizeCall, paramFirstRows, paramCall};
 
 pub enum BezierPoint {
@@ -34,58 +36,6 @@ pub enum BezierPoint {
 pub enum BezierSplit {
     Halves(CubicBezier, CubicBezier),
     Refused(u32),
-}
-
-// Bernstein's weights at a parameter.
-pub struct Weights {
-    pub w0: f64,
-    pub w1: f64,
-    pub w2: f64,
-    pub w3: f64,
-}
-
-impl Weights {
-    fn at(t: f64) -> Self
-        ensures { λ r. ⌜ r ≡ weightsAt t ⌝ }
-    {
-        let s = 1.0 - t;
-        Self {
-            w0: s * (s * s),
-            w1: 3.0 * (s * s) * t,
-            w2: 3.0 * s * (t * t),
-            w3: t * (t * t),
-        }
-    }
-}
-
-// One coordinate of the point with these weights.
-fn mix(w: Weights, p0: f64, c1: f64, c2: f64, p1: f64) -> f64
-    ensures { λ r. ⌜ r ≡ mixed w p0 c1 c2 p1 ⌝ }
-{
-    w.w0 * p0 + w.w1 * c1 + w.w2 * c2 + w.w3 * p1
-}
-
-// The point at t of a curve in the plane.
-fn point_on(q: CubicBezier, t: f64) -> Point
-    ensures { λ r. ⌜ r ≡ pointOn q t ⌝ }
-{
-    let w = Weights::at(t);
-    Point {
-        x: mix(w, q.0.x, q.1.x, q.2.x, q.3.x),
-        y: mix(w, q.0.y, q.1.y, q.2.y, q.3.y),
-    }
-}
-
-// The point at t of a curve in space.
-fn point_on_3d(p0: Point3D, c1: Point3D, c2: Point3D, p1: Point3D, t: f64) -> Point3D
-    ensures { λ r. ⌜ r ≡ pointOn3 p0 c1 c2 p1 t ⌝ }
-{
-    let w = Weights::at(t);
-    Point3D {
-        x: mix(w, p0.x, c1.x, c2.x, p1.x),
-        y: mix(w, p0.y, c1.y, c2.y, p1.y),
-        z: mix(w, p0.z, c1.z, c2.z, p1.z),
-    }
 }
 
 // Whether all four points are in the domain. It serves `subdivision` too.
@@ -175,25 +125,20 @@ pub fn split_bezier(p0: Point, c1: Point, c2: Point, p1: Point, t: f64) -> Bezie
     BezierSplit::Halves(left, right)
 }
 
-// The share i of n.
-fn share_of(n: usize, i: usize) -> f64
-    requires { ⌜ (n ≤ mostAsked) × (i ≤ mostAsked) ⌝ }
-    ensures { λ r. ⌜ r ≡ share n i ⌝ }
-{
-    i as f64 / n as f64
-}
-
-// Writes n steps. Each starts where the last one ended.
-fn put_steps(p0: Point3D, c1: Point3D, c2: Point3D, p1: Point3D, n: usize, out: &mut [f64])
+// Writes n steps and answers how often the curve was evaluated: the first start before the loop, then each step's end,
+// which is handed to the next step (document 02, §3). The callers drop the count.
+fn put_steps(p0: Point3D, c1: Point3D, c2: Point3D, p1: Point3D, n: usize, out: &mut [f64]) -> usize
     requires { ⌜ (n ≤ mostAsked) × (6 * n ≤ length (now out)) ⌝ }
-    ensures { λ _. ⌜ now (out .exit) ≡ sets (now (out .entry)) 0 (flat six (steps p0 c1 c2 p1 n)) ⌝ }
+    ensures written { λ _. ⌜ now (out .exit) ≡ sets (now (out .entry)) 0 (flat six (steps p0 c1 c2 p1 n)) ⌝ }
+    ensures evaluations { λ r. ⌜ (r ≡ length (stepParameters n)) × (r ≡ n + 1) ⌝ }
 {
-    let mut from = point_on_3d(p0, c1, c2, p1, share_of(n, 0));
+    let mut from = Evaluated::at(p0, c1, c2, p1, n, 0, 0);
     for i in 0..n {
-        let to = point_on_3d(p0, c1, c2, p1, share_of(n, i + 1));
-        put_step(out, 6 * i, from, to);
+        let to = from.end(p0, c1, c2, p1, n, i);
+        put_step(out, 6 * i, from.point(), to.point());
         from = to;
     }
+    from.count()
 }
 
 // Writes one step from `at` on.
@@ -288,8 +233,8 @@ pub fn put_ends(
     let c1 = first_third(start_point, end, control1);
     let c2 = last_third(start_point, end, control2);
     for i in 0..n {
-        let to = point_on_3d(start_point, c1, c2, end, share_of(n, i + 1));
-        put_point(out, 3 * (at + i), to);
+        let to = Evaluated::at(start_point, c1, c2, end, n, i + 1, i);
+        put_point(out, 3 * (at + i), to.point());
     }
 }
 

@@ -17,7 +17,7 @@ use Rattle.floats.specs.Limits.{million}
 use Rattle.geo.specs.Domain.{coordinate, point3In}
 use Rattle.geo.specs.Lent.{triple, flat}
 use Rattle.geo.specs.Walk.{listFrom}
-use Rattle.bezier.specs.declared.bezier.Weights.{Weights}
+use Rattle.bezier.specs.declared.evaluation.Weights.{Weights}
 use Rattle.bezier.specs.Curve.{weightsAt, mixed, pointOn3}
 use Rattle.bezier.specs.Linearize.{share, stepEnd, stepAt, steps, firstThird, lastThird}
 use Rattle.course.proofs.FiniteCenters.{Placed, one-below, two-below}

@@ -1,6 +1,6 @@
 -- A subdivision, by the tests that the code makes: where it stops, where it goes on, and that it has at most 2 ^ depth ends. Assumes nothing.
 use Prim.Native.Nat.{ℕ, zero, suc, _+_, _-_, _*_, _^_, _≤_}
-use mathlib.Core.Path.{_≡_, sym, ap, _∙_}
+use mathlib.Core.Path.{_≡_, sym, ap, _∙_, subst}
 use mathlib.Core.Bool.{Bool, true, false, cond}
 use mathlib.Core.List.{List, [], _∷_, _++_}
 use native.Mathlib.Nat.{pow-succ'}
@@ -12,6 +12,8 @@ use Rattle.floats.specs.Ops.{_≼_, half}
 use Rattle.geo.specs.declared.types.Point3D.{Point3D}
 use Rattle.geo.specs.declared.types.CubicBezier.{CubicBezier}
 use Rattle.geo.specs.Vector.{midpoint}
+use Rattle.geo.specs.Lent.{pair, triple}
+use Rattle.geo.specs.Outcome.{Placed}
 use Rattle.bezier.specs.declared.bezier.Halves.{Halves}
 use Rattle.bezier.specs.Curve.{leftPart, rightPart, partsAt}
 use Rattle.subdivision.specs.Flatten.{isFlat, subdivided, flatnessSq, flattened}
@@ -30,6 +32,10 @@ pub subdivided-length : (d : ℕ) (limit : Float) (q : CubicBezier) → length (
 unfolding subdivided
 subdivided-length zero limit q = omega arith
 subdivided-length (suc d) limit q = fewer d (isFlat q limit) (q .3) (subdivided d limit (leftPart q half)) (subdivided d limit (rightPart q half)) (subdivided-length d limit (leftPart q half)) (subdivided-length d limit (rightPart q half))
+
+-- of what a call answered
+pub subdivided-few : (d : ℕ) (limit : Float) (q : CubicBezier) {at n : ℕ} {out out′ : List Float} → Placed pair 2 (subdivided d limit q) at n out out′ → n ≤ 2 ^ d
+subdivided-few d limit q p = subst (λ (k : ℕ). k ≤ 2 ^ d) (sym (p .count)) (subdivided-length d limit q)
 
 pub subdivided-end : (d : ℕ) (limit : Float) (q : CubicBezier) → d ≡ 0 → subdivided d limit q ≡ q .3 ∷ []
 unfolding subdivided
@@ -64,6 +70,9 @@ module _ (limit : Float) where
       let bcd = midpoint bc cd in
       let m = midpoint abc bcd in
       fewer n (flatnessSq a b c d ≼ limit) d (flattened n limit a ab abc m) (flattened n limit m bcd cd d) (flattened-length n a ab abc m) (flattened-length n m bcd cd d)
+
+pub flattened-few : (n : ℕ) (limit : Float) (a b c d : Point3D) {at m : ℕ} {out out′ : List Float} → Placed triple 3 (flattened n limit a b c d) at m out out′ → m ≤ 2 ^ n
+flattened-few n limit a b c d p = subst (λ (k : ℕ). k ≤ 2 ^ n) (sym (p .count)) (flattened-length limit n a b c d)
 
 module _ (n : ℕ) (limit : Float) (a b c d : Point3D) where
   pub flattened-end : n ≡ 0 → flattened n limit a b c d ≡ d ∷ []

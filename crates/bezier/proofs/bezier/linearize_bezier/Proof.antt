@@ -38,7 +38,7 @@ returns-2 c = let a = c .before .before .before .before .before .before .before 
     let n : a .num-steps ≡ length (steps (a .p0) (a .c1) (a .c2) (a .p1) (a .num-steps)) = sym (unfold steps in list-length _ _ _) in
     wrote-given _ 0 z (flat six) (steps (a .p0) (a .c1) (a .c2) (a .p1) (a .num-steps)) (a .out .now) _ _ refl n
     (omega (arith, f .1, flat-length six 6 (λ s. refl) (steps (a .p0) (a .c1) (a .c2) (a .p1) (a .num-steps))))
-    (c .before .before .put-steps .ensures)
+    (c .before .before .put-steps .ensures .0)
 
 pub linearize-bezier-spec : {M : Type 1} → statement M
 linearize-bezier-spec =

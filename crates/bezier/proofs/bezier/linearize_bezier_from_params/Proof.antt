@@ -64,7 +64,7 @@ returns-3 c = let a = c .before .before .before .before .before .before .before 
     let room : 6 * length (paramSteps (a .end) (a .control1) (a .control2) (a .start-point) (a .resolution)) ≤ length (a .out .now) = subst (λ (k : ℕ). 6 * k ≤ length (a .out .now)) n (c .before .before .before .before .before .before .if3 .left) in
     wrote-given _ 0 (param-accepted _ _ _ _ _ _ _ z (c .before .before .before .before .before .before .before .before .before .steps-needed .ensures) (c .before .before .before .before .before .before .before .before .if2 .taken) room) (flat six) (paramSteps (a .end) (a .control1) (a .control2) (a .start-point) (a .resolution)) (a .out .now) _ _ refl n
     (omega (arith, room, flat-length six 6 (λ s. refl) (paramSteps (a .end) (a .control1) (a .control2) (a .start-point) (a .resolution))))
-    (c .before .before .put-steps .ensures ∙ unfold paramSteps in rw (c .before .before .before .before .before .first-third .ensures, c .before .before .before .before .last-third .ensures, c .before .before .before .before .before .before .before .whole-steps .ensures .0, c .before .before .before .before .before .before .before .before .before .steps-needed .ensures))
+    (c .before .before .put-steps .ensures .0 ∙ unfold paramSteps in rw (c .before .before .before .before .before .first-third .ensures, c .before .before .before .before .last-third .ensures, c .before .before .before .before .before .before .before .whole-steps .ensures .0, c .before .before .before .before .before .before .before .before .before .steps-needed .ensures))
 
 returns-4 : tie.Need-returns-4
 unfolding paramCall

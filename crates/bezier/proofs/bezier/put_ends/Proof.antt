@@ -23,20 +23,20 @@ last-third-requires c κs = search needs
 loop-holds : tie.Need-loop-holds Inv-loop μ-loop
 loop-holds c = writing-at-start stepEnd 3 (λ s. refl) (stepAt (c .before .before .before .args .start-point) (c .before .first-third .result) (c .last-third .result) (c .before .before .before .args .end) (c .before .before .before .args .n)) (c .before .before .before .args .n) (c .before .before .before .args .at) (c .before .before .before .args .out .now)
 
-add-share-of : tie.Need-add-share-of Inv-loop μ-loop
-add-share-of c = omega (arith, c .before .before .before .before .before .pre)
+add-at : tie.Need-add-at Inv-loop μ-loop
+add-at c = omega (arith, c .before .before .before .before .before .pre)
 
-share-of-requires : tie.Need-share-of-requires Inv-loop μ-loop
-share-of-requires c κs = search needs
-
-point-on-3d-requires : tie.Need-point-on-3d-requires Inv-loop μ-loop
-point-on-3d-requires c κs = search needs
+at-requires : tie.Need-at-requires Inv-loop μ-loop
+at-requires c κs = omega (arith, c .before .before .before .before .before .pre, c .loop-test .taken)
 
 add-put-point : tie.Need-add-put-point Inv-loop μ-loop
-add-put-point c = omega (arith, c .before .before .before .before .before .before .before .before .pre, c .before .before .before .loop-test .taken)
+add-put-point c = omega (arith, c .before .before .before .before .before .before .before .pre, c .before .before .loop-test .taken)
 
 mul-put-point : tie.Need-mul-put-point Inv-loop μ-loop
-mul-put-point c = omega (arith, c .before .before .before .before .before .before .before .before .pre, c .before .before .before .loop-test .taken)
+mul-put-point c = omega (arith, c .before .before .before .before .before .before .before .pre, c .before .before .loop-test .taken)
+
+point-requires : tie.Need-point-requires Inv-loop μ-loop
+point-requires c κs = search needs
 
 put-point-requires : tie.Need-put-point-requires Inv-loop μ-loop
 put-point-requires c κs = omega (arith, c .before .before .before .before .before .before .before .before .pre, c .before .before .before .loop-test .taken, c .before .before .before .before .loop .inv .long)
@@ -50,7 +50,7 @@ loop-less c = omega (arith, c .before .before .before .before .before .before .l
 loop-again : tie.Need-loop-again Inv-loop μ-loop
 unfolding stepAt
 loop-again c = let a = c .before .before .before .before .before .before .before .before .before .before .before .args in
-    writing-at-step stepEnd 3 (λ s. refl) (stepAt (a .start-point) (c .before .before .before .before .before .before .before .before .before .first-third .result) (c .before .before .before .before .before .before .before .before .last-third .result) (a .end) (a .n)) (a .n) (a .at) (a .out .now) (c .before .before .before .before .before .before .before .loop .out) _ (c .before .before .before .before .before .before .before .loop .i) (c .before .before .before .before .before .before .before .loop .inv) (c .before .before .before .before .before .before .loop-test .taken) (c .before .before .put-point .ensures ∙ rw (c .before .before .before .before .point-on-3d .ensures, c .before .before .before .before .before .share-of .ensures))
+    writing-at-step stepEnd 3 (λ s. refl) (stepAt (a .start-point) (c .before .before .before .before .before .before .before .before .before .first-third .result) (c .before .before .before .before .before .before .before .before .last-third .result) (a .end) (a .n)) (a .n) (a .at) (a .out .now) (c .before .before .before .before .before .before .before .loop .out) _ (c .before .before .before .before .before .before .before .loop .i) (c .before .before .before .before .before .before .before .loop .inv) (c .before .before .before .before .before .before .loop-test .taken) (c .before .before .put-point .ensures ∙ rw (c .before .before .before .point .ensures, c .before .before .before .before .before .at .ensures .0))
 
 same-length : tie.Need-same-length Inv-loop μ-loop
 same-length c = c .before .loop .inv .long
@@ -69,11 +69,11 @@ put-ends-spec =
     first-third-requires
     last-third-requires
     loop-holds
-    add-share-of
-    share-of-requires
-    point-on-3d-requires
+    add-at
+    at-requires
     add-put-point
     mul-put-point
+    point-requires
     put-point-requires
     add-i
     loop-less

@@ -6,7 +6,7 @@ use borrow.Author.Needs.{needs}
 use lib.Pow.{pow-pos}
 use Rattle.geo.specs.Lent.{triple}
 use Rattle.geo.proofs.Placed.{placed-one, placed-both}
-use Rattle.subdivision.proofs.Halving.{flattened-length, flattened-end, flattened-flat, flattened-halves, half-power}
+use Rattle.subdivision.proofs.Halving.{flattened-few, flattened-end, flattened-flat, flattened-halves, half-power}
 use Prim.Native.Nat.{ℕ, _<_}
 use borrow.Fn.Kinds.{In}
 use borrow.Fn.PlainCycle.{Measures, is, falls, and}
@@ -103,18 +103,18 @@ flatten-bezier-sub-flatten-bezier-2 t c = let h = c .before .before .before .bef
 flatten-bezier-add-flatten-bezier : (t : ℕ) → flatten-bezier-lts.Need-add-flatten-bezier (claims t) (flatten-bezier-at t) flatten-bezier.Post
 flatten-bezier-add-flatten-bezier t c = let a = c .before .before .before .before .before .before .before .before .before .before .before .before .before .before .before .args in
     let h = c .before .before .before .before .before .before .before .before .before .before .before .before .before .if1 .left in
-    omega (arith, c .before .before .before .before .before .before .before .before .before .before .before .before .before .before .before, half-power (a .depth) h, c .before .before .before .flatten-bezier .ensures .count, flattened-length (a .tolerance-sq) (a .depth - 1) (a .a) (c .before .before .before .before .before .before .before .before .before .before .midpoint-3d .result) (c .before .before .before .before .before .before .before .midpoint-3d4 .result) (c .before .before .before .before .before .midpoint-3d6 .result))
+    omega (arith, c .before .before .before .before .before .before .before .before .before .before .before .before .before .before .before, half-power (a .depth) h, flattened-few _ _ _ _ _ _ (c .before .before .before .flatten-bezier .ensures))
 
 flatten-bezier-flatten-bezier-requires-2 :
     (t : ℕ) → flatten-bezier-lts.Need-flatten-bezier-requires-2 (claims t) (flatten-bezier-at t) flatten-bezier.Post
 flatten-bezier-flatten-bezier-requires-2 t c κs = let a = c .before .before .before .before .before .before .before .before .before .before .before .before .before .before .before .args in
     let h = c .before .before .before .before .before .before .before .before .before .before .before .before .before .if1 .left in
-    omega (arith, c .before .before .before .before .before .before .before .before .before .before .before .before .before .before .before .pre, half-power (a .depth) h, c .before .before .before .flatten-bezier .ensures .count, flattened-length (a .tolerance-sq) (a .depth - 1) (a .a) (c .before .before .before .before .before .before .before .before .before .before .midpoint-3d .result) (c .before .before .before .before .before .before .before .midpoint-3d4 .result) (c .before .before .before .before .before .midpoint-3d6 .result), c .before .before .before .flatten-bezier .kept .1 .1 .1 .1 .1 .1 .0)
+    omega (arith, c .before .before .before .before .before .before .before .before .before .before .before .before .before .before .before .pre, half-power (a .depth) h, flattened-few _ _ _ _ _ _ (c .before .before .before .flatten-bezier .ensures), c .before .before .before .flatten-bezier .kept .1 .1 .1 .1 .1 .1 .0)
 
 flatten-bezier-add-result : (t : ℕ) → flatten-bezier-lts.Need-add-result (claims t) (flatten-bezier-at t) flatten-bezier.Post
 flatten-bezier-add-result t c = let a = c .before .before .before .before .before .before .before .before .before .before .before .before .before .before .before .before .before .before .args in
     let h = c .before .before .before .before .before .before .before .before .before .before .before .before .before .before .before .before .if1 .left in
-    omega (arith, c .before .before .before .before .before .before .before .before .before .before .before .before .before .before .before .before .before .before, half-power (a .depth) h, c .before .before .before .before .before .before .flatten-bezier .ensures .count, c .before .before .flatten-bezier2 .ensures .count, flattened-length (a .tolerance-sq) (a .depth - 1) (a .a) (c .before .before .before .before .before .before .before .before .before .before .before .before .before .midpoint-3d .result) (c .before .before .before .before .before .before .before .before .before .before .midpoint-3d4 .result) (c .before .before .before .before .before .before .before .before .midpoint-3d6 .result), flattened-length (a .tolerance-sq) (a .depth - 1) (c .before .before .before .before .before .before .before .before .midpoint-3d6 .result) (c .before .before .before .before .before .before .before .before .before .midpoint-3d5 .result) (c .before .before .before .before .before .before .before .before .before .before .before .midpoint-3d3 .result) (a .d))
+    omega (arith, c .before .before .before .before .before .before .before .before .before .before .before .before .before .before .before .before .before .before, half-power (a .depth) h, flattened-few _ _ _ _ _ _ (c .before .before .before .before .before .before .flatten-bezier .ensures), flattened-few _ _ _ _ _ _ (c .before .before .flatten-bezier2 .ensures))
 
 flatten-bezier-same-length-3 : (t : ℕ) → flatten-bezier-lts.Need-same-length-3 (claims t) (flatten-bezier-at t) flatten-bezier.Post
 flatten-bezier-same-length-3 t c = c .before .before .flatten-bezier2 .kept .1 .1 .1 .1 .1 .1 .0 ∙ c .before .before .before .before .before .before .flatten-bezier .kept .1 .1 .1 .1 .1 .1 .0

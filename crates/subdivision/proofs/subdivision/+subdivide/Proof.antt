@@ -6,7 +6,7 @@ use borrow.Author.Needs.{needs}
 use lib.Pow.{pow-pos}
 use Rattle.geo.specs.Lent.{pair}
 use Rattle.geo.proofs.Placed.{placed-one, placed-both}
-use Rattle.subdivision.proofs.Halving.{subdivided-length, subdivided-end, subdivided-flat, subdivided-halves, half-power}
+use Rattle.subdivision.proofs.Halving.{subdivided-few, subdivided-end, subdivided-flat, subdivided-halves, half-power}
 use Prim.Native.Nat.{ℕ, _<_}
 use borrow.Fn.Kinds.{In}
 use borrow.Fn.PlainCycle.{Measures, is, falls, and}
@@ -78,17 +78,17 @@ subdivide-sub-subdivide-2 t c = let h = c .before .before .before .before .befor
 subdivide-add-subdivide : (t : ℕ) → subdivide-lts.Need-add-subdivide (claims t) (subdivide-at t) subdivide.Post
 subdivide-add-subdivide t c = let a = c .before .before .before .before .before .before .before .before .before .before .before .before .args in
     let h = c .before .before .before .before .before .before .before .before .before .before .if1 .left in
-    omega (arith, c .before .before .before .before .before .before .before .before .before .before .before .before, half-power (a .depth) h, c .before .before .before .subdivide .ensures .count, subdivided-length (a .depth - 1) (a .tolerance-sq) (c .before .before .before .before .before .before .before .of .result .left))
+    omega (arith, c .before .before .before .before .before .before .before .before .before .before .before .before, half-power (a .depth) h, subdivided-few _ _ _ (c .before .before .before .subdivide .ensures))
 
 subdivide-subdivide-requires-2 : (t : ℕ) → subdivide-lts.Need-subdivide-requires-2 (claims t) (subdivide-at t) subdivide.Post
 subdivide-subdivide-requires-2 t c κs = let a = c .before .before .before .before .before .before .before .before .before .before .before .before .args in
     let h = c .before .before .before .before .before .before .before .before .before .before .if1 .left in
-    omega (arith, c .before .before .before .before .before .before .before .before .before .before .before .before .pre, half-power (a .depth) h, c .before .before .before .subdivide .ensures .count, subdivided-length (a .depth - 1) (a .tolerance-sq) (c .before .before .before .before .before .before .before .of .result .left), c .before .before .before .subdivide .kept .1 .1 .1 .0)
+    omega (arith, c .before .before .before .before .before .before .before .before .before .before .before .before .pre, half-power (a .depth) h, subdivided-few _ _ _ (c .before .before .before .subdivide .ensures), c .before .before .before .subdivide .kept .1 .1 .1 .0)
 
 subdivide-add-result : (t : ℕ) → subdivide-lts.Need-add-result (claims t) (subdivide-at t) subdivide.Post
 subdivide-add-result t c = let a = c .before .before .before .before .before .before .before .before .before .before .before .before .before .before .before .args in
     let h = c .before .before .before .before .before .before .before .before .before .before .before .before .before .if1 .left in
-    omega (arith, c .before .before .before .before .before .before .before .before .before .before .before .before .before .before .before, half-power (a .depth) h, c .before .before .before .before .before .before .subdivide .ensures .count, c .before .before .subdivide2 .ensures .count, subdivided-length (a .depth - 1) (a .tolerance-sq) (c .before .before .before .before .before .before .before .before .before .before .of .result .left), subdivided-length (a .depth - 1) (a .tolerance-sq) (c .before .before .before .before .before .before .before .before .before .before .of .result .right))
+    omega (arith, c .before .before .before .before .before .before .before .before .before .before .before .before .before .before .before, half-power (a .depth) h, subdivided-few _ _ _ (c .before .before .before .before .before .before .subdivide .ensures), subdivided-few _ _ _ (c .before .before .subdivide2 .ensures))
 
 subdivide-same-length-3 : (t : ℕ) → subdivide-lts.Need-same-length-3 (claims t) (subdivide-at t) subdivide.Post
 subdivide-same-length-3 t c = c .before .before .subdivide2 .kept .1 .1 .1 .0 ∙ c .before .before .before .before .before .before .subdivide .kept .1 .1 .1 .0

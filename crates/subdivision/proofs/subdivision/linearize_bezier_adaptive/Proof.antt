@@ -10,7 +10,7 @@ use Rattle.geo.proofs.Placed.{placed-front}
 use Rattle.geo.proofs.Rows.{accepted, not-zero}
 use Rattle.geo.proofs.Outcomes.{wrote-refused, wrote-given, wrote-same}
 use Rattle.subdivision.specs.Flatten.{subdivided}
-use Rattle.subdivision.proofs.Halving.{subdivided-length}
+use Rattle.subdivision.proofs.Halving.{subdivided-few, subdivided-length}
 use Rattle.subdivision.proofs.Rows.{adaptive-passed, adaptive-at}
 use Rattle.subdivision.proofs.subdivision.linearize_bezier_adaptive.Statement.{statement}
 use Rattle.subdivision.proofs.subdivision.linearize_bezier_adaptive.Tie as tie
@@ -41,7 +41,7 @@ add-t11 : tie.Need-add-t11
 add-t11 c = let a = c .before .before .before .before .before .before .before .before .before .before .before .before .args in
     let q = c .before .before .before .before .before .before .before .before .before .before .new .result in
     let f = adaptive-passed q (a .tolerance-sq) (a .max-depth) _ (accepted _ _ (c .before .before .before .before .before .before .before .before .before .check-adaptive .ensures) (c .before .before .before .before .before .before .before .before .if1 .left)) in
-    omega (arith, c .before .before .before .before .before .before .before .before .before .before .before .before, c .before .before .subdivide .ensures .count, subdivided-length (a .max-depth) (a .tolerance-sq) q)
+    omega (arith, c .before .before .before .before .before .before .before .before .before .before .before .before, subdivided-few _ _ _ (c .before .before .subdivide .ensures))
 
 same-length : tie.Need-same-length
 same-length c = search needs

@@ -11,7 +11,7 @@ use Rattle.geo.proofs.Rows.{accepted, not-zero}
 use Rattle.geo.proofs.Outcomes.{wrote-refused, wrote-given, wrote-same}
 use Rattle.subdivision.specs.Flatten.{flattened}
 use Rattle.subdivision.specs.Calls.{mostDepth}
-use Rattle.subdivision.proofs.Halving.{flattened-length}
+use Rattle.subdivision.proofs.Halving.{flattened-few, flattened-length}
 use Rattle.subdivision.proofs.Rows.{segment-passed, segment-at}
 use borrow.Author.Needs.{needs}
 use Rattle.subdivision.proofs.subdivision.linearize_bezier_segment.Statement.{statement}
@@ -42,7 +42,7 @@ flatten-bezier-requires c κs = let a = c .before .before .before .before .befor
 add-t10 : tie.Need-add-t10
 add-t10 c = let a = c .before .before .before .before .before .before .before .before .before .before .before .before .args in
     let t = c .before .before .before .before .before .before .before .before .before .before .value .result in
-    omega (arith, c .before .before .flatten-bezier .ensures .count, flattened-length (t ⊗ t) mostDepth (a .p0) (a .c1) (a .c2) (a .p1))
+    omega (arith, flattened-few _ _ _ _ _ _ (c .before .before .flatten-bezier .ensures))
 
 same-length : tie.Need-same-length
 same-length c = search needs

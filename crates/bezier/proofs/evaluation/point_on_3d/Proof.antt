@@ -1,8 +1,8 @@
--- `bezier::bezier::point_on_3d` meets its contract: the weights once, and each coordinate by them. Assumes nothing.
+-- `bezier::evaluation::point_on_3d` meets its contract: the weights once, and each coordinate by them. Assumes nothing.
 use Rattle.bezier.specs.Curve.{pointOn3}
 use borrow.Author.Needs.{needs}
-use Rattle.bezier.proofs.bezier.point_on_3d.Statement.{statement}
-use Rattle.bezier.proofs.bezier.point_on_3d.Tie as tie
+use Rattle.bezier.proofs.evaluation.point_on_3d.Statement.{statement}
+use Rattle.bezier.proofs.evaluation.point_on_3d.Tie as tie
 
 at-requires : tie.Need-at-requires
 at-requires c κs = search needs
