@@ -1,0 +1,197 @@
+"""The commands of coach.py: each takes the files of the command and the words that were given, and may answer a line to
+say."""
+import math
+
+import listing
+from bends import Limits
+from earth import Plane
+from fitting import TIMES_NOISE, TRIED, advised, check_fit, count, fit_line, fitted_pieces, noise
+from geometry import farthest, strokes_of
+from lapfile import BEZIER, commands_of, file_of
+from page import page_of
+from picture import picture_of, svg_of
+from pieces import lap_pieces
+from progress import watched
+from proved import fitted_bytes, replaced_bytes
+from rows import part_rows, piece_rows
+from strides import read_counts, sheet, strides_text
+from trouble import Refused, Trouble
+from gpx import gpx_text
+from workout import Choices, Workout, check_laps, read_workout, workout_text
+
+
+def recording(files, name, words, **more):
+    """The workout of a file, read as the words say."""
+    choices = Choices(words.columns, words.laps_at, words.renumber, **more)
+    return read_workout(files.read(name), name, choices)
+
+
+def told(line, *outputs):
+    """One line about what was done, and whether it must keep off standard output, which has an output's bytes."""
+    return "-" in outputs, line
+
+
+def read(files, words):
+    workout = recording(files, words.recording, words)
+    files.save((words.workout, workout_text(workout).encode()))
+    return told(summary(workout), words.workout)
+
+
+def summary(workout):
+    spent = sum(lap[-1].time - lap[0].time for lap in workout.laps)
+    return f"{count(sum(map(len, workout.laps)), 'position')} in {count(len(workout.laps), 'lap')}, {spent:.2f} s in all"
+
+
+def make(files, words):
+    workout = recording(files, words.workout, words)
+    files.save((words.recorded, file_of(workout.laps)))
+    return told(summary(workout), words.recorded)
+
+
+def fit(files, words):
+    recorded = files.read(words.recorded)
+    fitted = fitted_bytes(words.tolerance, recorded, words.recorded)
+    line = fit_line(commands_of(recorded, words.recorded), commands_of(fitted, words.recorded))
+    files.save((words.fitted, fitted))
+    return told(line, words.fitted)
+
+
+def seen(files, words):
+    """The workout and the pieces of its laps; a fitted file that was given is checked against them."""
+    workout = recording(files, words.workout, words)
+    if words.fit:
+        check_fit(workout, words.tolerance, words.workout, files.read(words.fit), words.fit)
+    return workout, fitted_pieces(workout, words.tolerance, words.workout)
+
+
+def limits_of(words):
+    return Limits(words.flat, words.turn, words.misfit, words.short)
+
+
+def plane_of(words, workout=None):
+    """Where the metres are on the earth: as given, or as the workout says."""
+    origin = words.origin or (workout.origin if workout else None)
+    return Plane(*origin) if origin else None
+
+
+def save_rows(files, words, rows, workout, text):
+    shapes = {
+        "text": lambda: text,
+        "csv": lambda: listing.as_csv(rows),
+        "json": lambda: listing.as_json(rows, words.tolerance),
+        "geojson": lambda: listing.as_geojson(rows, words.tolerance, plane_of(words, workout)),
+    }
+    files.save((words.to, shapes[words.shape]().encode()))
+
+
+def list_pieces(files, words):
+    workout, pieces = seen(files, words)
+    rows = list(piece_rows(workout.laps, pieces))
+    save_rows(files, words, rows, workout, listing.text(rows))
+
+
+def bends(files, words):
+    workout, pieces = seen(files, words)
+    rows = list(part_rows(workout.laps, pieces, words.tolerance, limits_of(words)))
+    save_rows(files, words, rows, workout, listing.text(rows) + listing.beside(rows))
+
+
+def strides(files, words):
+    workout, pieces = seen(files, words)
+    rows = list(part_rows(workout.laps, pieces, words.tolerance, limits_of(words)))
+    counts = read_counts(files.read(words.counts), words.counts)
+    files.save((words.to, strides_text(counts, rows, words.track, words.far).encode()))
+
+
+def print_sheet(files, words):
+    files.save((words.to, sheet(words.laps).encode()))
+
+
+def advise(files, words):
+    """Fits at several tolerances, and says which it would take."""
+    workout = recording(files, words.workout, words)
+    lines = ["tolerance  pieces  bends and straights  farthest position"]
+    for tolerance in watched(words.tolerances or TRIED, len(words.tolerances or TRIED), "fitting"):
+        pieces = fitted_pieces(workout, tolerance, words.workout)
+        rows = [row for row in part_rows(workout.laps, pieces, tolerance, Limits()) if row.part != "whole"]
+        gaps = [farthest([p.place for p in lap], [p.stroke for p in own])[0] for lap, own in zip(workout.laps, pieces)]
+        lines.append(f"{tolerance:7g} m {sum(map(len, pieces)):7} {len(rows):20} {max(gaps):16.2f} m")
+    lines += advice(noise(workout.laps), words.tolerances or TRIED)
+    files.save((words.to, ("\n".join(lines) + "\n").encode()))
+
+
+def advice(spread, tolerances):
+    """Which tolerance, and why."""
+    if spread is None:
+        return ["no advice: the noise shows on four positions at even times, and there are none"]
+    error = f"from one position to the next, the receiver's error is about {spread:.2f} m"
+    best = advised(spread, tolerances)
+    if best is None:
+        return [f"{error}: more than a third of every tolerance above, so each of them would fit the noise; try "
+                f"{math.ceil(TIMES_NOISE * spread)} m and more"]
+    return [f"{error}; I would take {best:g} m: it is the least of these that is {TIMES_NOISE:g} times that,",
+            "so that noise alone seldom makes a piece. A finer one cuts the noise into pieces, a coarser one cuts bends late."]
+
+
+def replace(files, words):
+    """Puts another recording in the place of a lap; the workout and its fit are written together."""
+    workout = recording(files, words.workout, words)
+    given = files.read(words.fitted)
+    if not 1 <= words.lap <= len(workout.laps):
+        raise Refused(7)
+    check_fit(workout, words.tolerance, words.workout, given, words.fitted)
+    choices = Choices(alone=True, part_of=workout)
+    new = read_workout(files.read(words.new_lap), words.new_lap, choices)
+    laps = workout.laps[:words.lap - 1] + new.laps + workout.laps[words.lap:]
+    check_laps(laps, words.new_lap)
+    recorded = file_of(workout.laps)
+    fitted = replaced_bytes(recorded, given, words.lap, file_of(new.laps), words.tolerance, words.workout)
+    corrected = Workout(laps, workout.origin, workout.start)
+    line = fit_line(commands_of(file_of(laps), words.new_lap), commands_of(fitted, words.new_lap))
+    files.save((words.new_workout, workout_text(corrected).encode()), (words.new_fitted, fitted))
+    return told(line, words.new_workout, words.new_fitted)
+
+
+def text(files, words):
+    lines = ["# lap kind, then nine numbers"]
+    for number, commands in enumerate(commands_of(files.read(words.file), words.file), 1):
+        lines += (" ".join(map(str, (number, "MLAB"[kind], *numbers))) for kind, *numbers in commands)
+    files.save((words.to, ("\n".join(lines) + "\n").encode()))
+
+
+def gpx(files, words):
+    """A lap file as GPX: times, where a workout gives them, stand at recorded positions alone."""
+    laps = commands_of(files.read(words.file), words.file)
+    workout = recording(files, words.workout, words) if words.workout else None
+    plane = plane_of(words, workout)
+    if plane is None:
+        raise Trouble("these metres have no place on the earth: --origin LAT,LON or --workout WORKOUT gives them one")
+    if any(command[0] == BEZIER for commands in laps for command in commands):
+        raise Trouble(f"{words.file}: has a Bezier; fit it first")
+    if workout and len(workout.laps) != len(laps):
+        raise Refused(3, f"{words.workout} and {words.file}")
+    tracks = [track(commands, workout, lap, plane) for lap, commands in enumerate(laps)]
+    files.save((words.gpx, gpx_text(tracks, words.file).encode()))
+
+
+def track(commands, workout, lap, plane):
+    """The points of a lap: latitude, longitude, height, and Unix time where it is known."""
+    positions = workout.laps[lap] if workout else None
+    start = workout.start if workout else None
+    pieces = list(lap_pieces(positions, commands, lap + 1)) if workout else None
+    points = [(tuple(commands[0][1:4]), positions[0].time if workout else None)]
+    for i, stroke in enumerate(strokes_of(commands)):
+        *inner, end = stroke.points(listing.SAGITTA)
+        points += [(place, None) for place in inner]
+        points.append((end, positions[pieces[i].last].time if workout else None))
+    return [(*plane.degrees(*place[:2]), place[2] + plane.origin[2], None if start is None or time is None else start + time)
+            for place, time in points]
+
+
+def draw(files, words):
+    workout, pieces = seen(files, words)
+    old = recording(files, words.old, words) if words.old else None
+    before = (old, fitted_pieces(old, words.tolerance, words.old)) if old else None
+    drawn = picture_of(workout, pieces, words.tolerance, limits_of(words), before)
+    shape = page_of if words.picture.lower().endswith((".html", ".htm")) else svg_of
+    files.save((words.picture, shape(drawn).encode()))
