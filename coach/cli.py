@@ -7,7 +7,7 @@ import sys
 import commands
 from bends import Limits
 from files import Files
-from trouble import ENDED, INTERRUPTED, OUTPUT, PIPE, STATUSES, Trouble
+from trouble import DONE, ENDED, INTERRUPTED, OUTPUT, PIPE, STATUSES, Trouble
 
 ABOUT = """Recorded laps as straights and bends, for the coach and the student.
 
@@ -82,6 +82,21 @@ COMMANDS = {
              ("reading", "fit", "limits", "force")),
 }
 KINDS = {"tolerance": float, "lap": int}
+MEANINGS = {
+    "recording": "what a watch gives: GPX or a table",
+    "workout": "a recording, or a workout's text",
+    "tolerance": "in metres, 0.001 to 1,000",
+    "recorded": "a lap file of recorded positions",
+    "fitted": "a fitted lap file",
+    "counts": "counted strides, a line each: lap, bend1 or straight1 or whole, strides",
+    "lap": "the number of a lap, from 1",
+    "new_lap": "a recording of one lap",
+    "new_workout": "the corrected workout's text, to be written",
+    "new_fitted": "its fit, to be written",
+    "file": "a lap file",
+    "gpx": "the GPX file to be written",
+    "picture": "the picture to be written, .svg or .html",
+}
 
 
 def special(name, parser):
@@ -109,13 +124,14 @@ def parser():
         sub = found.add_parser(name, help=about, description=about, epilog=STATUSES, formatter_class=shape,
                                parents=[shared[option] for option in options])
         for word in words:
-            sub.add_argument(word, metavar=word.upper(), type=KINDS.get(word, str))
+            sub.add_argument(word, metavar=word.upper(), type=KINDS.get(word, str), help=MEANINGS[word])
         special(name, sub)
         sub.set_defaults(function=function)
     return whole
 
 
 def ended(*_):
+    """Ends by way of every clean-up, where the system would end at once."""
     raise SystemExit(ENDED)
 
 
@@ -129,10 +145,11 @@ def tell(told):
 
 def main(arguments):
     words = parser().parse_args(arguments)
-    signal.signal(signal.SIGTERM, ended)
     try:
+        for number in (signal.SIGTERM, signal.SIGHUP):
+            signal.signal(number, ended)
         tell(words.function(Files(words.force), words))
-        return 0
+        return DONE
     except KeyboardInterrupt:
         return INTERRUPTED
     except BrokenPipeError:

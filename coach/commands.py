@@ -1,29 +1,26 @@
 """The commands of coach.py: each takes the files of the command and the words that were given, and may answer a line to
 say."""
-import math
-
 import listing
+from advice import TRIED, advice_text
 from bends import Limits
 from earth import Plane
-from fitting import TIMES_NOISE, TRIED, advised, check_fit, count, fit_line, fitted_pieces, noise
-from geometry import farthest, strokes_of
+from fitting import check_fit, count, fit_line, fitted_pieces
+from geometry import strokes_of
+from gpx import gpx_text
 from lapfile import BEZIER, commands_of, file_of
 from page import page_of
 from picture import picture_of, svg_of
 from pieces import lap_pieces
-from progress import watched
 from proved import fitted_bytes, replaced_bytes
 from rows import part_rows, piece_rows
 from strides import read_counts, sheet, strides_text
 from trouble import Refused, Trouble
-from gpx import gpx_text
 from workout import Choices, Workout, check_laps, read_workout, workout_text
 
 
-def recording(files, name, words, **more):
+def recording(files, name, words):
     """The workout of a file, read as the words say."""
-    choices = Choices(words.columns, words.laps_at, words.renumber, **more)
-    return read_workout(files.read(name), name, choices)
+    return read_workout(files.read(name), name, Choices(words.columns, words.laps_at, words.renumber))
 
 
 def told(line, *outputs):
@@ -92,8 +89,10 @@ def list_pieces(files, words):
 
 def bends(files, words):
     workout, pieces = seen(files, words)
-    rows = list(part_rows(workout.laps, pieces, words.tolerance, limits_of(words)))
-    save_rows(files, words, rows, workout, listing.text(rows) + listing.beside(rows))
+    limits = limits_of(words)
+    rows = list(part_rows(workout.laps, pieces, words.tolerance, limits))
+    text = listing.text(rows) + listing.beside(rows) + listing.limits_line(limits, words.tolerance)
+    save_rows(files, words, rows, workout, text)
 
 
 def strides(files, words):
@@ -108,29 +107,8 @@ def print_sheet(files, words):
 
 
 def advise(files, words):
-    """Fits at several tolerances, and says which it would take."""
     workout = recording(files, words.workout, words)
-    lines = ["tolerance  pieces  bends and straights  farthest position"]
-    for tolerance in watched(words.tolerances or TRIED, len(words.tolerances or TRIED), "fitting"):
-        pieces = fitted_pieces(workout, tolerance, words.workout)
-        rows = [row for row in part_rows(workout.laps, pieces, tolerance, Limits()) if row.part != "whole"]
-        gaps = [farthest([p.place for p in lap], [p.stroke for p in own])[0] for lap, own in zip(workout.laps, pieces)]
-        lines.append(f"{tolerance:7g} m {sum(map(len, pieces)):7} {len(rows):20} {max(gaps):16.2f} m")
-    lines += advice(noise(workout.laps), words.tolerances or TRIED)
-    files.save((words.to, ("\n".join(lines) + "\n").encode()))
-
-
-def advice(spread, tolerances):
-    """Which tolerance, and why."""
-    if spread is None:
-        return ["no advice: the noise shows on four positions at even times, and there are none"]
-    error = f"from one position to the next, the receiver's error is about {spread:.2f} m"
-    best = advised(spread, tolerances)
-    if best is None:
-        return [f"{error}: more than a third of every tolerance above, so each of them would fit the noise; try "
-                f"{math.ceil(TIMES_NOISE * spread)} m and more"]
-    return [f"{error}; I would take {best:g} m: it is the least of these that is {TIMES_NOISE:g} times that,",
-            "so that noise alone seldom makes a piece. A finer one cuts the noise into pieces, a coarser one cuts bends late."]
+    files.save((words.to, advice_text(workout, words.tolerances or TRIED, words.workout).encode()))
 
 
 def replace(files, words):

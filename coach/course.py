@@ -11,6 +11,7 @@ from listing import clock
 WIDTH, HEAD = 380, 40
 BESIDE, ABOVE = 50, 34            # pixels left for writing beside a course, and above and below it
 LEAST, MOST = 100, 420            # pixels of the height that a course is drawn in
+SMALLEST = 1.0                    # metres: a smaller course is drawn as if it had this size
 TICK, BORDER, START = 4.5, 8, 11
 SMALL, LARGE, SHARE = 0.5, 1.3, 0.25  # pixels of a dot; and at most this share of the way to the next one
 LABEL, ARROW = 17, 9              # pixels from the course to the pace, and to the arrow
@@ -28,11 +29,11 @@ class Frame:
     @staticmethod
     def of(places):
         xs, ys = [p[0] for p in places], [p[1] for p in places]
-        wide, high = max(xs) - min(xs) or 1e-3, max(ys) - min(ys) or 1e-3
+        wide, high = (max(SMALLEST, max(axis) - min(axis)) for axis in (xs, ys))
         scale = min((WIDTH - 2 * BESIDE) / wide, (MOST - 2 * ABOVE) / high)
         height = max(LEAST, high * scale + 2 * ABOVE)
-        left = min(xs) - (WIDTH / scale - wide) / 2
-        top = max(ys) + (height / scale - high) / 2
+        left = (min(xs) + max(xs) - WIDTH / scale) / 2
+        top = (min(ys) + max(ys) + height / scale) / 2
         return Frame(left, top, scale, height)
 
     def at(self, place):
@@ -154,8 +155,9 @@ def lap_drawing(name, number, positions, rows, frame):
     places = [position.place for position in positions]
     centre = [(min(axis) + max(axis)) / 2 for axis in zip(*places)]
     far = farthest(places, strokes)[0]
-    yield f'<text class="name" x="12" y="18">{name}: {clock(whole.pace)} a km</text>'
-    yield f'<text class="small" x="12" y="33">{whole.length:.0f} m in {whole.time:.1f} s; farthest position {far:.2f} m off</text>'
+    head = f'<text class="name" x="12" y="18">{name}: {clock(whole.pace)} a km</text>' \
+        f'<text class="small" x="12" y="33">{whole.length:.0f} m in {whole.time:.1f} s; farthest position {far:.2f} m off</text>'
+    yield titled("g", f'class="lap" data-row="{number}-whole"', told(whole), head)
     for row in parts:
         kind = "bend" if row.part.startswith("bend") else "straight"
         line = path_of(row.strokes, frame)

@@ -105,7 +105,8 @@ class Place:
         """Writes the bytes beside the place, down to the disk."""
         folder, base = os.path.split(self.real)
         try:
-            handle, self.beside = tempfile.mkstemp(prefix=f".{base}.", suffix=".part", dir=folder)
+            with signals_held():
+                handle, self.beside = tempfile.mkstemp(prefix=f".{base}.", suffix=".part", dir=folder)
             with open(handle, "wb") as file:
                 file.write(self.data)
                 file.flush()

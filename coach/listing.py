@@ -48,6 +48,12 @@ def beside(rows):
     return "\n".join(lines) + "\n"
 
 
+def limits_line(limits, tolerance):
+    """What counted as a bend."""
+    return (f"a bend turns by {limits.turn:g} degrees or more, on a radius of {limits.flat:g} m at most; what is shorter than "
+            f"{limits.shortest(tolerance):.1f} m joins what is beside it\n")
+
+
 def order(rows):
     """Parts in the order of their place along a lap, in whichever lap they come last; the whole lap at the end."""
     place = {}
@@ -73,7 +79,11 @@ def as_csv(rows):
 
 
 def as_json(rows, tolerance):
-    return json.dumps({"tolerance_m": tolerance, "rows": list(map(values, rows))}, indent=1) + "\n"
+    return f'{{"tolerance_m": {json.dumps(tolerance)}, "rows": [\n' + one_a_line(map(values, rows)) + "]}\n"
+
+
+def one_a_line(items):
+    return ",\n".join(map(json.dumps, items)) + "\n"
 
 
 def as_geojson(rows, tolerance, plane):
@@ -91,4 +101,4 @@ def as_geojson(rows, tolerance, plane):
             "geometry": {"type": "LineString", "coordinates": line},
             "properties": {**values(r), "tolerance_m": tolerance},
         })
-    return json.dumps({"type": "FeatureCollection", "features": features}, indent=1) + "\n"
+    return '{"type": "FeatureCollection", "features": [\n' + one_a_line(features) + "]}\n"

@@ -1,8 +1,8 @@
 #!/usr/bin/env python3
 """Makes the sample of the exercise, the same on each run. No athlete ran for it, and nobody counted its strides.
 
-  make_workout.py FOLDER     workout.txt, lap3.txt and strides.txt, into a folder
-  make_workout.py --truth    what was run, before the receiver's noise: the pace of each part of each repetition
+  make_workout.py FOLDER [--force]   workout.txt, lap3.txt and strides.txt, into a folder
+  make_workout.py --truth            what was run, before the receiver's noise: the pace of each part of each repetition
 
 Six repetitions of 400 m on a standard track: straights of 84.39 m, bends whose running line has the radius 36.80 m. A
 repetition starts at the finish line and runs bend 1, straight 1, bend 2, straight 2, each at a pace of its own; positions
@@ -17,6 +17,9 @@ import random
 import sys
 from dataclasses import dataclass
 from pathlib import Path
+
+from files import Files
+from trouble import DONE, WORDS, Trouble
 
 SEED = 400
 STRAIGHT, RADIUS = 84.39, 36.80
@@ -141,13 +144,17 @@ def truth(seed):
 def main(words):
     if words == ["--truth"]:
         print("\n".join(truth(SEED)))
-        return 0
-    if len(words) != 1 or words[0].startswith("-"):
+        return DONE
+    if words == ["--help"] or words[1:] not in ([], ["--force"]) or words[:1] in ([], ["--force"]):
         print(__doc__, file=sys.stdout if words == ["--help"] else sys.stderr)
-        return 0 if words == ["--help"] else 2
-    for name, text in sample(SEED).items():
-        (Path(words[0]) / name).write_text("\n".join(text) + "\n")
-    return 0
+        return DONE if words == ["--help"] else WORDS
+    texts = [(str(Path(words[0]) / name), ("\n".join(text) + "\n").encode()) for name, text in sample(SEED).items()]
+    try:
+        Files("--force" in words).save(*texts)
+    except Trouble as trouble:
+        print(f"make_workout.py: {trouble}", file=sys.stderr)
+        return trouble.status
+    return DONE
 
 
 if __name__ == "__main__":

@@ -13,15 +13,16 @@ PAGE_STYLE = """
 SCRIPT = """
   const box = document.getElementById("reading"), first = box.textContent;
   const read = event => {
-    const told = event.target.closest(".part, .field, .position");
+    const told = event.target.closest(".lap, .part, .field, .position");
     document.querySelectorAll(".on").forEach(other => other.classList.remove("on"));
-    if (!told) { if (event.type === "click") box.textContent = first; return; }
-    box.textContent = told.querySelector("title").textContent;
+    const title = told && told.querySelector("title");
+    if (!title) { if (event.type === "click") box.textContent = first; return; }
+    box.textContent = title.textContent;
     const row = told.dataset.row;
     if (row) document.querySelectorAll(`[data-row="${row}"]`).forEach(other => other.classList.add("on"));
   };
   for (const kind of ["mouseover", "click", "focusin"]) document.addEventListener(kind, read);
-  document.querySelectorAll(".part, .field").forEach(part => part.setAttribute("tabindex", "0"));
+  document.querySelectorAll(".lap, .part, .field").forEach(part => part.setAttribute("tabindex", "0"));
 """
 
 
@@ -38,7 +39,7 @@ def page_of(drawn):
 </head>
 <body>
 <h1>{drawn.title}</h1>
-<div id="reading" role="status" aria-live="polite">Point at a bend, a straight or a position, and read it here.</div>
+<div id="reading" role="status" aria-live="polite">Point at a lap's name, a bend, a straight or a position, and read it here.</div>
 <div class="wide">{drawn.key.svg()}</div>
 <div class="laps">
 {laps}

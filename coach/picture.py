@@ -18,6 +18,7 @@ STYLE = """
   .cut, .border, .start, .arrow, .bar { fill: none; stroke: #1f2430; stroke-width: 0.8 }
   .border { stroke-width: 1.4 } .start { stroke-width: 2.4 } .bar { stroke-width: 1.4 }
   .on .line { stroke-width: 3 } .on rect { stroke: #1f2430 }
+  .lap.on .name { text-decoration: underline }
 """
 
 
@@ -67,17 +68,17 @@ def panels_of(workout, pieces, tolerance, limits, old):
 
 def key(frame, tolerance):
     """What the marks stand for, how long a bar is in metres, and the tolerance."""
-    metres = strip.nice(BAR / frame.scale, 1.999) if frame.scale * strip.STEPS[0] < BAR else strip.STEPS[0]
+    metres = strip.nice(BAR / frame.scale, 2)
     bar = metres * frame.scale
     yield '<g class="straight"><path class="line" d="M 12 16 h 26"/></g><text x="44" y="20">straight</text>'
     yield '<g class="bend"><path class="line" d="M 106 16 h 26"/></g><text x="138" y="20">bend</text>'
     yield '<circle class="position" cx="186" cy="16" r="1.3"/><text x="194" y="20">recorded position</text>'
-    yield '<path class="cut" d="M 310 13 v 6"/><text x="318" y="20">cut</text>'
-    yield '<path class="border" d="M 352 9 v 14"/><text x="360" y="20">end of a bend or straight</text>'
-    yield '<path class="start" d="M 522 6 v 20"/><text x="530" y="20">start line</text>'
+    yield '<path class="cut" d="M 310 11.5 v 9"/><text x="318" y="20">cut</text>'
+    yield '<path class="border" d="M 352 8 v 16"/><text x="360" y="20">end of a bend or straight</text>'
+    yield '<path class="start" d="M 522 5 v 22"/><text x="530" y="20">start line</text>'
     yield '<path class="arrow" d="M 602 16 h 18 m -5 -4 l 5 4 l -5 4"/><text x="628" y="20">direction; paces a kilometre</text>'
-    yield f'<path class="bar" d="M 12 38 v 8 h {bar:.2f} v -8"/><text x="{20 + bar:.2f}" y="46">{metres} m</text>'
-    yield f'<text x="194" y="46">tolerance {tolerance:g} m</text>'
+    yield f'<path class="bar" d="M 12 38 v 8 h {bar:.2f} v -8"/><text x="{20 + bar:.2f}" y="46">{metres:g} m</text>'
+    yield f'<text x="260" y="46">tolerance {tolerance:g} m</text>'
 
 
 def picture_of(workout, pieces, tolerance, limits, old=None):

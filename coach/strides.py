@@ -2,7 +2,7 @@
 import re
 import statistics
 
-from table import decoded
+from table import lines_of
 from trouble import Trouble
 
 LINE = re.compile(r"\s*(\d+)[\s,;]+(bend|straight|whole)\s*(\d*)[\s,;]+(\d+)\s*$", re.IGNORECASE)
@@ -12,7 +12,7 @@ SHEET = ("bend 1", "straight 1", "bend 2", "straight 2")
 def read_counts(data, name):
     """Lap, part and count of each line, with its place in the file; a header and lines that start with # are skipped."""
     counts = []
-    for i, line in enumerate(decoded(data).splitlines(), 1):
+    for i, line in enumerate(lines_of(data), 1):
         match = LINE.match(line)
         if match:
             lap, kind, index, strides = match.groups()
@@ -55,7 +55,7 @@ def mark(fitted, by_track, middles, row, strides, far):
 
 def strides_text(counts, rows, track, far):
     """Metres a stride by the fitted length and by the track's, row by row."""
-    found = {(row.lap, row.part): row for row in rows}
+    found = {(row.lap, row.part): row for row in rows if row.length > 0}
     counts = [(found.get((lap, part)), lap, part, strides) for lap, part, strides in with_wholes(counts)]
     fitted = [row.length / strides if row else None for row, _, _, strides in counts]
     by_track = [track_length(part, *track) / strides for _, _, part, strides in counts]

@@ -5,7 +5,7 @@ from listing import clock
 LEFT, RIGHT, HIGH, GAP, HEAD = 104, 62, 22, 4, 42
 WIDEST = 3 * WIDTH
 PALE, DEEP = (247, 240, 222), (120, 178, 205)  # of the slowest and the fastest pace; dark writing shows on both
-STEPS = (1, 2, 5, 10, 20, 50, 100, 200, 500, 1000, 2000, 5000, 10000, 20000, 50000, 100000)
+STEPS = [digit * 10.0 ** power for power in range(-3, 7) for digit in (1, 2, 5)]
 
 
 def nice(length, most):
@@ -29,10 +29,10 @@ def strip(laps):
     scale = (WIDEST - LEFT - RIGHT) / longest
     yield '<text class="name" x="12" y="16">pace along the lap; the slower, the paler</text>'
     step = nice(longest, 8)
-    for metres in range(0, int(longest) + 1, step):
+    for metres in (i * step for i in range(int(longest / step) + 1)):
         x = LEFT + metres * scale
         yield f'<path class="cut" d="M {x:.2f} {HEAD - 6} v 4"/>'
-        yield f'<text class="small" x="{x:.2f}" y="{HEAD - 9}" text-anchor="middle">{metres}{" m" if metres else ""}</text>'
+        yield f'<text class="small" x="{x:.2f}" y="{HEAD - 9}" text-anchor="middle">{metres:g}{" m" if metres else ""}</text>'
     for i, (name, rows) in enumerate(laps):
         yield from one(name, rows, HEAD + i * (HIGH + GAP), scale, (min(paces), max(paces)))
 

@@ -10,8 +10,9 @@ import random
 import statistics
 import sys
 
+from advice import TIMES_NOISE
 from bends import Limits
-from fitting import TIMES_NOISE, fitted_pieces
+from fitting import fitted_pieces
 from make_workout import LAP, PARTS, REPETITIONS, Receiver, repetitions, whole_pace
 from progress import watched
 from rows import part_rows

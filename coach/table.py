@@ -35,6 +35,11 @@ def decoded(data):
         return data.decode("latin-1")
 
 
+def lines_of(data):
+    """The lines of bytes, counted as an editor counts them."""
+    return re.split(r"\r\n|\r|\n", decoded(data))
+
+
 def fields(line, separator):
     if separator is None:
         return line.split()
@@ -83,7 +88,7 @@ class Table:
     """The rows of a text, each with its place in the file; `remarks` has the words of lines that start with #."""
 
     def __init__(self, data, name, columns=None):
-        lines = [(f"{name}, line {i}", line) for i, line in enumerate(decoded(data).splitlines(), 1) if line.strip()]
+        lines = [(f"{name}, line {i}", line) for i, line in enumerate(lines_of(data), 1) if line.strip()]
         self.remarks = [(where, line.lstrip(REMARK).split()) for where, line in lines if line.startswith(REMARK)]
         self.lines = [(where, line) for where, line in lines if not line.startswith(REMARK)]
         if not self.lines:

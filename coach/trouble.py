@@ -23,7 +23,7 @@ STATUSES = """exit status:
   4        an output cannot be written: it is there already, is also an input, has no folder or no room
   5        target/coach/laptool is not built: run coach/build
   11..19   refused: 10 and the number in document 01's table
-  130, 143 interrupted, or ended by a signal; no file was changed
+  130, 143 interrupted, or ended by a signal; each output is whole, or as it was
   141      the reader of standard output went away"""
 
 

@@ -1,11 +1,13 @@
 """Nothing is lost: whatever fails, and whenever, outputs are whole and together, or as they were."""
 import errno
 import os
+import re
 import signal
 import subprocess
 import sys
 import time
 import unittest
+from pathlib import Path
 from unittest import mock
 
 from support import COACH, TOOL, WORKOUT, Case, coach
@@ -13,6 +15,15 @@ from files import Files
 from lapfile import file_of
 from trouble import NotWritten
 from workout import read_workout
+
+
+def wait_until_caught(process, number):
+    """Until a process has a handler for a signal, which coach.py has once its work begins."""
+    for _ in range(600):
+        caught = re.search(r"SigCgt:\s*(\w+)", Path(f"/proc/{process}/status").read_text()).group(1)
+        if int(caught, 16) >> (number - 1) & 1:
+            return
+        time.sleep(0.05)
 
 
 class Together(Case):
@@ -134,7 +145,7 @@ class Outputs(Case):
                                    stdin=subprocess.PIPE, stderr=subprocess.PIPE)
             run.stdin.write(b"1 0 0 0 0\n")
             run.stdin.flush()
-            time.sleep(1.0)
+            wait_until_caught(run.pid, signal.SIGHUP)
             run.send_signal(number)
             error = run.communicate(timeout=20)[1]
             self.assertEqual(run.returncode, status, error)
@@ -202,6 +213,17 @@ class Laptool(Case):
         self.assertEqual(self.run_tool("fit", 1, recorded, "/dev/full")[0], 20)
         self.assertEqual(self.run_tool("fit", 1, recorded, self.folder / "none" / "out")[0], 20)
         self.assertEqual(self.names(), ["out", "recorded.laps"])
+
+    def test_an_interrupt_in_the_middle(self):
+        for number in (signal.SIGINT, signal.SIGTERM):
+            run = subprocess.Popen([str(TOOL), "fit", "1", "-", str(self.folder / "out")], stdin=subprocess.PIPE)
+            run.stdin.write(b"LAPS")
+            run.stdin.flush()
+            time.sleep(0.3)
+            run.send_signal(number)
+            self.assertEqual(run.wait(timeout=20), -number)
+            run.stdin.close()
+            self.assertEqual(self.names(), [])
 
 
 if __name__ == "__main__":

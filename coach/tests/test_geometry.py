@@ -4,7 +4,8 @@ import random
 import unittest
 
 from support import WORKOUT, Case, coach
-from fitting import fitted_pieces, noise
+from advice import noise
+from fitting import fitted_pieces
 from geometry import Stroke, farthest
 from make_workout import Receiver
 from study import workout_of

@@ -156,6 +156,8 @@ class Pictures(Case):
         self.assertEqual(re.findall(r"(?:src|href|url)\s*[=(]", text), [])
         self.assertEqual(re.findall(r"https?://[^\"' ]+", text), [])
         self.assertIn("give or take", text)
+        for kind in ("lap", "part", "field", "position"):
+            self.assertRegex(text, f'class="{kind}[" ]')
 
     def test_odd_laps(self):
         self.drawn("1 0 0 0 0\n", 1, "one.svg")
