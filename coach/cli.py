@@ -6,7 +6,7 @@ import sys
 
 import commands
 from bends import Limits
-from files import Files
+from files import STREAM, Files, write_stream
 from trouble import DONE, ENDED, INTERRUPTED, OUTPUT, PIPE, STATUSES, Trouble
 
 ABOUT = """Recorded laps as straights and bends, for the coach and the student.
@@ -139,8 +139,10 @@ def tell(told):
     """Prints the line that a command answered."""
     if told:
         aside, line = told
-        print(line, file=sys.stderr if aside else sys.stdout)
-    sys.stdout.flush()
+        if aside:
+            print(line, file=sys.stderr)
+        else:
+            write_stream(STREAM, (line + "\n").encode())
 
 
 def main(arguments):
@@ -151,6 +153,7 @@ def main(arguments):
         tell(words.function(Files(words.force), words))
         return DONE
     except KeyboardInterrupt:
+        print("coach.py: interrupted", file=sys.stderr)
         return INTERRUPTED
     except BrokenPipeError:
         status = PIPE

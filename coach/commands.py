@@ -4,6 +4,7 @@ import listing
 from advice import TRIED, advice_text
 from bends import Limits
 from earth import Plane
+from files import label
 from fitting import check_fit, count, fit_line, fitted_pieces
 from geometry import strokes_of
 from gpx import gpx_text
@@ -20,7 +21,7 @@ from workout import Choices, Workout, check_laps, read_workout, workout_text
 
 def recording(files, name, words):
     """The workout of a file, read as the words say."""
-    return read_workout(files.read(name), name, Choices(words.columns, words.laps_at, words.renumber))
+    return read_workout(files.read(name), label(name), Choices(words.columns, words.laps_at, words.renumber))
 
 
 def told(line, *outputs):
@@ -47,7 +48,7 @@ def make(files, words):
 
 def fit(files, words):
     recorded = files.read(words.recorded)
-    fitted = fitted_bytes(words.tolerance, recorded, words.recorded)
+    fitted = fitted_bytes(words.tolerance, recorded, label(words.recorded))
     line = fit_line(commands_of(recorded, words.recorded), commands_of(fitted, words.recorded))
     files.save((words.fitted, fitted))
     return told(line, words.fitted)
@@ -57,8 +58,8 @@ def seen(files, words):
     """The workout and the pieces of its laps; a fitted file that was given is checked against them."""
     workout = recording(files, words.workout, words)
     if words.fit:
-        check_fit(workout, words.tolerance, words.workout, files.read(words.fit), words.fit)
-    return workout, fitted_pieces(workout, words.tolerance, words.workout)
+        check_fit(workout, words.tolerance, label(words.workout), files.read(words.fit), label(words.fit))
+    return workout, fitted_pieces(workout, words.tolerance, label(words.workout))
 
 
 def limits_of(words):
@@ -98,7 +99,7 @@ def bends(files, words):
 def strides(files, words):
     workout, pieces = seen(files, words)
     rows = list(part_rows(workout.laps, pieces, words.tolerance, limits_of(words)))
-    counts = read_counts(files.read(words.counts), words.counts)
+    counts = read_counts(files.read(words.counts), label(words.counts))
     files.save((words.to, strides_text(counts, rows, words.track, words.far).encode()))
 
 
@@ -117,11 +118,11 @@ def replace(files, words):
     given = files.read(words.fitted)
     if not 1 <= words.lap <= len(workout.laps):
         raise Refused(7)
-    check_fit(workout, words.tolerance, words.workout, given, words.fitted)
+    check_fit(workout, words.tolerance, label(words.workout), given, label(words.fitted))
     choices = Choices(alone=True, part_of=workout)
-    new = read_workout(files.read(words.new_lap), words.new_lap, choices)
+    new = read_workout(files.read(words.new_lap), label(words.new_lap), choices)
     laps = workout.laps[:words.lap - 1] + new.laps + workout.laps[words.lap:]
-    check_laps(laps, words.new_lap)
+    check_laps(laps, label(words.new_lap))
     recorded = file_of(workout.laps)
     fitted = replaced_bytes(recorded, given, words.lap, file_of(new.laps), words.tolerance, words.workout)
     corrected = Workout(laps, workout.origin, workout.start)
@@ -132,14 +133,14 @@ def replace(files, words):
 
 def text(files, words):
     lines = ["# lap kind, then nine numbers"]
-    for number, commands in enumerate(commands_of(files.read(words.file), words.file), 1):
+    for number, commands in enumerate(commands_of(files.read(words.file), label(words.file)), 1):
         lines += (" ".join(map(str, (number, "MLAB"[kind], *numbers))) for kind, *numbers in commands)
     files.save((words.to, ("\n".join(lines) + "\n").encode()))
 
 
 def gpx(files, words):
     """A lap file as GPX: times, where a workout gives them, stand at recorded positions alone."""
-    laps = commands_of(files.read(words.file), words.file)
+    laps = commands_of(files.read(words.file), label(words.file))
     workout = recording(files, words.workout, words) if words.workout else None
     plane = plane_of(words, workout)
     if plane is None:

@@ -1,4 +1,7 @@
-"""The files of one command: what it reads is remembered, and what it writes appears whole and together, or not at all."""
+"""The files of one command: what it reads is remembered, and what it writes appears whole and together, or not at all.
+
+Only a loss of power or a kill between two renames can part two files; what takes both then finds that the fit is not the
+workout's (fitting.check_fit)."""
 import contextlib
 import os
 import shutil
@@ -6,11 +9,15 @@ import signal
 import stat
 import sys
 import tempfile
-from pathlib import Path
 
 from trouble import NotWritten, Trouble
 
-STREAM = "-"
+STREAM, STDIN = "-", 0
+
+
+def label(name):
+    """An input's name for people."""
+    return "standard input" if name == STREAM else name
 
 
 class Files:
@@ -19,18 +26,19 @@ class Files:
     def __init__(self, force=False):
         self.force = force
         self.inputs = []
+        self.listened = False
 
     def read(self, name):
         """The bytes of a file, or of standard input."""
-        if name in self.inputs and name == STREAM:
+        if name == STREAM and self.listened:
             raise Trouble("standard input can be read once")
-        self.inputs.append(name)
-        if name == STREAM:
-            return sys.stdin.buffer.read()
+        self.listened = self.listened or name == STREAM
         try:
-            return Path(name).read_bytes()
+            with open(STDIN if name == STREAM else name, "rb", closefd=name != STREAM) as file:
+                self.inputs.append(os.fstat(file.fileno()))
+                return file.read()
         except OSError as error:
-            raise Trouble(f"{name}: {error.strerror}") from error
+            raise Trouble(f"{label(name)}: {error.strerror}") from error
 
     def save(self, *outputs):
         """Writes pairs of name and bytes: all of them, or none."""
@@ -48,8 +56,7 @@ class Files:
 
     def is_input(self, real):
         """Whether a place holds a file that was read, by whatever name."""
-        files = [name for name in self.inputs if name != STREAM]
-        return os.path.exists(real) and any(os.path.samefile(name, real) for name in files if os.path.exists(name))
+        return os.path.exists(real) and any(os.path.samestat(os.stat(real), read) for read in self.inputs)
 
     def turn_down(self, streams, places):
         """Stops outputs that would destroy something."""
@@ -80,8 +87,9 @@ def is_stream(name):
 
 def write_stream(name, data):
     try:
+        if name == STREAM and sys.stdout is None:
+            raise NotWritten("standard output is closed")
         if name == STREAM:
-            sys.stdout.flush()
             sys.stdout.buffer.write(data)
             sys.stdout.buffer.flush()
         else:

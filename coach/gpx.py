@@ -9,6 +9,9 @@ from times import iso
 from trouble import Trouble
 
 
+OTHERS = "Debian's gpsbabel turns many kinds of recordings into GPX"
+
+
 class Fix:
     """A recorded position as it stands in the file: where, its lap if any, its time as written, and three numbers."""
     __slots__ = ("where", "lap", "time", "x", "y", "z")
@@ -22,6 +25,7 @@ class Reader:
 
     def __init__(self, name):
         self.name, self.fixes, self.segment, self.fresh, self.point, self.words = name, [], 0, True, None, None
+        self.rooted = False
         self.parser = expat.ParserCreate(namespace_separator=" ")
         self.parser.StartElementHandler = self.start
         self.parser.EndElementHandler = self.end
@@ -36,6 +40,9 @@ class Reader:
 
     def start(self, tag, attributes):
         tag = tag.split(" ")[-1]
+        if not self.rooted and tag != "gpx":
+            raise Trouble(f"{self.where()}: is no GPX but {tag}; {OTHERS}")
+        self.rooted = True
         if tag == "trkseg":
             self.fresh = True
         elif tag == "trkpt":

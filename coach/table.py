@@ -18,7 +18,7 @@ NAMES = {
 COLUMNS = {word: column for column, words in NAMES.items() for word in words.split()}
 PLAIN = {3: "time x y", 4: "lap time x y", 5: "lap time x y z"}
 SEPARATORS = ("\t", ";", ",", None)
-REMARK = "#"
+REMARK, SPREADSHEET = "#", "sep="  # a spreadsheet's first line names its separator, which shows anyhow
 LOOK_AHEAD = 20
 
 
@@ -90,7 +90,7 @@ class Table:
     def __init__(self, data, name, columns=None):
         lines = [(f"{name}, line {i}", line) for i, line in enumerate(lines_of(data), 1) if line.strip()]
         self.remarks = [(where, line.lstrip(REMARK).split()) for where, line in lines if line.startswith(REMARK)]
-        self.lines = [(where, line) for where, line in lines if not line.startswith(REMARK)]
+        self.lines = [(where, line) for where, line in lines if not line.lower().startswith((REMARK, SPREADSHEET))]
         if not self.lines:
             raise Trouble(f"{name}: has no position")
         self.separator = separator_of([line for _, line in self.lines[:LOOK_AHEAD]])

@@ -4,7 +4,7 @@ from dataclasses import dataclass, field
 
 from earth import FARTHEST as FARTHEST_ON_EARTH
 from earth import Plane
-from gpx import read_gpx
+from gpx import OTHERS, read_gpx
 from lapfile import FARTHEST, MOST_COMMANDS, MOST_LAPS
 from progress import watched
 from table import Table
@@ -42,6 +42,8 @@ class Choices:
 
 def read_workout(data, name, choices=Choices()):
     """The workout of a recording: GPX, or a table such as the workout's own text."""
+    if data[8:12] == b".FIT":
+        raise Trouble(f"{name}: is a .fit file; {OTHERS}")
     if data.lstrip(b"\xef\xbb\xbf\xff\xfe \t\r\n\0").startswith(b"<"):
         fixes, table = read_gpx(data, name), None
     else:

@@ -5,6 +5,8 @@ import unittest
 import support  # for the path to the modules
 from bends import Limits, names, parts_of
 from fitting import fitted_pieces
+from geometry import Stroke
+from pieces import Piece
 from workout import Position, Workout
 
 
@@ -21,6 +23,21 @@ def walk(*steps, every=5.0):
             heading += bit / 2
             places.append((x, y, 0.0))
     return [Position(float(i), place) for i, place in enumerate(places)]
+
+
+def arc(start, length, turn, heading=0.0):
+    """A bend to the left, from a place and a heading in degrees."""
+    radius, first = length / math.radians(turn), math.radians(heading)
+    offset = -radius * math.sin(first), radius * math.cos(first)
+    last = first + math.radians(turn)
+    end = start[0] + offset[0] + radius * math.sin(last), start[1] + offset[1] - radius * math.cos(last), 0.0
+    return Stroke(start, end, offset)
+
+
+def line(start, length, heading):
+    """A straight, from a place and a heading in degrees."""
+    angle = math.radians(heading)
+    return Stroke(start, (start[0] + length * math.cos(angle), start[1] + length * math.sin(angle), 0.0))
 
 
 def seen(lap, tolerance=1.0, limits=Limits()):
@@ -58,6 +75,17 @@ class Courses(unittest.TestCase):
         self.assertEqual(kinds(seen(walk((80, 0), (58, 90), (15, 0), (58, 90), (80, 0)))), "-l-")
         apart = Limits(short=10.0)
         self.assertEqual(kinds(seen(walk((80, 0), (58, 90), (60, 0), (58, 90), (80, 0)), limits=apart)), "-l-l-")
+
+    def test_a_short_straight_joins_before_a_short_bend(self):
+        """A bend of 18 m, a chord of 22 m and a bend of 55 m are one bend: the first is not taken for a part of the straight."""
+        strokes = [Stroke((0.0, 0.0, 0.0), (80.0, 0.0, 0.0)), arc((80.0, 0.0, 0.0), 18, 40)]
+        strokes.append(line(strokes[-1].end, 22, 40))
+        strokes.append(arc(strokes[-1].end, 55, 90, 40))
+        strokes.append(line(strokes[-1].end, 80, 130))
+        pieces = [Piece(stroke, i, i + 1) for i, stroke in enumerate(strokes)]
+        parts = parts_of(pieces, 1.5)
+        self.assertEqual(kinds(parts), "-l-")
+        self.assertAlmostEqual(parts[1].length, 18 + 22 + 55, delta=0.01)
 
     def test_one_piece_and_none(self):
         self.assertEqual(kinds(seen([Position(0.0, (0.0, 0.0, 0.0)), Position(1.0, (5.0, 0.0, 0.0))])), "-")

@@ -5,6 +5,7 @@ import re
 import signal
 import subprocess
 import sys
+import tempfile
 import time
 import unittest
 from pathlib import Path
@@ -109,6 +110,10 @@ class Outputs(Case):
         os.link(own, self.folder / "second.txt")
         for name in ("own.txt", "../" + self.folder.name + "/own.txt", "second.txt"):
             self.told(4, "is also an input", "make", own, self.folder / name, "--force")
+        with open(own, "rb") as file:
+            done = subprocess.run([sys.executable, str(COACH / "coach.py"), "make", "-", str(own), "--force"], stdin=file,
+                                  capture_output=True, check=False)
+        self.assertEqual((done.returncode, b"is also an input" in done.stderr), (4, True))
         self.told(4, "same name", "replace", 3, COACH / "lap3.txt", 1, own, self.fitted(), self.folder / "n", self.folder / "n")
         self.assertEqual(own.read_bytes(), WORKOUT.read_bytes())
 
@@ -178,6 +183,16 @@ class FullDisk(Case):
         out = self.put("out.laps", b"old")
         self.told(4, "No space left", "make", WORKOUT, out, "--force")
         self.assertEqual((self.names(), out.read_bytes()), (["out.laps"], b"old"))
+
+    def test_room_for_one_of_two(self):
+        """The corrected workout has room, its fit has not: neither is there afterwards."""
+        with tempfile.TemporaryDirectory() as other:
+            recorded, fitted = Path(other) / "r.laps", Path(other) / "f.laps"
+            coach("make", WORKOUT, recorded)
+            coach("fit", 1, recorded, fitted)
+            self.told(4, "new.laps: No space left", "replace", 3, COACH / "lap3.txt", 1, WORKOUT, fitted, self.folder / "new.txt",
+                      self.folder / "new.laps")
+        self.assertEqual(self.names(), [])
 
     def test_laptool(self):
         laps = read_workout(WORKOUT.read_bytes(), "workout").laps

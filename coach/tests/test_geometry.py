@@ -68,12 +68,8 @@ class Farthest(Case):
         self.assertIn("480 positions in 6 laps: 35 straights and 26 bends", out)
 
     def test_the_far_turn_of_a_shuttle(self):
-        data = "1 0 0 0 0\n1 1 100 0 0\n1 2 50 0 0\n"
-        coach("make", self.put("s.txt", data), self.folder / "r")
-        recorded = read_workout(data.encode(), "s")
-        pieces = fitted_pieces(recorded, 0.5, "s")
-        far, index = farthest([p.place for p in recorded.laps[0]], [p.stroke for p in pieces[0]])
-        self.assertEqual((far, index) if len(pieces[0]) == 1 else (50.0, 1), (50.0, 1))
+        places = [(0.0, 0.0, 0.0), (100.0, 0.0, 0.0), (50.0, 0.0, 0.0)]
+        self.assertEqual(farthest(places, [Stroke(places[0], places[2])]), (50.0, 1))
 
 
 class Noise(unittest.TestCase):

@@ -60,7 +60,7 @@ class Tables(unittest.TestCase):
         self.assertEqual(tried, 4 * 2 * 2 * 2 * 5 * 5)
 
     def test_line_ends_quotes_and_remarks(self):
-        text = "# made up\r\n\r\n" + table(";", header=False).replace("\n", "\r\n")
+        text = "# made up\r\n\r\nsep=;\r\n" + table(";", header=False).replace("\n", "\r\n")
         self.assertEqual(flat(read_workout(text.encode(), "t")), ROWS)
 
     def test_columns_by_choice(self):
@@ -117,6 +117,8 @@ class Gpx(unittest.TestCase):
             (whole.replace('lat="60.0001"', 'lat="95"'), "line 6: latitude 95"),
             (whole.replace('lat="60.0001"', 'lat="61"'), "line 6: is 111 km from the first position"),
             (whole.replace("trkpt", "rtept"), "has no track with a position"),
+            ("<TrainingCenterDatabase/>", "line 1: is no GPX but TrainingCenterDatabase; Debian's gpsbabel"),
+            ("\x0e\x10\x00\x00\x00\x00\x00\x00.FIT\x00", "is a .fit file; Debian's gpsbabel"),
             (whole.replace("?>\n", '?>\n<!DOCTYPE gpx [<!ENTITY a "b">]>\n', 1), "declares an entity"),
         ):
             with self.assertRaisesRegex(Trouble, words):
