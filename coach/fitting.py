@@ -30,8 +30,8 @@ def fit_line(recorded, fitted):
     strokes = [strokes_of(commands) for commands in fitted]
     arcs = sum(stroke.is_arc for lap in strokes for stroke in lap)
     lines = sum(map(len, strokes)) - arcs
-    line = (f"{count(sum(map(len, places)), 'position')} in {count(len(places), 'lap')}: {count(lines, 'straight')} and "
-            f"{count(arcs, 'bend')}")
+    line = (f"{count(sum(map(len, places)), 'position')} in {count(len(places), 'lap')}, {count(lines + arcs, 'piece')}: "
+            f"{count(lines, 'straight')} and {count(arcs, 'bend')}")
     if not places:
         return line
     gaps = [farthest(*pair) for pair in zip(places, strokes)]

@@ -81,6 +81,8 @@ def read_gpx(data, name):
         reader.parser.Parse(data, True)
     except expat.ExpatError as error:
         raise Trouble(f"{name}, line {error.lineno}: is no whole GPX file: {expat.ErrorString(error.code)}") from error
+    except (LookupError, ValueError) as error:
+        raise Trouble(f"{name}, line 1: is in no encoding that can be read: {error}") from error
     if not reader.fixes:
         raise Trouble(f"{name}: has no track with a position")
     return reader.fixes

@@ -5,7 +5,7 @@ import statistics
 from table import lines_of
 from trouble import Trouble
 
-LINE = re.compile(r"\s*(\d+)[\s,;]+(bend|straight|whole)\s*(\d*)[\s,;]+(\d+)\s*$", re.IGNORECASE)
+LINE = re.compile(r"\s*(\d{1,9})[\s,;]+(bend|straight|whole)\s*(\d*)[\s,;]+(\d{1,9})\s*$", re.IGNORECASE | re.ASCII)
 SHEET = ("bend 1", "straight 1", "bend 2", "straight 2")
 
 

@@ -125,7 +125,7 @@ class Table:
 def fix_of(values, where, last_z):
     """A fix; where the height is left out, it is the last one's."""
     lap = values.get("lap")
-    if lap is not None and not lap.isdigit():
+    if lap is not None and not re.fullmatch("[0-9]{1,9}", lap):
         raise Trouble(f"{where}: '{lap}' is no number of a lap")
     places = []
     for column in ("lon", "lat") if "lat" in values else ("x", "y"):

@@ -4,8 +4,8 @@ import re
 import time
 
 UNIX, MILLISECONDS = 1e8, 1e11  # from 1973 on; a count of seconds is below, a count of milliseconds above
-ISO = re.compile(r"(\d{4})-?(\d\d)-?(\d\d)[T ](\d\d):?(\d\d):?(\d\d)([.,]\d+)?\s*(Z|z|[+-]\d\d(:?\d\d)?)?$")
-CLOCK = re.compile(r"(?:(\d+):)?(\d+):([0-5]?\d(?:[.,]\d+)?)$")
+ISO = re.compile(r"(\d{4})-?(\d\d)-?(\d\d)[T ](\d\d):?(\d\d):?(\d\d)([.,]\d+)?\s*(Z|z|[+-]\d\d(:?\d\d)?)?$", re.ASCII)
+CLOCK = re.compile(r"(?:(\d+):)?(\d+):([0-5]?\d(?:[.,]\d+)?)$", re.ASCII)
 
 
 def number(word):

@@ -65,7 +65,7 @@ class Farthest(Case):
             far.append(max(min(math.dist(q.place[:2], p[:2]) for p in way) for q in lap))
         self.assertIn(f"the farthest position is {max(far):.2f} m", out)
         self.assertGreater(max(far), 1.0)
-        self.assertIn("480 positions in 6 laps: 35 straights and 26 bends", out)
+        self.assertIn("480 positions in 6 laps, 61 pieces: 35 straights and 26 bends", out)
 
     def test_the_far_turn_of_a_shuttle(self):
         places = [(0.0, 0.0, 0.0), (100.0, 0.0, 0.0), (50.0, 0.0, 0.0)]

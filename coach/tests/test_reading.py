@@ -1,5 +1,6 @@
 """What a watch gives is read, and nonsense is stopped with a sentence."""
 import math
+import random
 import unittest
 
 from support import COACH, WORKOUT, Case, coach
@@ -147,6 +148,23 @@ class Laps(unittest.TestCase):
 
     def test_laps_may_share_a_moment(self):
         self.assertEqual(self.laps("1 0 0 0\n1 1 5 0\n2 1 5 0\n2 2 9 0\n"), [[0, 1], [1, 2]])
+
+
+class Damaged(unittest.TestCase):
+    """Whatever is damaged in a recording, it is read, or stopped with a sentence."""
+
+    def test_damage(self):
+        chance, read = random.Random(5), 0
+        whole = [GPX.format(encoding="UTF-8").encode(), table(",").encode(), table(";", ",").encode("utf-16"), table(" ", header=False).encode()]
+        bits = [b"nan", b"1e999", b"", b"\0", b'"', b"<", b"\xff", b"9" * 400, b"..", b"\r", b"# start x", b"\xc2\xb2", b"-0"]
+        for _ in range(3000):
+            data, at = bytearray(chance.choice(whole)), chance.randrange(40, 200)
+            data[at:at + chance.randrange(3)] = chance.choice(bits)
+            try:
+                read += len(read_workout(bytes(data), "t").laps) > 0
+            except Trouble as trouble:
+                self.assertRegex(str(trouble), "^(refused, number [25]: )?t(, line \\d+)?: ")
+        self.assertTrue(300 < read < 2700, read)
 
 
 class Nonsense(Case):
