@@ -1,72 +1,161 @@
 #!/usr/bin/env python3
-"""Makes workout.txt and lap3.txt, in coach/ or in the folder it is given, the same on each run: six repetitions of 400 m
-on a standard track, one position a second and one at the finish, with a receiver's noise. No athlete was recorded for it.
+"""Makes the sample of the exercise, the same on each run. No athlete ran for it, and nobody counted its strides.
 
-The track is the standard one: straights of 84.39 m, bends whose running line has the radius 36.80 m, once round 400 m. A
-repetition starts at the finish line, runs bend, straight, bend, straight, and gets slower from one to the next; in bends
-the athlete is a little slower than on straights. The noise of the receiver drifts: each second keeps most of the last
-second's error and adds a new one. In repetition 3 the receiver is thrown off for some seconds in the second bend, as
+  make_workout.py FOLDER [--force]   workout.txt, lap3.txt and strides.txt, into a folder
+  make_workout.py --truth            what was run, before the receiver's noise: the pace of each part of each repetition
+
+Six repetitions of 400 m on a standard track: straights of 84.39 m, bends whose running line has the radius 36.80 m. A
+repetition starts at the finish line and runs bend 1, straight 1, bend 2, straight 2, each at a pace of its own; positions
+are a second apart, and one is taken at the finish. The athlete gets slower from one repetition to the next, and in
+repetitions 2, 4 and 5 eases off in the second bend.
+
+The receiver's error has two parts: a white one, new with each position, and a drift, which keeps most of the last second's
+error and so wanders by a metre or two. In repetition 3 the receiver is thrown off for some seconds in the second bend, as
 beside a grandstand; lap3.txt is the same repetition without that."""
 import math
 import random
 import sys
+from dataclasses import dataclass
 from pathlib import Path
+
+from files import Files
+from trouble import DONE, WORDS, Trouble
 
 SEED = 400
 STRAIGHT, RADIUS = 84.39, 36.80
 BEND = math.pi * RADIUS
-LAP = 2 * STRAIGHT + 2 * BEND
+PARTS = (("bend 1", BEND), ("straight 1", STRAIGHT), ("bend 2", BEND), ("straight 2", STRAIGHT))
+LAP = sum(length for _, length in PARTS)
 REPETITIONS, REST = 6, 90
-BEND_PACE = 1.04           # seconds in a bend to each on a straight
-KEEPS, NEW = 0.9, 0.12     # the noise: how much of an error stays, and the new error's spread in metres
-THROWN = (3, 48, 53, 9.0)  # repetition, first and last second, metres
+FIRST_PACE, SLOWER = 182.0, 2.5   # seconds a kilometre on the first repetition's straights; and more on each next one
+IN_BENDS, EASED = 1.03, 1.14      # seconds in a bend to each on a straight; in an eased second bend to each in the first
+STRIDE = 1.82                     # metres from one step to the next
+THROWN = (3, 45.0, 51.0, 9.0)     # repetition, first and last second, metres
+HEAD = "# lap time x y z: seconds and metres; made by make_workout.py, nobody ran"
+
+
+@dataclass(frozen=True)
+class Receiver:
+    """The spread of its white error and of its drift in metres, and how many seconds the drift remembers."""
+    white: float = 0.25
+    drift: float = 1.2
+    memory: float = 60.0
+
+    def errors(self, chance):
+        """One error after another, a second apart."""
+        keeps = math.exp(-1 / self.memory)
+        wander = [chance.gauss(0, self.drift) for _ in range(2)]
+        while True:
+            yield [w + chance.gauss(0, self.white) for w in wander]
+            wander = [keeps * w + chance.gauss(0, self.drift * math.sqrt(1 - keeps * keeps)) for w in wander]
 
 
 def place(way):
-    """The place on the track so many metres behind the finish line, and whether it is in a bend."""
+    """The place on the track so many metres behind the finish line."""
     way %= LAP
     if way >= BEND + STRAIGHT:
-        x, y, bend = place(way - BEND - STRAIGHT)
-        return -x, -y, bend
+        x, y = place(way - BEND - STRAIGHT)
+        return -x, -y
     if way < BEND:
         angle = way / RADIUS - math.pi / 2
-        return STRAIGHT / 2 + RADIUS * math.cos(angle), RADIUS * math.sin(angle), True
-    return STRAIGHT / 2 - (way - BEND), RADIUS, False
+        return STRAIGHT / 2 + RADIUS * math.cos(angle), RADIUS * math.sin(angle)
+    return STRAIGHT / 2 - (way - BEND), RADIUS
 
 
-def run(pace, chance):
-    """The positions of one repetition, a second apart and one at the finish: time, true place, the receiver's error."""
-    way, time, error, positions = 0.0, 0.0, [chance.gauss(0, 0.3), chance.gauss(0, 0.3)], []
-    while way < LAP:
-        x, y, bend = place(way)
-        positions.append((time, x, y, error))
-        error = [KEEPS * e + chance.gauss(0, NEW) for e in error]
-        speed = 100 / pace / (BEND_PACE if bend else 1)
-        step = min(1.0, (LAP - way) / speed)
-        way, time = (way + speed, time + step)
-    x, y, _ = place(0)
-    return positions + [(time, x, y, error)]
+def paces(repetition, eased):
+    """Seconds a kilometre in each of the four parts."""
+    straight = FIRST_PACE + SLOWER * (repetition - 1)
+    bend = IN_BENDS * straight
+    return bend, straight, bend * (EASED if eased else 1.0), straight
 
 
-def lines(repetition, start, positions, thrown):
-    """The text of a repetition: lap, time, x, y, z."""
-    for time, x, y, error in positions:
-        off = THROWN[3] if thrown and THROWN[1] <= time <= THROWN[2] else 0
-        yield f"{repetition} {start + time:.2f} {x + error[0] - off:.2f} {y + error[1]:.2f} 0"
+def whole_pace(part_paces):
+    """Seconds a kilometre over the whole lap."""
+    return sum(length * pace for (_, length), pace in zip(PARTS, part_paces)) / LAP
 
 
-def main():
-    chance, start, workout = random.Random(SEED), 0, ["# lap time x y z: seconds and metres; made by make_workout.py"]
+def way_after(seconds, part_paces):
+    """The metres run after so many seconds, the whole lap's at most."""
+    way = 0.0
+    for (_, length), pace in zip(PARTS, part_paces):
+        needed = length * pace / 1000
+        if seconds < needed:
+            return way + seconds * 1000 / pace
+        seconds, way = seconds - needed, way + length
+    return LAP
+
+
+def run(part_paces, receiver, chance):
+    """The positions of one repetition, a second apart and one at the finish: time and place with the receiver's error."""
+    whole = LAP * whole_pace(part_paces) / 1000
+    errors, times = receiver.errors(chance), [float(t) for t in range(math.ceil(whole))] + [whole]
+    for time, error in zip(times, errors):
+        x, y = place(way_after(time, part_paces))
+        yield time, x + error[0], y + error[1]
+
+
+def thrown_off(repetition, positions):
+    """The repetition as the receiver gives it that is thrown off."""
+    number, first, last, metres = THROWN
+    for time, x, y in positions:
+        yield time, x - (metres if repetition == number and first <= time <= last else 0), y
+
+
+def repetitions(seed, receiver=Receiver(), eased=(2, 4, 5)):
+    """To each repetition its start, its true paces and its positions."""
+    chance, start = random.Random(seed), 0
     for repetition in range(1, REPETITIONS + 1):
-        positions = run(18.0 + 0.25 * repetition, chance)
-        workout += lines(repetition, start, positions, repetition == THROWN[0])
-        if repetition == THROWN[0]:
-            lap = [workout[0]] + list(lines(repetition, start, positions, False))
+        true = paces(repetition, repetition in eased)
+        positions = list(run(true, receiver, chance))
+        yield start, true, positions
         start += len(positions) + REST
-    here = Path(sys.argv[1]) if len(sys.argv) > 1 else Path(__file__).parent
-    (here / "workout.txt").write_text("\n".join(workout) + "\n")
-    (here / f"lap{THROWN[0]}.txt").write_text("\n".join(lap) + "\n")
+
+
+def lines(repetition, start, positions):
+    return [f"{repetition} {start + time:.2f} {x:.2f} {y:.2f} 0" for time, x, y in positions]
+
+
+def strides(repetition, chance):
+    """Made-up counts of one repetition: the part's length over the stride, with a step more or less at either end."""
+    for name, length in PARTS:
+        yield f"{repetition} {name.replace(' ', '')} {round(length / STRIDE + chance.uniform(-1, 1))}"
+
+
+def sample(seed):
+    """The three files of the exercise, by their names."""
+    workout, lap, counts = [HEAD], [HEAD], ["# lap part count: made up by make_workout.py, nobody counted"]
+    chance = random.Random(seed)
+    for number, (start, _, positions) in enumerate(repetitions(seed), 1):
+        workout += lines(number, start, thrown_off(number, positions))
+        counts += strides(number, chance)
+        if number == THROWN[0]:
+            lap += lines(number, start, positions)
+    return {"workout.txt": workout, f"lap{THROWN[0]}.txt": lap, "strides.txt": counts}
+
+
+def truth(seed):
+    """A line for each part: the pace of each repetition, in minutes and seconds a kilometre."""
+    true = [true for _, true, _ in repetitions(seed)]
+    yield "pace/km   " + "".join(f"{'lap ' + str(lap):>8}" for lap in range(1, len(true) + 1))
+    for name, row in [*zip((name for name, _ in PARTS), zip(*true)), ("whole", map(whole_pace, true))]:
+        yield f"{name:10}" + "".join(f"{round(pace) // 60:>5}:{round(pace) % 60:02}" for pace in row)
+
+
+def main(words):
+    if words == ["--truth"]:
+        print("\n".join(truth(SEED)))
+        return DONE
+    if words == ["--help"] or words[1:] not in ([], ["--force"]) or words[:1] in ([], ["--force"]):
+        print(__doc__, file=sys.stdout if words == ["--help"] else sys.stderr)
+        return DONE if words == ["--help"] else WORDS
+    texts = [(str(Path(words[0]) / name), ("\n".join(text) + "\n").encode()) for name, text in sample(SEED).items()]
+    try:
+        Files("--force" in words).save(*texts)
+    except Trouble as trouble:
+        print(f"make_workout.py: {trouble}", file=sys.stderr)
+        return trouble.status
+    return DONE
 
 
 if __name__ == "__main__":
-    main()
+    sys.exit(main(sys.argv[1:]))

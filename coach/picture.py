@@ -1,67 +1,117 @@
-"""The picture of a workout: the repetitions side by side, each with its recorded points, straights, bends and cuts."""
-import math
+"""The picture of a workout: a drawing of each lap, the key, and the pace along the laps. Sizes are in pixels."""
+from dataclasses import dataclass
 
-GAP, HEAD, ACROSS = 12, 16, 3
+import strip
+from course import HEAD, WIDTH, Frame, lap_drawing
+from rows import part_rows
+
+ACROSS, KEY_HEIGHT, BAR = 3, 58, 110
 STYLE = """
-  .straight { fill: none; stroke: #1f5fa8; stroke-width: 1.6 }
-  .bend { fill: none; stroke: #c2461e; stroke-width: 1.6 }
-  .recorded { fill: #222 }
-  .cut { fill: #fff; stroke: #222; stroke-width: 0.6 }
-  text { font: 7px sans-serif; fill: #222 }
+  text { font: 12px sans-serif; fill: #1f2430 }
+  .name { font-weight: bold } .small { font-size: 11px; fill: #4a5160 }
+  .pace { font-weight: bold; paint-order: stroke; stroke: #fff; stroke-width: 3px; stroke-linejoin: round }
+  .field .pace { stroke: none; font-weight: normal }
+  .line { fill: none; stroke-width: 1.1 } .hit { fill: none; stroke: #000; stroke-opacity: 0; stroke-width: 14 }
+  .straight .line { stroke: #1f5fa8 } .bend .line { stroke: #c2461e }
+  .field rect { stroke: #fff; stroke-width: 1.5 } .field .line { stroke-width: 2 }
+  .position { fill: #1f2430; fill-opacity: 0.75 }
+  .cut, .border, .start, .arrow, .bar { fill: none; stroke: #1f2430; stroke-width: 0.8 }
+  .border { stroke-width: 1.4 } .start { stroke-width: 2.4 } .bar { stroke-width: 1.4 }
+  .on .line { stroke-width: 3 } .on rect { stroke: #1f2430 }
+  .lap.on .name { text-decoration: underline }
 """
 
 
-def bounds(laps):
-    places = [p.place for positions in laps for p in positions] or [(0, 0)]
-    xs, ys = [p[0] for p in places], [p[1] for p in places]
-    return min(xs), max(xs), min(ys), max(ys)
+@dataclass(frozen=True)
+class Panel:
+    """A part of the picture: its size, and what it shows."""
+    width: float
+    height: float
+    inner: list
+
+    def svg(self, place=""):
+        return (f'<svg {place}width="{self.width:.0f}" height="{self.height:.0f}" '
+                f'viewBox="0 0 {self.width:.0f} {self.height:.0f}">\n' + "\n".join(self.inner) + "\n</svg>")
 
 
-def path(piece, at):
-    """A straight or bend, as a path; y grows downwards in a picture."""
-    (x, y), (u, v) = at(piece.start), at(piece.end)
-    if not piece.arc:
-        return f'<path class="straight" d="M {x} {y} L {u} {v}"/>'
-    large, sweep = int(piece.angle > math.pi), int(piece.clockwise)
-    return f'<path class="bend" d="M {x} {y} A {piece.radius:.2f} {piece.radius:.2f} 0 {large} {sweep} {u} {v}"/>'
+@dataclass(frozen=True)
+class Picture:
+    """Panels to be laid out: the key, the laps, the strip; a title and a description for readers."""
+    title: str
+    description: str
+    key: Panel
+    laps: list
+    strip: Panel
 
 
-def lap_drawing(number, positions, pieces, at, corner):
-    title = f"lap {number}: {sum(p.length for p in pieces):.0f} m in {positions[-1].time - positions[0].time:.1f} s"
-    yield f'<text x="{corner[0]:.2f}" y="{corner[1]:.2f}">{title}</text>'
-    for piece in pieces:
-        yield path(piece, at)
-    for p in positions:
-        x, y = at(p.place)
-        yield f'<circle class="recorded" cx="{x}" cy="{y}" r="0.7"/>'
-    for place in [positions[0].place] + [p.end for p in pieces]:
-        x, y = at(place)
-        yield f'<circle class="cut" cx="{x}" cy="{y}" r="1.8"/>'
+def laps_with_rows(workout, pieces, tolerance, limits):
+    """To each lap its number, positions and rows; laps of one position have nothing to draw."""
+    rows = list(part_rows(workout.laps, pieces, tolerance, limits))
+    for number, positions in enumerate(workout.laps, 1):
+        own = [row for row in rows if row.lap == number]
+        if own:
+            yield number, positions, own
 
 
-def key(y):
-    """What the colours and rings stand for."""
-    for x, name in ((GAP, "straight"), (GAP + 60, "bend")):
-        yield f'<path class="{name}" d="M {x} {y - 2:.2f} h 16"/><text x="{x + 20}" y="{y:.2f}">{name}</text>'
-    for x, name, radius, word in ((GAP + 120, "recorded", 0.7, "recorded position"), (GAP + 200, "cut", 1.8, "cut")):
-        yield f'<circle class="{name}" cx="{x}" cy="{y - 2:.2f}" r="{radius}"/><text x="{x + 5}" y="{y:.2f}">{word}</text>'
+def panels_of(workout, pieces, tolerance, limits, old):
+    """Names, numbers, positions and rows. A lap that was corrected comes first, beside what it was before."""
+    before = {number: lap for number, *lap in laps_with_rows(*old, tolerance, limits)} if old else {}
+    laps = list(laps_with_rows(workout, pieces, tolerance, limits))
+    changed = [lap for lap in laps if lap[0] in before and before[lap[0]][0] != lap[1]]
+    for lap in changed:
+        yield (f"lap {lap[0]}, corrected", *lap)
+        yield (f"lap {lap[0]}, as it was", lap[0], *before[lap[0]])
+    for lap in laps:
+        if lap not in changed:
+            yield (f"lap {lap[0]}", *lap)
 
 
-def picture(laps, fitted):
-    left, right, low, high = bounds(laps)
-    width, height = right - left + 2 * GAP, high - low + 2 * GAP + HEAD
-    across, down = min(ACROSS, max(1, len(laps))), max(1, math.ceil(len(laps) / ACROSS))
-    whole = across * width, down * height + HEAD
+def key(frame, tolerance):
+    """What the marks stand for, how long a bar is in metres, and the tolerance."""
+    metres = strip.nice(BAR / frame.scale, 2)
+    bar = metres * frame.scale
+    yield '<g class="straight"><path class="line" d="M 12 16 h 26"/></g><text x="44" y="20">straight</text>'
+    yield '<g class="bend"><path class="line" d="M 106 16 h 26"/></g><text x="138" y="20">bend</text>'
+    yield '<circle class="position" cx="186" cy="16" r="1.3"/><text x="194" y="20">recorded position</text>'
+    yield '<path class="cut" d="M 310 11.5 v 9"/><text x="318" y="20">cut</text>'
+    yield '<path class="border" d="M 352 8 v 16"/><text x="360" y="20">end of a bend or straight</text>'
+    yield '<path class="start" d="M 522 5 v 22"/><text x="530" y="20">start line</text>'
+    yield '<path class="arrow" d="M 602 16 h 18 m -5 -4 l 5 4 l -5 4"/><text x="628" y="20">direction; paces a kilometre</text>'
+    yield f'<path class="bar" d="M 12 38 v 8 h {bar:.2f} v -8"/><text x="{20 + bar:.2f}" y="46">{metres:g} m</text>'
+    yield f'<text x="260" y="46">tolerance {tolerance:g} m</text>'
+
+
+def picture_of(workout, pieces, tolerance, limits, old=None):
+    """The picture's panels; `old` is another workout and its pieces, whose laps are shown where they differ."""
+    shown = list(panels_of(workout, pieces, tolerance, limits, old))
+    drawn = [p for _, _, positions, rows in shown for p in
+             [*(q.place for q in positions), *(at for s in rows[-1].strokes for at in s.points(tolerance))]]
+    frame = Frame.of(drawn or [(0.0, 0.0)])
+    laps = [Panel(WIDTH, HEAD + frame.height, list(lap_drawing(*lap, frame))) for lap in shown]
+    strips = [(name.replace("as it was", "before").replace(",", ""), rows) for name, _, _, rows in shown]
+    title = f"{len(workout.laps)} laps, fitted at a tolerance of {tolerance:g} m"
+    words = [f"{name}: {rows[-1].length:.0f} m in {rows[-1].time:.1f} s" for name, _, _, rows in shown]
+    pace = Panel(*strip.size(strips), list(strip.strip(strips)) if strips else [])
+    return Picture(title, "Each lap as straights and bends with the pace of each. " + "; ".join(words) + ".",
+                   Panel(ACROSS * WIDTH, KEY_HEIGHT, list(key(frame, tolerance))), laps, pace)
+
+
+def svg_of(drawn):
+    """The picture as one SVG."""
+    across = min(ACROSS, max(1, len(drawn.laps)))
+    high = max((lap.height for lap in drawn.laps), default=0)
+    rows = -(-len(drawn.laps) // across)
+    width, height = ACROSS * WIDTH, KEY_HEIGHT + rows * high + drawn.strip.height
     lines = [
-        f'<svg xmlns="http://www.w3.org/2000/svg" viewBox="0 0 {whole[0]:.2f} {whole[1]:.2f}" width="{3 * whole[0]:.0f}">',
+        f'<svg xmlns="http://www.w3.org/2000/svg" role="img" aria-labelledby="title desc" width="{width}" '
+        f'height="{height:.0f}" viewBox="0 0 {width} {height:.0f}">',
+        f'<title id="title">{drawn.title}</title>',
+        f'<desc id="desc">{drawn.description}</desc>',
         f"<style>{STYLE}</style>",
-        f'<rect width="{whole[0]:.2f}" height="{whole[1]:.2f}" fill="#fff"/>',
+        '<rect width="100%" height="100%" fill="#fff"/>',
+        drawn.key.svg(),
     ]
-    for i, (positions, pieces) in enumerate(zip(laps, fitted)):
-        x, y = i % across * width + GAP, i // across * height + GAP + HEAD
-
-        def at(place, x=x, y=y):
-            return round(x + place[0] - left, 2), round(y + high - place[1], 2)
-
-        lines += lap_drawing(i + 1, positions, pieces, at, (x, y - GAP / 2))
-    return "\n".join([*lines, *key(whole[1] - HEAD / 2), "</svg>"]) + "\n"
+    for i, lap in enumerate(drawn.laps):
+        lines.append(lap.svg(f'x="{i % across * WIDTH}" y="{KEY_HEIGHT + i // across * high:.0f}" '))
+    lines.append(drawn.strip.svg(f'y="{height - drawn.strip.height:.0f}" '))
+    return "\n".join(lines + ["</svg>", ""])

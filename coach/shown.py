@@ -8,6 +8,8 @@ import subprocess
 import sys
 from pathlib import Path
 
+from files import Files
+
 ROOT = Path(__file__).resolve().parent.parent
 
 
@@ -35,7 +37,7 @@ def main(words):
     old = name.read_text().splitlines()
     new, count = renewed(old)
     if words[0] == "--write":
-        name.write_text("\n".join(new) + "\n")
+        Files(force=True).save((str(name), ("\n".join(new) + "\n").encode()))
     for shown, printed in zip(old, new):
         if shown != printed and words[0] != "--write":
             print(f"{name} shows:  {shown}\nprinted now: {printed}")

@@ -1,195 +1,228 @@
-"""Workouts as text, lap files as bytes, and the fitted commands beside the recorded times."""
+"""Workouts: recorded positions in metres, lap by lap, from any recording; and as text."""
 import math
-import struct
-from dataclasses import dataclass
-from pathlib import Path
+from dataclasses import dataclass, field
 
-MOVE, LINE, ARC, BEZIER = range(4)
+from earth import FARTHEST as FARTHEST_ON_EARTH
+from earth import Plane
+from gpx import OTHERS, read_gpx
+from lapfile import FARTHEST, MOST_COMMANDS, MOST_LAPS
+from progress import watched
+from table import Table
+from times import iso, seconds
+from trouble import Refused, Trouble
 
-# Document 01's refusals, for people.
-REFUSALS = {
-    1: "the file is shorter than 8 bytes, or not whole",
-    2: "too many laps (64 at most), positions (800) or bytes (65,536)",
-    3: "no lap file: its mark or its table is wrong, it has over 800 commands, or the two files differ in laps",
-    4: "a lap does not start with its Move, has a second one, or has a command of unknown kind",
-    5: "a position is not a number, or is more than 1,000,000 m from zero",
-    6: "the tolerance must be from 0.001 to 1,000 m",
-    7: "there is no lap of that number",
-    8: "the fit could have more than 800 commands",
-    9: "the output has not enough room",
-}
+SLOWEST = 0.01  # metres a second: whoever moves less has recorded degrees, where 0.01 is a kilometre
+TOO_MANY = "; --laps-at FROM..TO,.. takes the repetitions alone"
 
 
-class Trouble(Exception):
-    """Something to tell in plain words, which is no refusal."""
-
-
-class Refused(Trouble):
-    """A refusal of document 01, by its number, and where it was met."""
-
-    def __init__(self, number, where=""):
-        super().__init__(f"{where}: {REFUSALS[number]}" if where else REFUSALS[number])
-        self.number = number
-
-
-@dataclass
+@dataclass(frozen=True)
 class Position:
     time: float
     place: tuple
 
 
 @dataclass
-class Piece:
-    """A fitted command: a straight, or a bend about a centre, with the times at which it starts and ends."""
-    start: tuple
-    end: tuple
-    arc: tuple
-    from_time: float
-    to_time: float
-
-    @property
-    def radius(self):
-        return math.hypot(*self.arc[0])
-
-    @property
-    def clockwise(self):
-        return self.arc[1] < 0
-
-    @property
-    def angle(self):
-        """How far a bend turns, from 0 to a whole turn."""
-        centre = self.start[0] + self.arc[0][0], self.start[1] + self.arc[0][1]
-        first, last = (math.atan2(p[1] - centre[1], p[0] - centre[0]) for p in (self.start, self.end))
-        return (first - last if self.clockwise else last - first) % (2 * math.pi)
-
-    @property
-    def length(self):
-        return self.radius * self.angle if self.arc else math.dist(self.start[:2], self.end[:2])
+class Workout:
+    """Laps of positions; where on the earth (0, 0) is, and the Unix time of second 0, where these are known."""
+    laps: list
+    origin: tuple = None
+    start: float = None
 
 
-def position(line, where):
-    """Lap and position of a line of text."""
-    words = line.split()
-    if len(words) != 5:
-        raise Trouble(f"{where}: has {len(words)} words; a position is: lap time x y z")
-    try:
-        lap, time, *place = int(words[0]), *map(float, words[1:])
-    except ValueError:
-        raise Trouble(f"{where}: '{line.strip()}' has a word that is no number") from None
-    if not abs(time) <= 1e9:
-        raise Trouble(f"{where}: '{words[1]}' is no time in seconds")
-    if not all(abs(x) <= 1_000_000 for x in place):
-        raise Refused(5, where)
-    return lap, Position(time, tuple(place))
+@dataclass
+class Choices:
+    """What a reader of a recording may be told: the columns of a table, when laps start and end, whether to count laps
+    anew, whether it must be a single lap of any number, and the workout it belongs to."""
+    columns: list = None
+    laps_at: list = field(default_factory=list)
+    renumber: bool = False
+    alone: bool = False
+    part_of: Workout = None
 
 
-def read_workout(name, alone=False):
-    """The laps of a text; one lap, of any number, where it stands alone."""
-    laps, last = [], None
-    for number, line in enumerate(Path(name).read_text().splitlines(), 1):
-        where = f"{name}, line {number}"
-        if not line.strip() or line.startswith("#"):
+def read_workout(data, name, choices=Choices()):
+    """The workout of a recording: GPX, or a table such as the workout's own text."""
+    if data[8:12] == b".FIT":
+        raise Trouble(f"{name}: is a .fit file; {OTHERS}")
+    if data.lstrip(b"\xef\xbb\xbf\xff\xfe \t\r\n\0").startswith(b"<"):
+        fixes, table = read_gpx(data, name), None
+    else:
+        table = Table(data, name, choices.columns)
+        fixes = list(watched(table.fixes(), len(table.lines), f"reading {name}"))
+    times, start = clock_of(fixes, remark(table, "start"), choices.part_of)
+    if table is None or table.in_degrees:
+        plane = plane_of(fixes[0], choices.part_of)
+        places, origin = laid_out(fixes, plane), plane.origin
+    else:
+        places, origin = in_metres(fixes), remark(table, "origin")
+        same_origin(origin, choices.part_of, name)
+    positions = [Position(*pair) for pair in zip(times, places)]
+    laps = laps_of(fixes, positions, start, choices)
+    if table and not table.in_degrees and not table.stated and origin is None:
+        stop_degrees(laps, name)
+    return Workout(laps, origin, start)
+
+
+def remark(table, word):
+    """The numbers behind a remark of the workout's own text, such as '# origin 60.17 24.94 12'; None without it."""
+    for where, words in table.remarks if table else ():
+        if words[:1] == [word]:
+            try:
+                values = tuple(seconds(w)[0] if word == "start" else float(w) for w in words[1:])
+            except ValueError as error:
+                raise Trouble(f"{where}: '{' '.join(words)}' has something else than numbers") from error
+            if len(values) != (1 if word == "start" else 3):
+                raise Trouble(f"{where}: '{' '.join(words)}' has too many numbers, or too few")
+            return values[0] if word == "start" else values
+    return None
+
+
+def clock_of(fixes, stated, part_of):
+    """The times in seconds, and the Unix time of second 0. Absolute times count from the first position, or as the workout
+    does that this recording is a part of."""
+    read = []
+    for fix in fixes:
+        try:
+            read.append(seconds(fix.time))
+        except ValueError as error:
+            raise Trouble(f"{fix.where}: '{fix.time}' is no time: seconds, mm:ss, ISO 8601 or Unix time") from error
+        if read[-1][1] != read[0][1]:
+            raise Trouble(f"{fix.where}: '{fix.time}' is another kind of time than the first position's")
+    if not read[0][1]:
+        return [value for value, _ in read], stated
+    start = read[0][0] if part_of is None or part_of.start is None else part_of.start
+    return [round(value - start, 6) for value, _ in read], start
+
+
+def plane_of(fix, part_of):
+    """The plane about the first position, or about the origin of the workout that this recording is a part of."""
+    if part_of is not None and part_of.origin is None:
+        raise Trouble(f"{fix.where}: latitude and longitude, where the workout has metres without a place on the earth")
+    check_degrees(fix)
+    return Plane(*part_of.origin) if part_of else Plane(fix.y, fix.x, fix.z or 0.0)
+
+
+def check_degrees(fix):
+    if not (abs(fix.y) <= 90 and abs(fix.x) <= 360):
+        raise Trouble(f"{fix.where}: latitude {fix.y:g} and longitude {fix.x:g} are no degrees")
+
+
+def laid_out(fixes, plane):
+    """Places in metres about the plane's origin; heights above it."""
+    places = []
+    for fix in fixes:
+        check_degrees(fix)
+        x, y = plane.metres(fix.y, fix.x)
+        if math.hypot(x, y) > FARTHEST_ON_EARTH:
+            raise Trouble(f"{fix.where}: is {math.hypot(x, y) / 1000:.0f} km from the first position")
+        z = 0.0 if fix.z is None else fix.z - plane.origin[2]
+        places.append((round(x, 3) + 0.0, round(y, 3) + 0.0, round(z, 3) + 0.0))
+    return places
+
+
+def in_metres(fixes):
+    places = [(fix.x, fix.y, fix.z or 0.0) for fix in fixes]
+    for fix, place in zip(fixes, places):
+        if not all(abs(x) <= FARTHEST for x in place):
+            raise Refused(5, fix.where)
+    return places
+
+
+def same_origin(origin, part_of, name):
+    if part_of is not None and origin != part_of.origin and origin is not None:
+        raise Trouble(f"{name}: its metres count from another place than the workout's")
+
+
+def laps_of(fixes, positions, start, choices):
+    """The laps, by a given list of times, by the fixes' lap numbers, or all as one; checked."""
+    numbers = [1 if fix.lap is None else fix.lap for fix in fixes]
+    if choices.laps_at:
+        spans = spans_of(choices.laps_at, start)
+        numbers = [lap_at(position.time, spans) for position in positions]
+    laps, last, count = [], None, 0
+    for fix, number, position in zip(fixes, numbers, positions):
+        if number is None:
             continue
-        lap, now = position(line, where)
-        if lap != last:
-            if alone and laps:
-                raise Trouble(f"{where}: a second lap, where one was asked for")
-            if not alone and lap != len(laps) + 1:
-                raise Trouble(f"{where}: lap {lap}, where lap {len(laps) or 1} or {len(laps) + 1} was expected")
+        count += 1
+        if number != last:
+            check_number(number, laps, fix.where, choices)
             laps.append([])
-        elif now.time < laps[-1][-1].time:
-            raise Trouble(f"{where}: its time is before the last position's")
-        last = lap
-        laps[-1].append(now)
-        if len(laps) > 64 or sum(map(len, laps)) > 800:
-            raise Refused(2, where)
-    if alone and not laps:
-        raise Trouble(f"{name}: has no position")
+            last = number
+        check_time(position, laps, fix.where)
+        laps[-1].append(position)
+        if len(laps) > MOST_LAPS or count > MOST_COMMANDS:
+            raise Refused(2, fix.where, TOO_MANY)
+    if not laps:
+        raise Trouble("no position lies in a lap of --laps-at")
     return laps
 
 
-def write_workout(laps, name):
+def spans_of(words, start):
+    """The laps of a list of times, each FROM..TO, or FROM alone and then to the next one: pairs of seconds."""
+    spans = []
+    for word in words:
+        try:
+            ends = [seconds(end) for end in word.split("..")]
+        except ValueError as error:
+            raise Trouble(f"--laps-at: '{word}' is no time") from error
+        if len(ends) > 2 or start is None and any(absolute for _, absolute in ends):
+            raise Trouble(f"--laps-at: '{word}' is no FROM or FROM..TO in the recording's kind of time")
+        values = [value - start if absolute else value for value, absolute in ends]
+        spans.append((values[0], values[-1] if len(values) == 2 else math.inf))
+    if any(a[0] >= b[0] for a, b in zip(spans, spans[1:])):
+        raise Trouble("--laps-at: the times go back")
+    return spans
+
+
+def lap_at(time, spans):
+    """The number of the last lap that has started by then; None before the first, and where that lap is over."""
+    number = sum(begin <= time for begin, _ in spans)
+    return number if number and time <= spans[number - 1][1] else None
+
+
+def check_number(number, laps, where, choices):
+    if choices.alone and laps:
+        raise Trouble(f"{where}: a second lap, where one was asked for")
+    if not choices.alone and not choices.renumber and not choices.laps_at and number != len(laps) + 1:
+        expected = f"lap {len(laps)} or {len(laps) + 1}" if laps else "lap 1"
+        raise Trouble(f"{where}: lap {number}, where {expected} was expected; --renumber counts the laps anew")
+
+
+def check_time(position, laps, where):
+    """Within a lap times grow; a lap may start at the very time at which the last one ended."""
+    before = laps[-1] or (laps[-2] if len(laps) > 1 else [])
+    if before and position.time < before[-1].time:
+        raise Trouble(f"{where}: its time, {position.time:g} s, is before the last position's, {before[-1].time:g} s")
+    if laps[-1] and position.time == before[-1].time:
+        raise Trouble(f"{where}: has the same time as the last position, {position.time:g} s")
+
+
+def stop_degrees(laps, name):
+    """Metres that hardly move, in the range of degrees, are taken for degrees."""
+    places = [position.place for lap in laps for position in lap]
+    lengths = [sum(math.dist(a.place[:2], b.place[:2]) for a, b in zip(lap, lap[1:])) for lap in laps]
+    spent = sum(lap[-1].time - lap[0].time for lap in laps)
+    in_range = all(abs(x) <= 360 and abs(y) <= 360 for x, y, _ in places)
+    if in_range and spent > 0 and sum(lengths) < SLOWEST * spent:
+        raise Trouble(
+            f"{name}: moves {sum(lengths):.5f} m in {spent:g} s: are these degrees? --columns lap,time,lat,lon says so, and "
+            "--columns lap,time,x,y,z that they are metres")
+
+
+def check_laps(laps, name):
+    """Laps in the order of their times, as after a replacement."""
+    for number, (lap, after) in enumerate(zip(laps, laps[1:]), 1):
+        if after[0].time < lap[-1].time:
+            raise Trouble(f"{name}: lap {number} ends at {lap[-1].time:g} s, after lap {number + 1} starts, {after[0].time:g} s")
+
+
+def workout_text(workout):
+    """The workout's own text, one position a line."""
     lines = ["# lap time x y z"]
-    for number, positions in enumerate(laps, 1):
+    if workout.origin:
+        lines.append("# origin " + " ".join(map(repr, workout.origin)))
+    if workout.start is not None:
+        lines.append(f"# start {iso(workout.start)}")
+    for number, positions in enumerate(workout.laps, 1):
         lines += (" ".join(map(str, (number, p.time, *p.place))) for p in positions)
-    Path(name).write_text("\n".join(lines) + "\n")
-
-
-def file_of(laps):
-    """The lap file of recorded laps: to each a Move, then Lines."""
-    table, bodies, at = b"", b"", 8 + 8 * len(laps)
-    for positions in laps:
-        table += struct.pack("<II", at + len(bodies), len(positions))
-        for i, p in enumerate(positions):
-            bodies += struct.pack("<B9d", LINE if i else MOVE, *p.place, *[0.0] * 6)
-    return b"LAPS" + struct.pack("<I", len(laps)) + table + bodies
-
-
-def commands_of(file, name):
-    """The commands of each lap of a file: kind and nine numbers."""
-    if len(file) < 8:
-        raise Refused(1, name)
-    count = struct.unpack_from("<I", file, 4)[0]
-    if count > 64 or len(file) > 65536:
-        raise Refused(2, name)
-    if file[:4] != b"LAPS" or len(file) < 8 + 8 * count:
-        raise Refused(3, name)
-    laps, at = [], 8 + 8 * count
-    for lap in range(count):
-        offset, number = struct.unpack_from("<II", file, 8 + 8 * lap)
-        if offset != at or number < 1 or at + 73 * number > len(file):
-            raise Refused(3, f"{name}, lap {lap + 1}")
-        laps.append([struct.unpack_from("<B9d", file, at + 73 * i) for i in range(number)])
-        at += 73 * number
-    if at != len(file):
-        raise Refused(3, name)
-    return laps
-
-
-def fault(name, refusal):
-    """Where in a lap file a refused command stands, for refusals 4 and 5; nothing for the others."""
-    if refusal not in (4, 5):
-        return ""
-    for lap, commands in enumerate(commands_of(Path(name).read_bytes(), name), 1):
-        for i, (kind, *numbers) in enumerate(commands):
-            used = {MOVE: 3, LINE: 3}.get(kind, 9)
-            misplaced = kind > BEZIER or (kind == MOVE) != (i == 0) or any(struct.pack("<9d", *numbers)[8 * used:])
-            limited = numbers if kind == BEZIER else numbers[:3]
-            outside = not all(map(math.isfinite, numbers)) or any(abs(x) > 1_000_000 for x in limited)
-            if misplaced if refusal == 4 else outside:
-                return f"{name}, lap {lap}, command {i + 1}"
-    return ""
-
-
-def laps_in(name):
-    """The commands of each lap of a file, all well formed."""
-    laps = commands_of(Path(name).read_bytes(), name)
-    for refusal in (4, 5):
-        if fault(name, refusal):
-            raise Refused(refusal, fault(name, refusal))
-    return laps
-
-
-def pieces_of(laps, fitted):
-    """Each lap's pieces. A piece ends at a recorded position; the next one along the lap that is equal to its end gives
-    its time, and the last piece ends with the lap."""
-    if len(laps) != len(fitted):
-        raise Refused(3, f"{len(laps)} recorded laps and {len(fitted)} fitted ones")
-    return [list(lap_pieces(*lap)) for lap in zip(laps, fitted, range(1, len(laps) + 1))]
-
-
-def lap_pieces(positions, commands, number):
-    at = 0
-    if not positions or tuple(commands[0][1:4]) != positions[0].place:
-        raise Trouble(f"lap {number} does not start at its first recorded position; is this the fit of this workout?")
-    for i, (kind, *numbers) in enumerate(commands):
-        end = tuple(numbers[:3])
-        if kind == MOVE:
-            continue
-        first = len(positions) - 1 if i == len(commands) - 1 else at + 1
-        to = next((j for j in range(first, len(positions)) if positions[j].place == end), None)
-        if to is None:
-            raise Trouble(f"lap {number}: command {i + 1} ends at no recorded position; is this the fit of this workout?")
-        arc = (tuple(numbers[3:5]), numbers[8]) if kind == ARC else None
-        yield Piece(positions[at].place, end, arc, positions[at].time, positions[to].time)
-        at = to
+    return "\n".join(lines) + "\n"

@@ -1,0 +1,104 @@
+"""Rows as text, CSV, JSON and GeoJSON."""
+import csv
+import io
+import json
+
+from trouble import Trouble
+
+ACROSS = 8       # laps beside each other in a table
+SAGITTA = 0.05   # metres by which a chord may leave a bend in GeoJSON and GPX
+
+COLUMNS = ("lap", "part", "radius_m", "from_s", "to_s", "length_m", "time_s", "pace_s_per_km", "position_m",
+           "position_s", "pace_error_s_per_km")
+
+
+def clock(seconds):
+    """Minutes and seconds; a dash for none."""
+    if seconds is None:
+        return "-"
+    return f"{round(seconds) // 60}:{round(seconds) % 60:02}"
+
+
+def number(value):
+    return f"{value:.2f}" if value is not None else "-"
+
+
+def text(rows):
+    """A table for the eye, with the length and time of one position, and the error of the pace that comes of them."""
+    head = "lap  part          radius     from       to   length    time  pace/km  one position  +-pace"
+    lines = [head]
+    for r in rows:
+        radius = number(r.radius)
+        errors = f"{r.step_length:5.2f} m {r.step:4.2f} s  {clock(r.pace_error):>6}"
+        lines.append(f"{r.lap:3}  {r.part:11} {radius:>8} {r.from_time:8.2f} {r.to_time:8.2f} {r.length:8.2f} {r.time:7.2f}  "
+                     f"{clock(r.pace):>7} {errors}")
+    return "\n".join(lines) + "\n"
+
+
+def beside(rows):
+    """The laps beside each other: a line for each part, a column for each lap, pace and error in each."""
+    laps = sorted({r.lap for r in rows})
+    parts = list(dict.fromkeys(sorted((r.part for r in rows), key=order(rows))))
+    paces = {(r.lap, r.part): f"{clock(r.pace)} +-{clock(r.pace_error)}" for r in rows}
+    lines = []
+    for at in range(0, len(laps), ACROSS):
+        some = laps[at:at + ACROSS]
+        lines += ["", "pace/km     " + "".join(f"{'lap ' + str(lap):>14}" for lap in some)]
+        lines += [f"{part:12}" + "".join(f"{paces.get((lap, part), '-'):>14}" for lap in some) for part in parts]
+    return "\n".join(lines) + "\n"
+
+
+def limits_line(limits, tolerance):
+    """What counted as a bend."""
+    return (f"a bend turns by {limits.turn:g} degrees or more, on a radius of {limits.flat:g} m at most; what is shorter than "
+            f"{limits.shortest(tolerance):.1f} m joins what is beside it\n")
+
+
+def order(rows):
+    """Parts in the order of their place along a lap, in whichever lap they come last; the whole lap at the end."""
+    place = {}
+    for lap in {r.lap for r in rows}:
+        for i, r in enumerate(r for r in rows if r.lap == lap):
+            place[r.part] = max(place.get(r.part, 0), i)
+    return lambda part: (part == "whole", place[part], part)
+
+
+def values(r):
+    """A row's numbers, by the names of COLUMNS, rounded to what can be known."""
+    found = (r.radius, r.from_time, r.to_time, r.length, r.time, r.pace, r.step_length, r.step, r.pace_error)
+    rounded = [None if value is None else round(value, 3) for value in found]
+    return dict(zip(COLUMNS, [r.lap, r.part] + rounded))
+
+
+def as_csv(rows):
+    out = io.StringIO()
+    table = csv.DictWriter(out, COLUMNS, lineterminator="\n")
+    table.writeheader()
+    table.writerows(map(values, rows))
+    return out.getvalue()
+
+
+def as_json(rows, tolerance):
+    return f'{{"tolerance_m": {json.dumps(tolerance)}, "rows": [\n' + one_a_line(map(values, rows)) + "]}\n"
+
+
+def one_a_line(items):
+    return ",\n".join(map(json.dumps, items)) + "\n"
+
+
+def as_geojson(rows, tolerance, plane):
+    """Each row but whole laps as a line on the earth; bends as chords."""
+    if plane is None:
+        raise Trouble("these metres have no place on the earth: --origin LAT,LON gives them one")
+    features = []
+    for r in rows:
+        if r.part == "whole":
+            continue
+        places = [r.strokes[0].start] + [place for stroke in r.strokes for place in stroke.points(SAGITTA)]
+        line = [[round(degree, 8) for degree in reversed(plane.degrees(*place[:2]))] for place in places]
+        features.append({
+            "type": "Feature",
+            "geometry": {"type": "LineString", "coordinates": line},
+            "properties": {**values(r), "tolerance_m": tolerance},
+        })
+    return '{"type": "FeatureCollection", "features": [\n' + one_a_line(features) + "]}\n"

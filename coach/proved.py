@@ -1,0 +1,36 @@
+"""The proved functions, by the C tool over their archive: every fitted byte of the coach's tool is made here."""
+import subprocess
+import tempfile
+from pathlib import Path
+
+from lapfile import fault, bodies_of
+from trouble import NotBuilt, Refused, Trouble
+
+TOOL = Path(__file__).resolve().parent.parent / "target" / "coach" / "laptool"
+
+
+def laptool(words, data, recorded, name):
+    """What the tool writes. A refusal, which ends it with 1 to 9, is told with its place in the recorded file."""
+    if not TOOL.exists():
+        raise NotBuilt("the tool is not built yet: run coach/build first")
+    done = subprocess.run([str(TOOL), *map(str, words)], input=data, capture_output=True, check=False)
+    if 1 <= done.returncode <= 9:
+        where = fault(bodies_of(recorded, name), done.returncode) if done.returncode in (4, 5) else ""
+        raise Refused(done.returncode, name + where if where else "")
+    if done.returncode:
+        raise Trouble(done.stderr.decode(errors="replace").strip() or f"laptool ended with {done.returncode}")
+    return done.stdout
+
+
+def fitted_bytes(tolerance, recorded, name):
+    """The fit of a recorded lap file."""
+    return laptool(["fit", tolerance, "-", "-"], recorded, recorded, name)
+
+
+def replaced_bytes(recorded, fitted, lap, new_lap, tolerance, name):
+    """The fitted file with a lap replaced; the new lap is a lap file of one lap."""
+    with tempfile.TemporaryDirectory() as folder:
+        second, third = Path(folder) / "fitted", Path(folder) / "new"
+        second.write_bytes(fitted)
+        third.write_bytes(new_lap)
+        return laptool(["replace", "-", second, lap, third, tolerance, "-"], recorded, recorded, name)

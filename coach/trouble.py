@@ -1,0 +1,50 @@
+"""What can go wrong, in plain words, and the exit status of each kind."""
+
+# Document 01's refusals, for people.
+REFUSALS = {
+    1: "the file is shorter than 8 bytes, or not whole",
+    2: "too many laps (64 at most), positions (800) or bytes (65,536)",
+    3: "no lap file: its mark or its table is wrong, it has over 800 commands, or the two files differ in laps",
+    4: "a lap does not start with its Move, has a second one, or has a command of unknown kind",
+    5: "a position is not a number, or is more than 1,000,000 m from zero",
+    6: "the tolerance must be from 0.001 to 1,000 m",
+    7: "there is no lap of that number",
+    8: "the fit could have more than 800 commands",
+    9: "the output has not enough room",
+}
+
+DONE, WORDS, INPUT, OUTPUT, NOT_BUILT, REFUSED = 0, 2, 3, 4, 5, 10
+INTERRUPTED, ENDED, PIPE = 130, 143, 141
+
+STATUSES = """exit status:
+  0        done
+  2        the words of the command are wrong
+  3        an input cannot be read, or is nonsense
+  4        an output cannot be written: it is there already, is also an input, has no folder or no room
+  5        target/coach/laptool is not built: run coach/build
+  11..19   refused: 10 and the number in document 01's table
+  130, 143 interrupted, or ended by a signal; each output is whole, or as it was
+  141      the reader of standard output went away"""
+
+
+class Trouble(Exception):
+    """An input that cannot be used."""
+    status = INPUT
+
+
+class NotWritten(Trouble):
+    """An output that cannot be written; nothing was changed."""
+    status = OUTPUT
+
+
+class NotBuilt(Trouble):
+    status = NOT_BUILT
+
+
+class Refused(Trouble):
+    """A refusal of document 01, by its number, and where it was met."""
+
+    def __init__(self, number, where="", hint=""):
+        words = f"{where}: {REFUSALS[number]}" if where else REFUSALS[number]
+        super().__init__(f"refused, number {number}: {words}{hint}")
+        self.status = REFUSED + number
