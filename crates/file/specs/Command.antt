@@ -48,8 +48,8 @@ unfoldable pub lentLap : List ℕ → List Float → List (List ℕ)
 lentLap ks ns = listFrom (lentBytes ks ns) (length ks) 0
 
 -- ---- what an f64 can hold: each number of a list, of a point, of a command
--- A `Float` here may be any value; a lent f64 is one of those that the format holds. So where a law asks `Held` of lent numbers, it excludes no call: the program logic gives
--- it of each slice of f64.
+-- A `Float` may be any value, of any precision; a lent f64 has a pattern of 64 bits, and the value of each pattern is held (the library's `ofBits-fits`). So where a law asks
+-- `Held` of lent numbers, it excludes none.
 abbrev pub Held : List Float → Type 0
 Held ns = (i : ℕ) → T (fits binary64 (getD ns i nan))
 
