@@ -4,7 +4,8 @@ use crate::evaluation::Evaluated;
 use crate::evaluation::point_on;
 use floats::float::ceil;
 use floats::float::max;
-use geo::domain::is_within;
+use geo::domain::is_parameter;
+use geo::domain::is_tolerance;
 use geo::domain::point_in;
 use geo::domain::point3_in;
 use geo::lent::put_point;
@@ -78,7 +79,7 @@ pub fn get_bezier_point_at(p0: Point, c1: Point, c2: Point, p1: Point, t: f64) -
     if !curve_in(q) {
         return BezierPoint::Refused(5);
     }
-    if !is_within(0.0, 1.0, t) {
+    if !is_parameter(t) {
         return BezierPoint::Refused(5);
     }
     BezierPoint::At(point_on(q, t))
@@ -116,7 +117,7 @@ pub fn split_bezier(p0: Point, c1: Point, c2: Point, p1: Point, t: f64) -> Bezie
     if !curve_in(q) {
         return BezierSplit::Refused(5);
     }
-    if !is_within(0.0, 1.0, t) {
+    if !is_parameter(t) {
         return BezierSplit::Refused(5);
     }
     let h = Halves::of(q, t);
@@ -285,7 +286,7 @@ fn check_params(
     if !curve_in_3d(end, control1, control2, start_point) {
         return 5;
     }
-    if !is_within(0.001, 1000.0, resolution) {
+    if !is_tolerance(resolution) {
         return 6;
     }
     0

@@ -4,7 +4,7 @@ use floats::float::abs;
 use floats::root::sqrt;
 use geo::domain::all_coordinates;
 use geo::domain::is_centre;
-use geo::domain::is_within;
+use geo::domain::is_tolerance;
 use geo::domain::point3_in;
 use geo::lent::point_at;
 use geo::point::get_length;
@@ -515,7 +515,7 @@ pub fn are_points_collinear_3d(points: &[f64], tolerance: f64) -> Collinear
     if 0 < refused {
         return Collinear::Refused(refused);
     }
-    if !is_within(0.001, 1000.0, tolerance) {
+    if !is_tolerance(tolerance) {
         return Collinear::Refused(6);
     }
     let n = points.len() / 3;

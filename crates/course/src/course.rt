@@ -7,7 +7,7 @@ use fitting::fitting::flush_chain;
 use fitting::fitting::put_noted;
 use geo::domain::commands_formed;
 use geo::domain::commands_in;
-use geo::domain::is_within;
+use geo::domain::is_tolerance;
 use geo::lent::command_at;
 use geo::lent::point_at;
 use geo::lent::put_point;
@@ -57,7 +57,7 @@ pub enum Flush {
 
 impl Flush {
     // Whether a Bezier's steps join the chain; else it is kept.
-    pub fn joins_beziers(self) -> bool
+    fn joins_beziers(self) -> bool
         ensures { λ r. ⌜ r ≡ joinsBeziers self ⌝ }
     {
         match self {
@@ -438,7 +438,7 @@ fn check_input(kinds: &[u8], nums: &[f64], tolerance: f64, out_nums: usize) -> u
     if !commands_in(kinds, nums) {
         return 5;
     }
-    if !is_within(0.001, 1000.0, tolerance) {
+    if !is_tolerance(tolerance) {
         return 6;
     }
     0

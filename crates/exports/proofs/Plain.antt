@@ -8,15 +8,15 @@ use Rattle.geo.specs.declared.types.Answer.{Answer}
 use Rattle.geo.specs.declared.types.Command.{Command}
 use Rattle.geo.specs.Outcome.{Outcome, refused, gives, answer, Wrote}
 use Rattle.geo.specs.Commands.{WroteCommands}
-use Rattle.exports.specs.Plain.{numberOf, laid, told, refusedBy, countOr, Gave, Told, Handed, Listed, ListedCommands}
+use Rattle.exports.specs.Plain.{numberOf, laidPlain, told, refusedBy, countOr, Gave, Told, Handed, Listed, ListedCommands}
 
 module _ {A : Type 0} (lay : A → List Float) (o : Outcome A) (out : List Float) where
   pub gave : (a : A) (out′ : List Float) → o ≡ gives a → out′ ≡ sets out 0 (lay a) → Gave lay o out out′ 0
-  unfolding numberOf laid
+  unfolding numberOf laidPlain
   gave a out′ e h = record { says = rw e; leaves = rw e h }
 
   pub gave-nothing : (n : ℕ) → o ≡ refused n → Gave lay o out out n
-  unfolding numberOf laid
+  unfolding numberOf laidPlain
   gave-nothing n e = record { says = rw e; leaves = rw e }
 
 module _ {A B : Type 0} (of : A → B) (o : Outcome A) (b : B) where

@@ -24,8 +24,8 @@ use Rattle.circle.specs.Three.{Circle}
 use Rattle.circle.specs.Kasa.{LeastSquares}
 
 -- ---- points from their numbers
-abbrev pub point : Float → Float → Point
-point x y = record { x = x; y = y }
+abbrev pub planePoint : Float → Float → Point
+planePoint x y = record { x = x; y = y }
 
 abbrev pub point3 : Float → Float → Float → Point3D
 point3 x y z = record { x = x; y = y; z = z }
@@ -60,7 +60,7 @@ throughNumbers none = []
 
 -- the circle of least squares: centre, radius and greatest error
 unfoldable pub circleNumbers : Option LeastSquares → List Float
-circleNumbers (some c) = pair (c .center) ++ pair (point (c .radius) (c .error))
+circleNumbers (some c) = pair (c .center) ++ pair (planePoint (c .radius) (c .error))
 circleNumbers none = []
 
 -- ---- a tolerance that is given, or else the source's
@@ -76,9 +76,9 @@ numberOf (refused n) = n
 numberOf (gives a) = 0
 
 -- lent numbers afterwards: the value's at the front, or all as it was where the call is refused
-unfoldable pub laid : {A B : Type 0} → (A → List B) → List B → Outcome A → List B
-laid lay out (refused n) = out
-laid lay out (gives a) = sets out 0 (lay a)
+unfoldable pub laidPlain : {A B : Type 0} → (A → List B) → List B → Outcome A → List B
+laidPlain lay out (refused n) = out
+laidPlain lay out (gives a) = sets out 0 (lay a)
 
 -- a lent flag or count afterwards: what `of` says of the value, or as it was
 unfoldable pub told : {A B : Type 0} → (A → B) → B → Outcome A → B
@@ -99,7 +99,7 @@ countOr count (Answer·.Refused n) = count
 -- the value's numbers go to lent memory
 pub record Gave {A : Type 0} (lay : A → List Float) (o : Outcome A) (out out′ : List Float) (r : ℕ) : Type 0 where
   pub says : r ≡ numberOf o
-  pub leaves : out′ ≡ laid lay out o
+  pub leaves : out′ ≡ laidPlain lay out o
 
 -- the value, or a part of it, is a truth or one number, and goes to lent memory for one
 pub record Told {A B : Type 0} (of : A → B) (o : Outcome A) (b b′ : B) (r : ℕ) : Type 0 where

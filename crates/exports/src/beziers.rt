@@ -18,9 +18,9 @@ ghost use Rattle.bezier.specs.Linearize.{six};
 ghost use Rattle.bezier.specs.Calls.{pointCall, splitCall, linearizeCall, paramCall};
 ghost use Rattle.subdivision.specs.Calls.{flatCall, adaptiveCall, segmentCall};
 ghost use Rattle.fit_cubic.specs.Calls.{cubicCall};
-ghost use Rattle.exports.specs.Plain.{point, point3, eight, sixteen, isCurve, curveNumbers, toleranceBy, Gave, Told, Listed};
+ghost use Rattle.exports.specs.Plain.{planePoint, point3, eight, sixteen, isCurve, curveNumbers, toleranceBy, Gave, Told, Listed};
 
-// The point at t of a curve in the plane.
+// The planePoint at t of a curve in the plane.
 #[no_mangle]
 pub extern "C" fn rt_get_bezier_point_at(
     p0x: f64,
@@ -34,7 +34,7 @@ pub extern "C" fn rt_get_bezier_point_at(
     t: f64,
     answer: &mut [f64; 2],
 ) -> u32
-    ensures { λ r. ⌜ Gave pair (pointCall (point p0x p0y) (point c1x c1y) (point c2x c2y) (point p1x p1y) t) (now (answer .entry)) (now (answer .exit)) r ⌝ }
+    ensures { λ r. ⌜ Gave pair (pointCall (planePoint p0x p0y) (planePoint c1x c1y) (planePoint c2x c2y) (planePoint p1x p1y) t) (now (answer .entry)) (now (answer .exit)) r ⌝ }
 {
     let p0 = Point { x: p0x, y: p0y };
     let c1 = Point { x: c1x, y: c1y };
@@ -75,7 +75,7 @@ pub extern "C" fn rt_split_bezier(
     t: f64,
     answer: &mut [f64; 16],
 ) -> u32
-    ensures { λ r. ⌜ Gave sixteen (splitCall (point p0x p0y) (point c1x c1y) (point c2x c2y) (point p1x p1y) t) (now (answer .entry)) (now (answer .exit)) r ⌝ }
+    ensures { λ r. ⌜ Gave sixteen (splitCall (planePoint p0x p0y) (planePoint c1x c1y) (planePoint c2x c2y) (planePoint p1x p1y) t) (now (answer .entry)) (now (answer .exit)) r ⌝ }
 {
     let p0 = Point { x: p0x, y: p0y };
     let c1 = Point { x: c1x, y: c1y };
@@ -106,7 +106,7 @@ pub extern "C" fn rt_is_bezier_flat(
     tolerance_sq: f64,
     flat: &mut bool,
 ) -> u32
-    ensures { λ r. ⌜ Told (λ b. b) (flatCall (point p0x p0y) (point c1x c1y) (point c2x c2y) (point p1x p1y) «tolerance_sq») (now (flat .entry)) (now (flat .exit)) r ⌝ }
+    ensures { λ r. ⌜ Told (λ b. b) (flatCall (planePoint p0x p0y) (planePoint c1x c1y) (planePoint c2x c2y) (planePoint p1x p1y) «tolerance_sq») (now (flat .entry)) (now (flat .exit)) r ⌝ }
 {
     let p0 = Point { x: p0x, y: p0y };
     let c1 = Point { x: c1x, y: c1y };
@@ -228,7 +228,7 @@ pub extern "C" fn rt_linearize_bezier_adaptive(
     out: &mut [f64],
     count: &mut usize,
 ) -> u32
-    ensures { λ r. ⌜ Listed (flat pair) (adaptiveCall (point p0x p0y) (point c1x c1y) (point c2x c2y) (point p1x p1y) «tolerance_sq» «max_depth» (length (now (out .entry)))) (now (out .entry)) (now (out .exit)) (now (count .entry)) (now (count .exit)) r ⌝ }
+    ensures { λ r. ⌜ Listed (flat pair) (adaptiveCall (planePoint p0x p0y) (planePoint c1x c1y) (planePoint c2x c2y) (planePoint p1x p1y) «tolerance_sq» «max_depth» (length (now (out .entry)))) (now (out .entry)) (now (out .exit)) (now (count .entry)) (now (count .exit)) r ⌝ }
 {
     let p0 = Point { x: p0x, y: p0y };
     let c1 = Point { x: c1x, y: c1y };

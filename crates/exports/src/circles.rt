@@ -10,7 +10,7 @@ use geo::types::Point;
 use geo::types::Point3D;
 ghost use Rattle.geo.specs.Lent.{pair};
 ghost use Rattle.circle.specs.Calls.{collinearCall, throughCall, fittedCall, projectedCall};
-ghost use Rattle.exports.specs.Plain.{point, point3, isFound, throughNumbers, circleNumbers, Gave, Told};
+ghost use Rattle.exports.specs.Plain.{planePoint, point3, isFound, throughNumbers, circleNumbers, Gave, Told};
 
 // Whether points lie on a straight line.
 #[no_mangle]
@@ -131,7 +131,7 @@ pub extern "C" fn rt_project_circle_center_to_bisector(
     cy: f64,
     answer: &mut [f64; 2],
 ) -> u32
-    ensures { λ r. ⌜ Gave pair (projectedCall (point3 p1x p1y p1z) (point3 p2x p2y p2z) (point cx cy)) (now (answer .entry)) (now (answer .exit)) r ⌝ }
+    ensures { λ r. ⌜ Gave pair (projectedCall (point3 p1x p1y p1z) (point3 p2x p2y p2z) (planePoint cx cy)) (now (answer .entry)) (now (answer .exit)) r ⌝ }
 {
     let p1 = Point3D {
         x: p1x,

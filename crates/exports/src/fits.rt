@@ -5,9 +5,9 @@ use fitting::fitting::LineDeviation;
 use geo::types::Point;
 ghost use lib.ListN.{length};
 ghost use Rattle.fitting.specs.Calls.{lineCall, arcCall, fitCall, primitivesCall};
-ghost use Rattle.exports.specs.Plain.{point, Told, ListedCommands};
+ghost use Rattle.exports.specs.Plain.{planePoint, Told, ListedCommands};
 
-// The greatest distance of a point from the line through the points at start and end, and the first point that has it.
+// The greatest distance of a planePoint from the line through the points at start and end, and the first planePoint that has it.
 #[no_mangle]
 pub extern "C" fn rt_get_polyline_line_deviation(
     points: &[f64],
@@ -39,7 +39,7 @@ pub extern "C" fn rt_get_polyline_arc_deviation(
     radius: f64,
     dist: &mut f64,
 ) -> u32
-    ensures { λ r. ⌜ Told (λ d. d) (arcCall (now (points .entry)) (point cx cy) radius) (now (dist .entry)) (now (dist .exit)) r ⌝ }
+    ensures { λ r. ⌜ Told (λ d. d) (arcCall (now (points .entry)) (planePoint cx cy) radius) (now (dist .entry)) (now (dist .exit)) r ⌝ }
 {
     let center = Point { x: cx, y: cy };
     let a = fitting::fitting::get_polyline_arc_deviation(points, center, radius);

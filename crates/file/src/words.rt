@@ -85,7 +85,7 @@ fn pattern_of(x: f64) -> u64
 }
 
 // Writes the eight bytes of x from `at` on.
-pub fn put_f64(out: &mut [u8], at: usize, x: f64)
+pub(crate) fn put_f64(out: &mut [u8], at: usize, x: f64)
     requires { ⌜ at + 8 ≤ length (now out) ⌝ }
     ensures { λ _. ⌜ now (out .exit) ≡ sets (now (out .entry)) at (f64Bytes x) ⌝ }
 {

@@ -3,7 +3,8 @@ use circle::circle::Deviation;
 use circle::circle::check_points;
 use floats::root::sqrt;
 use geo::domain::is_centre;
-use geo::domain::is_within;
+use geo::domain::is_radius;
+use geo::domain::is_tolerance;
 use geo::lent::point_at;
 use geo::lent::put_command;
 use geo::types::Answer;
@@ -44,7 +45,7 @@ pub enum ArcDeviation {
 }
 
 // The greatest distance of a point from the endless line through the range's ends, and the first point that has it.
-pub fn line_deviation(points: &[f64], start: usize, end: usize) -> Deviation
+fn line_deviation(points: &[f64], start: usize, end: usize) -> Deviation
     requires { ⌜ (3 * start + 2 < length (now points)) × (3 * end + 2 < length (now points)) ⌝ }
     ensures { λ r. ⌜ r ≡ lineDeviation lineSq (pointAt (now (points .entry))) start end ⌝ }
 {
@@ -210,7 +211,7 @@ fn check_arc(points: &[f64], center: Point, radius: f64) -> u32
     if !is_centre(center.y) {
         return 5;
     }
-    if !is_within(0.0, 1e12, radius) {
+    if !is_radius(radius) {
         return 5;
     }
     0
@@ -269,7 +270,7 @@ fn check_fit(
     if refused != 0 {
         return refused;
     }
-    if !is_within(0.001, 1000.0, tolerance) {
+    if !is_tolerance(tolerance) {
         return 6;
     }
     if is_outside(points.len() / 3, start, end) {

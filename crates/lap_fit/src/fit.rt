@@ -7,7 +7,7 @@ use file::command::COMMAND_BYTES;
 use file::command::read_command;
 use file::command::read_commands;
 use file::command::write_commands;
-use geo::domain::is_within;
+use geo::domain::is_tolerance;
 use geo::types::Answer;
 use geo::types::Point3D;
 use laps::lap_file::check_file;
@@ -183,7 +183,7 @@ fn check_fit(s: &[u8], tolerance: f64, room: usize) -> u32
     if refused != 0 {
         return refused;
     }
-    if !is_within(0.001, 1000.0, tolerance) {
+    if !is_tolerance(tolerance) {
         return 6;
     }
     check_sizes(lap_count(s), most_of(s, tolerance), room)

@@ -3,7 +3,7 @@ use course::course::course_most;
 use file::command::COMMAND_BYTES;
 use geo::domain::commands_formed;
 use geo::domain::commands_in;
-use geo::domain::is_within;
+use geo::domain::is_tolerance;
 use geo::types::Answer;
 use lap_fit::fit::fit_commands;
 use laps::lap_file::Check;
@@ -257,7 +257,7 @@ fn check_new(s: &[u8], f: &[u8], k: usize, kinds: &[u8], nums: &[f64], tolerance
     if fails_5(s, commands_in(kinds, nums)) {
         return 5;
     }
-    if !is_within(0.001, 1000.0, tolerance) {
+    if !is_tolerance(tolerance) {
         return 6;
     }
     if fails_7(k, s) {

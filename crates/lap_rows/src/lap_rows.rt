@@ -3,7 +3,7 @@ use course::course::Walk;
 use course::course::fit_course_with_steps;
 use file::command::COMMAND_BYTES;
 use file::command::read_commands;
-use geo::domain::is_within;
+use geo::domain::is_tolerance;
 use geo::types::Answer;
 use lap_fit::fit::most_of;
 use laps::lap_file::check_file;
@@ -196,7 +196,7 @@ fn check_text(s: &[u8], tolerance: f64, room: usize) -> u32
     if refused != 0 {
         return refused;
     }
-    if !is_within(0.001, 1000.0, tolerance) {
+    if !is_tolerance(tolerance) {
         return 6;
     }
     let most = most_of(s, tolerance);

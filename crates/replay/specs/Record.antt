@@ -34,12 +34,12 @@ pub record Whole (h : Head) : Type 0 where
 
 -- ---- what stands behind the head
 -- the numbers, the kinds and both files that are lent
-abbrev pub lentBytes : Head → ℕ
-lentBytes h = 8 * h .numbers + h .kinds + h .recorded + h .fitted
+abbrev pub lentSize : Head → ℕ
+lentSize h = 8 * h .numbers + h .kinds + h .recorded + h .fitted
 
 -- and the numbers and bytes that are written
 abbrev pub bodyBytes : Head → ℕ
-bodyBytes h = lentBytes h + 8 * h .written + h .stored
+bodyBytes h = lentSize h + 8 * h .written + h .stored
 
 -- ---- what a call answered and left
 -- the count, where the expected refusal is 0; else that refusal
@@ -50,5 +50,5 @@ isAnswered h (Refused n) = eqb n (h .refusal)
 -- what is written stands at the front of both outputs; all behind is left
 unfoldable pub isOutput : Head → List ℕ → List Float → List ℕ → Bool
 isOutput h body out bytes =
-    numbersWritten body (lentBytes h) (h .written) out && bytesWritten body (lentBytes h + 8 * h .written) (h .stored) bytes
+    numbersWritten body (lentSize h) (h .written) out && bytesWritten body (lentSize h + 8 * h .written) (h .stored) bytes
     && numbersLeft out (h .written) (length out) untouched && bytesLeft bytes (h .stored) (length bytes) 200

@@ -10,7 +10,7 @@ ghost use mathlib.Core.Path.{_≡_};
 ghost use mathlib.Core.Bool.{true, false};
 ghost use Prim.Native.Nat.{_≤_};
 ghost use lib.ListN.{length};
-ghost use Rattle.replay.specs.Record.{IsHead, Whole, lentBytes, bodyBytes, isAnswered, isOutput};
+ghost use Rattle.replay.specs.Record.{IsHead, Whole, lentSize, bodyBytes, isAnswered, isOutput};
 
 // The bytes of a head.
 pub const HEAD_SIZE: usize = 112;
@@ -110,7 +110,7 @@ pub fn is_whole(h: Head) -> bool
 // How many bytes are lent, and how many stand behind the head.
 pub fn lent_size(h: Head) -> usize
     requires { ⌜ Whole h ⌝ }
-    ensures { λ r. ⌜ r ≡ lentBytes h ⌝ }
+    ensures { λ r. ⌜ r ≡ lentSize h ⌝ }
 {
     8 * h.numbers + h.kinds + h.recorded + h.fitted
 }

@@ -3,7 +3,8 @@ use bezier::bezier::Halves;
 use bezier::bezier::curve_in;
 use bezier::bezier::curve_in_3d;
 use floats::float::max;
-use geo::domain::is_within;
+use geo::domain::is_tolerance;
+use geo::domain::is_tolerance_squared;
 use geo::lent::put_pair;
 use geo::lent::put_point;
 use geo::point::get_distance_squared;
@@ -102,7 +103,7 @@ pub fn is_bezier_flat(p0: Point, c1: Point, c2: Point, p1: Point, tolerance_sq: 
     if !curve_in(q) {
         return Flatness::Refused(5);
     }
-    if !is_within(1e-6, 1000000.0, tolerance_sq) {
+    if !is_tolerance_squared(tolerance_sq) {
         return Flatness::Refused(6);
     }
     Flatness::Is(is_flat(q, tolerance_sq))
@@ -142,7 +143,7 @@ fn check_adaptive(q: CubicBezier, tolerance_sq: f64, max_depth: usize, room: usi
     if !curve_in(q) {
         return 5;
     }
-    if !is_within(1e-6, 1000000.0, tolerance_sq) {
+    if !is_tolerance_squared(tolerance_sq) {
         return 6;
     }
     if room < 2 * (1 + power_of_two(max_depth)) {
@@ -276,7 +277,7 @@ fn check_segment(p0: Point3D, c1: Point3D, c2: Point3D, p1: Point3D, t: f64, roo
     if !curve_in_3d(p0, c1, c2, p1) {
         return 5;
     }
-    if !is_within(0.001, 1000.0, t) {
+    if !is_tolerance(t) {
         return 6;
     }
     if room < SEGMENT_ROOM {

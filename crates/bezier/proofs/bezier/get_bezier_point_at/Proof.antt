@@ -19,13 +19,13 @@ unfolding pointCall pointAnswer
 returns c = let e = c .before .curve-in .ensures ∙ ap (λ (q : CubicBezier). curveIn q) (c .before .before .new .ensures) in
     rw (← e, not-true (c .before .curve-in .result) (c .if1 .taken))
 
-is-within-requires : tie.Need-is-within-requires
-is-within-requires c κs = search needs
+is-parameter-requires : tie.Need-is-parameter-requires
+is-parameter-requires c κs = search needs
 
 returns-2 : tie.Need-returns-2
 unfolding pointCall pointAnswer
 returns-2 c = let e = c .before .before .before .curve-in .ensures ∙ ap (λ (q : CubicBezier). curveIn q) (c .before .before .before .before .new .ensures) in
-    rw (← e, not-false (c .before .before .before .curve-in .result) (c .before .before .if1 .left), ← c .before .is-within .ensures, not-true (c .before .is-within .result) (c .if2 .taken))
+    rw (← e, not-false (c .before .before .before .curve-in .result) (c .before .before .if1 .left), ← c .before .is-parameter .ensures, not-true (c .before .is-parameter .result) (c .if2 .taken))
 
 point-on-requires : tie.Need-point-on-requires
 point-on-requires c κs = search needs
@@ -33,7 +33,7 @@ point-on-requires c κs = search needs
 returns-3 : tie.Need-returns-3
 unfolding pointCall pointAnswer
 returns-3 c = let e = c .before .before .before .before .curve-in .ensures ∙ ap (λ (q : CubicBezier). curveIn q) (c .before .before .before .before .before .new .ensures) in
-    rw (← e, not-false (c .before .before .before .before .curve-in .result) (c .before .before .before .if1 .left), ← c .before .before .is-within .ensures, not-false (c .before .before .is-within .result) (c .before .if2 .left), c .point-on .ensures, c .before .before .before .before .before .new .ensures)
+    rw (← e, not-false (c .before .before .before .before .curve-in .result) (c .before .before .before .if1 .left), ← c .before .before .is-parameter .ensures, not-false (c .before .before .is-parameter .result) (c .before .if2 .left), c .point-on .ensures, c .before .before .before .before .before .new .ensures)
 
 pub get-bezier-point-at-spec : {M : Type 1} → statement M
 get-bezier-point-at-spec =
@@ -42,7 +42,7 @@ get-bezier-point-at-spec =
     new-requires
     curve-in-requires
     returns
-    is-within-requires
+    is-parameter-requires
     returns-2
     point-on-requires
     returns-3)

@@ -19,13 +19,13 @@ unfolding splitCall splitAnswer
 returns c = let e = c .before .curve-in .ensures ∙ ap (λ (q : CubicBezier). curveIn q) (c .before .before .new .ensures) in
     rw (← e, not-true (c .before .curve-in .result) (c .if1 .taken))
 
-is-within-requires : tie.Need-is-within-requires
-is-within-requires c κs = search needs
+is-parameter-requires : tie.Need-is-parameter-requires
+is-parameter-requires c κs = search needs
 
 returns-2 : tie.Need-returns-2
 unfolding splitCall splitAnswer
 returns-2 c = let e = c .before .before .before .curve-in .ensures ∙ ap (λ (q : CubicBezier). curveIn q) (c .before .before .before .before .new .ensures) in
-    rw (← e, not-false (c .before .before .before .curve-in .result) (c .before .before .if1 .left), ← c .before .is-within .ensures, not-true (c .before .is-within .result) (c .if2 .taken))
+    rw (← e, not-false (c .before .before .before .curve-in .result) (c .before .before .if1 .left), ← c .before .is-parameter .ensures, not-true (c .before .is-parameter .result) (c .if2 .taken))
 
 of-requires : tie.Need-of-requires
 of-requires c κs = search needs
@@ -33,7 +33,7 @@ of-requires c κs = search needs
 returns-3 : tie.Need-returns-3
 unfolding splitCall splitAnswer
 returns-3 c = let e = c .before .before .before .before .before .before .curve-in .ensures ∙ ap (λ (q : CubicBezier). curveIn q) (c .before .before .before .before .before .before .before .new .ensures) in
-    rw (← e, not-false (c .before .before .before .before .before .before .curve-in .result) (c .before .before .before .before .before .if1 .left), ← c .before .before .before .before .is-within .ensures, not-false (c .before .before .before .before .is-within .result) (c .before .before .before .if2 .left), c .before .before .of .ensures, c .before .before .before .before .before .before .before .new .ensures)
+    rw (← e, not-false (c .before .before .before .before .before .before .curve-in .result) (c .before .before .before .before .before .if1 .left), ← c .before .before .before .before .is-parameter .ensures, not-false (c .before .before .before .before .is-parameter .result) (c .before .before .before .if2 .left), c .before .before .of .ensures, c .before .before .before .before .before .before .before .new .ensures)
 
 pub split-bezier-spec : {M : Type 1} → statement M
 split-bezier-spec =
@@ -42,7 +42,7 @@ split-bezier-spec =
     new-requires
     curve-in-requires
     returns
-    is-within-requires
+    is-parameter-requires
     returns-2
     of-requires
     returns-3)

@@ -33,7 +33,7 @@ passed-5 : (c : tie.Else6) → not (commandsIn (c .before .before .before .befor
 passed-5 c = not-passes _ _ (c .before .commands-in .ensures) (c .if6 .left)
 
 passed-6 : (c : tie.Else7) → not (tolerance (c .before .before .before .before .before .before .before .before .before .before .before .before .args .tolerance)) ≡ false
-passed-6 c = not-passes _ _ (c .before .is-within .ensures) (c .if7 .left)
+passed-6 c = not-passes _ _ (c .before .is-tolerance .ensures) (c .if7 .left)
 
 returns : tie.Need-returns
 unfolding refusal inputRows
@@ -67,12 +67,12 @@ returns-6 : tie.Need-returns-6
 unfolding refusal inputRows
 returns-6 c = rw (passed-1 (c .before .before .before .before .before .before), passed-2 (c .before .before .before .before .before), passed-3 (c .before .before .before .before), passed-4 (c .before .before), not-fails _ _ (c .before .commands-in .ensures) (c .if6 .taken))
 
-is-within-requires : tie.Need-is-within-requires
-is-within-requires c κs = search needs
+is-tolerance-requires : tie.Need-is-tolerance-requires
+is-tolerance-requires c κs = search needs
 
 returns-7 : tie.Need-returns-7
 unfolding refusal inputRows
-returns-7 c = rw (passed-1 (c .before .before .before .before .before .before .before .before), passed-2 (c .before .before .before .before .before .before .before), passed-3 (c .before .before .before .before .before .before), passed-4 (c .before .before .before .before), passed-5 (c .before .before), not-fails _ _ (c .before .is-within .ensures) (c .if7 .taken))
+returns-7 c = rw (passed-1 (c .before .before .before .before .before .before .before .before), passed-2 (c .before .before .before .before .before .before .before), passed-3 (c .before .before .before .before .before .before), passed-4 (c .before .before .before .before), passed-5 (c .before .before), not-fails _ _ (c .before .is-tolerance .ensures) (c .if7 .taken))
 
 returns-8 : tie.Need-returns-8
 unfolding refusal inputRows
@@ -90,6 +90,6 @@ check-input-spec =
     returns-5
     commands-in-requires
     returns-6
-    is-within-requires
+    is-tolerance-requires
     returns-7
     returns-8)

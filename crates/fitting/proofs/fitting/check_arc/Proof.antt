@@ -28,16 +28,16 @@ returns-3 : tie.Need-returns-3
 unfolding arcRows
 returns-3 c = sym (points-passed _ _ _ (c .before .before .before .before .before .check-points .ensures) (c .before .before .before .before .if1 .left) ∙ row-passes _ _ _ (not-passes _ _ (c .before .before .before .is-centre .ensures) (c .before .before .if2 .left)) ∙ row-fails _ _ _ (not-fails _ _ (c .before .is-centre2 .ensures) (c .if3 .taken)))
 
-is-within-requires : tie.Need-is-within-requires
-is-within-requires c κs = search needs
+is-radius-requires : tie.Need-is-radius-requires
+is-radius-requires c κs = search needs
 
 returns-4 : tie.Need-returns-4
 unfolding arcRows
-returns-4 c = sym (points-passed _ _ _ (c .before .before .before .before .before .before .before .check-points .ensures) (c .before .before .before .before .before .before .if1 .left) ∙ row-passes _ _ _ (not-passes _ _ (c .before .before .before .before .before .is-centre .ensures) (c .before .before .before .before .if2 .left)) ∙ row-passes _ _ _ (not-passes _ _ (c .before .before .before .is-centre2 .ensures) (c .before .before .if3 .left)) ∙ row-fails _ _ _ (not-fails _ _ (c .before .is-within .ensures) (c .if4 .taken)))
+returns-4 c = sym (points-passed _ _ _ (c .before .before .before .before .before .before .before .check-points .ensures) (c .before .before .before .before .before .before .if1 .left) ∙ row-passes _ _ _ (not-passes _ _ (c .before .before .before .before .before .is-centre .ensures) (c .before .before .before .before .if2 .left)) ∙ row-passes _ _ _ (not-passes _ _ (c .before .before .before .is-centre2 .ensures) (c .before .before .if3 .left)) ∙ row-fails _ _ _ (not-fails _ _ (c .before .is-radius .ensures) (c .if4 .taken)))
 
 returns-5 : tie.Need-returns-5
 unfolding arcRows
-returns-5 c = sym (points-passed _ _ _ (c .before .before .before .before .before .before .before .check-points .ensures) (c .before .before .before .before .before .before .if1 .left) ∙ row-passes _ _ _ (not-passes _ _ (c .before .before .before .before .before .is-centre .ensures) (c .before .before .before .before .if2 .left)) ∙ row-passes _ _ _ (not-passes _ _ (c .before .before .before .is-centre2 .ensures) (c .before .before .if3 .left)) ∙ row-passes _ _ _ (not-passes _ _ (c .before .is-within .ensures) (c .if4 .left)) ∙ done)
+returns-5 c = sym (points-passed _ _ _ (c .before .before .before .before .before .before .before .check-points .ensures) (c .before .before .before .before .before .before .if1 .left) ∙ row-passes _ _ _ (not-passes _ _ (c .before .before .before .before .before .is-centre .ensures) (c .before .before .before .before .if2 .left)) ∙ row-passes _ _ _ (not-passes _ _ (c .before .before .before .is-centre2 .ensures) (c .before .before .if3 .left)) ∙ row-passes _ _ _ (not-passes _ _ (c .before .is-radius .ensures) (c .if4 .left)) ∙ done)
 
 pub check-arc-spec : {M : Type 1} → statement M
 check-arc-spec =
@@ -49,6 +49,6 @@ check-arc-spec =
     returns-2
     is-centre-requires-2
     returns-3
-    is-within-requires
+    is-radius-requires
     returns-4
     returns-5)

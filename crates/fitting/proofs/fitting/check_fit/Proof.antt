@@ -18,34 +18,34 @@ returns-2 : tie.Need-returns-2
 unfolding fitRows
 returns-2 c = points-refused _ _ _ (c .before .check-points .ensures) (c .if2 .taken) ∙ sym (row-passes _ _ _ (whole-passes 9 _ (c .before .before .if1 .left)))
 
-is-within-requires : tie.Need-is-within-requires
-is-within-requires c κs = search needs
+is-tolerance-requires : tie.Need-is-tolerance-requires
+is-tolerance-requires c κs = search needs
 
 returns-3 : tie.Need-returns-3
 unfolding fitRows
-returns-3 c = sym (row-passes _ _ _ (whole-passes 9 _ (c .before .before .before .before .if1 .left)) ∙ points-passed _ _ _ (c .before .before .before .check-points .ensures) (c .before .before .if2 .left) ∙ row-fails _ _ _ (not-fails _ _ (c .before .is-within .ensures) (c .if3 .taken)))
+returns-3 c = sym (row-passes _ _ _ (whole-passes 9 _ (c .before .before .before .before .if1 .left)) ∙ points-passed _ _ _ (c .before .before .before .check-points .ensures) (c .before .before .if2 .left) ∙ row-fails _ _ _ (not-fails _ _ (c .before .is-tolerance .ensures) (c .if3 .taken)))
 
 is-outside-requires : tie.Need-is-outside-requires
 is-outside-requires c κs = search needs
 
 returns-4 : tie.Need-returns-4
 unfolding fitRows
-returns-4 c = sym (row-passes _ _ _ (whole-passes 9 _ (c .before .before .before .before .before .before .if1 .left)) ∙ points-passed _ _ _ (c .before .before .before .before .before .check-points .ensures) (c .before .before .before .before .if2 .left) ∙ row-passes _ _ _ (not-passes _ _ (c .before .before .before .is-within .ensures) (c .before .before .if3 .left)) ∙ row-fails _ _ _ (sym (c .before .is-outside .ensures) ∙ c .if4 .taken))
+returns-4 c = sym (row-passes _ _ _ (whole-passes 9 _ (c .before .before .before .before .before .before .if1 .left)) ∙ points-passed _ _ _ (c .before .before .before .before .before .check-points .ensures) (c .before .before .before .before .if2 .left) ∙ row-passes _ _ _ (not-passes _ _ (c .before .before .before .is-tolerance .ensures) (c .before .before .if3 .left)) ∙ row-fails _ _ _ (sym (c .before .is-outside .ensures) ∙ c .if4 .taken))
 
 steps-between-requires : tie.Need-steps-between-requires
 steps-between-requires c κs = search needs
 
 returns-5 : tie.Need-returns-5
 unfolding fitRows
-returns-5 c = sym (row-passes _ _ _ (whole-passes 9 _ (c .before .before .before .before .before .before .before .before .if1 .left)) ∙ points-passed _ _ _ (c .before .before .before .before .before .before .before .check-points .ensures) (c .before .before .before .before .before .before .if2 .left) ∙ row-passes _ _ _ (not-passes _ _ (c .before .before .before .before .before .is-within .ensures) (c .before .before .before .before .if3 .left)) ∙ row-passes _ _ _ (sym (c .before .before .before .is-outside .ensures) ∙ c .before .before .if4 .left) ∙ row-fails _ _ _ (most-fails _ _ _ (c .before .steps-between .ensures) (c .if5 .taken)))
+returns-5 c = sym (row-passes _ _ _ (whole-passes 9 _ (c .before .before .before .before .before .before .before .before .if1 .left)) ∙ points-passed _ _ _ (c .before .before .before .before .before .before .before .check-points .ensures) (c .before .before .before .before .before .before .if2 .left) ∙ row-passes _ _ _ (not-passes _ _ (c .before .before .before .before .before .is-tolerance .ensures) (c .before .before .before .before .if3 .left)) ∙ row-passes _ _ _ (sym (c .before .before .before .is-outside .ensures) ∙ c .before .before .if4 .left) ∙ row-fails _ _ _ (most-fails _ _ _ (c .before .steps-between .ensures) (c .if5 .taken)))
 
 returns-6 : tie.Need-returns-6
 unfolding fitRows
-returns-6 c = sym (row-passes _ _ _ (whole-passes 9 _ (c .before .before .before .before .before .before .before .before .before .if1 .left)) ∙ points-passed _ _ _ (c .before .before .before .before .before .before .before .before .check-points .ensures) (c .before .before .before .before .before .before .before .if2 .left) ∙ row-passes _ _ _ (not-passes _ _ (c .before .before .before .before .before .before .is-within .ensures) (c .before .before .before .before .before .if3 .left)) ∙ row-passes _ _ _ (sym (c .before .before .before .before .is-outside .ensures) ∙ c .before .before .before .if4 .left) ∙ row-passes _ _ _ (most-passes _ _ _ (c .before .before .steps-between .ensures) (c .before .if5 .left)) ∙ row-fails _ _ _ (most-fails _ _ _ (c .before .before .steps-between .ensures) (c .if6 .taken)))
+returns-6 c = sym (row-passes _ _ _ (whole-passes 9 _ (c .before .before .before .before .before .before .before .before .before .if1 .left)) ∙ points-passed _ _ _ (c .before .before .before .before .before .before .before .before .check-points .ensures) (c .before .before .before .before .before .before .before .if2 .left) ∙ row-passes _ _ _ (not-passes _ _ (c .before .before .before .before .before .before .is-tolerance .ensures) (c .before .before .before .before .before .if3 .left)) ∙ row-passes _ _ _ (sym (c .before .before .before .before .is-outside .ensures) ∙ c .before .before .before .if4 .left) ∙ row-passes _ _ _ (most-passes _ _ _ (c .before .before .steps-between .ensures) (c .before .if5 .left)) ∙ row-fails _ _ _ (most-fails _ _ _ (c .before .before .steps-between .ensures) (c .if6 .taken)))
 
 returns-7 : tie.Need-returns-7
 unfolding fitRows
-returns-7 c = sym (row-passes _ _ _ (whole-passes 9 _ (c .before .before .before .before .before .before .before .before .before .if1 .left)) ∙ points-passed _ _ _ (c .before .before .before .before .before .before .before .before .check-points .ensures) (c .before .before .before .before .before .before .before .if2 .left) ∙ row-passes _ _ _ (not-passes _ _ (c .before .before .before .before .before .before .is-within .ensures) (c .before .before .before .before .before .if3 .left)) ∙ row-passes _ _ _ (sym (c .before .before .before .before .is-outside .ensures) ∙ c .before .before .before .if4 .left) ∙ row-passes _ _ _ (most-passes _ _ _ (c .before .before .steps-between .ensures) (c .before .if5 .left)) ∙ row-passes _ _ _ (most-passes _ _ _ (c .before .before .steps-between .ensures) (c .if6 .left)) ∙ done)
+returns-7 c = sym (row-passes _ _ _ (whole-passes 9 _ (c .before .before .before .before .before .before .before .before .before .if1 .left)) ∙ points-passed _ _ _ (c .before .before .before .before .before .before .before .before .check-points .ensures) (c .before .before .before .before .before .before .before .if2 .left) ∙ row-passes _ _ _ (not-passes _ _ (c .before .before .before .before .before .before .is-tolerance .ensures) (c .before .before .before .before .before .if3 .left)) ∙ row-passes _ _ _ (sym (c .before .before .before .before .is-outside .ensures) ∙ c .before .before .before .if4 .left) ∙ row-passes _ _ _ (most-passes _ _ _ (c .before .before .steps-between .ensures) (c .before .if5 .left)) ∙ row-passes _ _ _ (most-passes _ _ _ (c .before .before .steps-between .ensures) (c .if6 .left)) ∙ done)
 
 pub check-fit-spec : {M : Type 1} → statement M
 check-fit-spec =
@@ -54,7 +54,7 @@ check-fit-spec =
     returns
     check-points-requires
     returns-2
-    is-within-requires
+    is-tolerance-requires
     returns-3
     is-outside-requires
     returns-4

@@ -16,11 +16,11 @@ returns : tie.Need-returns
 unfolding fileFitRows
 returns c = refused-front (fileRows (c .before .before .before .args .s .now)) _ _ (c .before .check-file .ensures) (c .if1 .taken)
 
-is-within-requires : tie.Need-is-within-requires
-is-within-requires c κs = search needs
+is-tolerance-requires : tie.Need-is-tolerance-requires
+is-tolerance-requires c κs = search needs
 
 returns-2 : tie.Need-returns-2
-returns-2 c = let a = c .before .before .before .before .before .args in sym (fit-6 (a .s .now) (a .tolerance) (a .room) (file-passed (a .s .now) _ (c .before .before .before .check-file .ensures) (c .before .before .if1 .left)) (not-fails _ _ (c .before .is-within .ensures) (c .if2 .taken)))
+returns-2 c = let a = c .before .before .before .before .before .args in sym (fit-6 (a .s .now) (a .tolerance) (a .room) (file-passed (a .s .now) _ (c .before .before .before .check-file .ensures) (c .before .before .if1 .left)) (not-fails _ _ (c .before .is-tolerance .ensures) (c .if2 .taken)))
 
 lap-count-requires : tie.Need-lap-count-requires
 lap-count-requires c κs = long-of _ (file-passed (c .before .before .before .before .before .args .s .now) _ (c .before .before .before .check-file .ensures) (c .before .before .if1 .left))
@@ -34,7 +34,7 @@ check-sizes-requires c κs = c .before .lap-count .ensures .1
 returns-3 : tie.Need-returns-3
 returns-3 c = let a = c .before .before .before .before .before .before .before .before .args in
     c .check-sizes .ensures ∙ sizes-told _ _ _ _ (a .room) (c .before .before .lap-count .ensures .0) (c .before .most-of .ensures)
-    ∙ sym (fit-sizes (a .s .now) (a .tolerance) (a .room) (file-passed (c .before .before .before .before .before .before .before .before .args .s .now) _ (c .before .before .before .before .before .before .check-file .ensures) (c .before .before .before .before .before .if1 .left)) (not-passes _ _ (c .before .before .before .before .is-within .ensures) (c .before .before .before .if2 .left)))
+    ∙ sym (fit-sizes (a .s .now) (a .tolerance) (a .room) (file-passed (c .before .before .before .before .before .before .before .before .args .s .now) _ (c .before .before .before .before .before .before .check-file .ensures) (c .before .before .before .before .before .if1 .left)) (not-passes _ _ (c .before .before .before .before .is-tolerance .ensures) (c .before .before .before .if2 .left)))
 
 pub check-fit-spec : {M : Type 1} → statement M
 check-fit-spec =
@@ -42,7 +42,7 @@ check-fit-spec =
     (tie.spec
     check-file-requires
     returns
-    is-within-requires
+    is-tolerance-requires
     returns-2
     lap-count-requires
     most-of-requires

@@ -67,8 +67,8 @@ returns-5 c = let a = c .before .before .before .before .before .before .before 
     ∙ row-passes _ _ _ (sym (c .before .before .before .before .fails-4 .ensures ∙ ap (row4 (a .s .now)) (c .before .before .before .before .before .is-lap .ensures)) ∙ c .before .before .before .if4 .left)
     ∙ row-fails _ _ _ (sym (c .before .fails-5 .ensures ∙ ap (row5 (a .s .now)) (c .before .before .commands-in .ensures)) ∙ c .if5 .taken))
 
-is-within-requires : tie.Need-is-within-requires
-is-within-requires c κs = search needs
+is-tolerance-requires : tie.Need-is-tolerance-requires
+is-tolerance-requires c κs = search needs
 
 returns-6 : tie.Need-returns-6
 unfolding newRows
@@ -78,7 +78,7 @@ returns-6 c = let a = c .before .before .before .before .before .before .before 
     ∙ row-passes _ _ _ (sym (c .before .before .before .before .before .before .before .before .before .fails-3 .ensures) ∙ c .before .before .before .before .before .before .before .before .if3 .left)
     ∙ row-passes _ _ _ (sym (c .before .before .before .before .before .before .fails-4 .ensures ∙ ap (row4 (a .s .now)) (c .before .before .before .before .before .before .before .is-lap .ensures)) ∙ c .before .before .before .before .before .if4 .left)
     ∙ row-passes _ _ _ (sym (c .before .before .before .fails-5 .ensures ∙ ap (row5 (a .s .now)) (c .before .before .before .before .commands-in .ensures)) ∙ c .before .before .if5 .left)
-    ∙ row-fails _ _ _ (not-fails _ _ (c .before .is-within .ensures) (c .if6 .taken)))
+    ∙ row-fails _ _ _ (not-fails _ _ (c .before .is-tolerance .ensures) (c .if6 .taken)))
 
 fails-7-requires : tie.Need-fails-7-requires
 fails-7-requires c κs = let a = c .before .before .before .before .before .before .before .before .before .before .before .before .before .before .before .before .before .before .before .args in past-1 (a .s .now) (a .f .now) (lentWhole (a .kinds .now) (a .nums .now)) (sym (c .before .before .before .before .before .before .before .before .before .before .before .before .before .fails-1 .ensures ∙ ap (row1 (a .s .now) (a .f .now)) (c .before .before .before .before .before .before .before .before .before .before .before .before .before .before .is-whole .ensures)) ∙ c .before .before .before .before .before .before .before .before .before .before .before .before .if1 .left) .0
@@ -91,7 +91,7 @@ returns-7 c = let a = c .before .before .before .before .before .before .before 
     ∙ row-passes _ _ _ (sym (c .before .before .before .before .before .before .before .before .before .before .before .fails-3 .ensures) ∙ c .before .before .before .before .before .before .before .before .before .before .if3 .left)
     ∙ row-passes _ _ _ (sym (c .before .before .before .before .before .before .before .before .fails-4 .ensures ∙ ap (row4 (a .s .now)) (c .before .before .before .before .before .before .before .before .before .is-lap .ensures)) ∙ c .before .before .before .before .before .before .before .if4 .left)
     ∙ row-passes _ _ _ (sym (c .before .before .before .before .before .fails-5 .ensures ∙ ap (row5 (a .s .now)) (c .before .before .before .before .before .before .commands-in .ensures)) ∙ c .before .before .before .before .if5 .left)
-    ∙ row-passes _ _ _ (not-passes _ _ (c .before .before .before .is-within .ensures) (c .before .before .if6 .left))
+    ∙ row-passes _ _ _ (not-passes _ _ (c .before .before .before .is-tolerance .ensures) (c .before .before .if6 .left))
     ∙ row-fails _ _ _ (sym (c .before .fails-7 .ensures) ∙ c .if7 .taken))
 
 returns-8 : tie.Need-returns-8
@@ -102,7 +102,7 @@ returns-8 c = let a = c .before .before .before .before .before .before .before 
     ∙ row-passes _ _ _ (sym (c .before .before .before .before .before .before .before .before .before .before .before .fails-3 .ensures) ∙ c .before .before .before .before .before .before .before .before .before .before .if3 .left)
     ∙ row-passes _ _ _ (sym (c .before .before .before .before .before .before .before .before .fails-4 .ensures ∙ ap (row4 (a .s .now)) (c .before .before .before .before .before .before .before .before .before .is-lap .ensures)) ∙ c .before .before .before .before .before .before .before .if4 .left)
     ∙ row-passes _ _ _ (sym (c .before .before .before .before .before .fails-5 .ensures ∙ ap (row5 (a .s .now)) (c .before .before .before .before .before .before .commands-in .ensures)) ∙ c .before .before .before .before .if5 .left)
-    ∙ row-passes _ _ _ (not-passes _ _ (c .before .before .before .is-within .ensures) (c .before .before .if6 .left))
+    ∙ row-passes _ _ _ (not-passes _ _ (c .before .before .before .is-tolerance .ensures) (c .before .before .if6 .left))
     ∙ row-passes _ _ _ (sym (c .before .fails-7 .ensures) ∙ c .if7 .left)
     ∙ done)
 
@@ -123,7 +123,7 @@ check-new-spec =
     commands-in-requires
     fails-5-requires
     returns-5
-    is-within-requires
+    is-tolerance-requires
     returns-6
     fails-7-requires
     returns-7

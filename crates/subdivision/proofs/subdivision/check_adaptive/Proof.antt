@@ -25,12 +25,12 @@ returns-3 : tie.Need-returns-3
 unfolding adaptiveRows
 returns-3 c = sym (row-passes _ _ _ (whole-passes 2 _ (c .before .before .before .if1 .left)) ∙ row-passes _ _ _ (le-ltb _ _ (c .before .before .if2 .left)) ∙ row-fails _ _ _ (not-fails _ _ (c .before .curve-in .ensures) (c .if3 .taken)))
 
-is-within-requires : tie.Need-is-within-requires
-is-within-requires c κs = search needs
+is-tolerance-squared-requires : tie.Need-is-tolerance-squared-requires
+is-tolerance-squared-requires c κs = search needs
 
 returns-4 : tie.Need-returns-4
 unfolding adaptiveRows
-returns-4 c = sym (row-passes _ _ _ (whole-passes 2 _ (c .before .before .before .before .before .if1 .left)) ∙ row-passes _ _ _ (le-ltb _ _ (c .before .before .before .before .if2 .left)) ∙ row-passes _ _ _ (not-passes _ _ (c .before .before .before .curve-in .ensures) (c .before .before .if3 .left)) ∙ row-fails _ _ _ (not-fails _ _ (c .before .is-within .ensures) (c .if4 .taken)))
+returns-4 c = sym (row-passes _ _ _ (whole-passes 2 _ (c .before .before .before .before .before .if1 .left)) ∙ row-passes _ _ _ (le-ltb _ _ (c .before .before .before .before .if2 .left)) ∙ row-passes _ _ _ (not-passes _ _ (c .before .before .before .curve-in .ensures) (c .before .before .if3 .left)) ∙ row-fails _ _ _ (not-fails _ _ (c .before .is-tolerance-squared .ensures) (c .if4 .taken)))
 
 power-of-two-requires : tie.Need-power-of-two-requires
 power-of-two-requires c κs = search needs
@@ -45,13 +45,13 @@ returns-5 : tie.Need-returns-5
 unfolding adaptiveRows
 returns-5 c = let e = c .before .power-of-two .ensures in
     let room = subst (λ (p : ℕ). c .before .before .before .before .before .before .before .before .args .room < 2 * (1 + p)) e (c .if5 .taken) in
-    sym (row-passes _ _ _ (whole-passes 2 _ (c .before .before .before .before .before .before .before .if1 .left)) ∙ row-passes _ _ _ (le-ltb _ _ (c .before .before .before .before .before .before .if2 .left)) ∙ row-passes _ _ _ (not-passes _ _ (c .before .before .before .before .before .curve-in .ensures) (c .before .before .before .before .if3 .left)) ∙ row-passes _ _ _ (not-passes _ _ (c .before .before .before .is-within .ensures) (c .before .before .if4 .left)) ∙ row-fails _ _ _ (lt-ltb _ _ room))
+    sym (row-passes _ _ _ (whole-passes 2 _ (c .before .before .before .before .before .before .before .if1 .left)) ∙ row-passes _ _ _ (le-ltb _ _ (c .before .before .before .before .before .before .if2 .left)) ∙ row-passes _ _ _ (not-passes _ _ (c .before .before .before .before .before .curve-in .ensures) (c .before .before .before .before .if3 .left)) ∙ row-passes _ _ _ (not-passes _ _ (c .before .before .before .is-tolerance-squared .ensures) (c .before .before .if4 .left)) ∙ row-fails _ _ _ (lt-ltb _ _ room))
 
 returns-6 : tie.Need-returns-6
 unfolding adaptiveRows
 returns-6 c = let e = c .before .power-of-two .ensures in
     let room = subst (λ (p : ℕ). 2 * (1 + p) ≤ c .before .before .before .before .before .before .before .before .args .room) e (c .if5 .left) in
-    sym (row-passes _ _ _ (whole-passes 2 _ (c .before .before .before .before .before .before .before .if1 .left)) ∙ row-passes _ _ _ (le-ltb _ _ (c .before .before .before .before .before .before .if2 .left)) ∙ row-passes _ _ _ (not-passes _ _ (c .before .before .before .before .before .curve-in .ensures) (c .before .before .before .before .if3 .left)) ∙ row-passes _ _ _ (not-passes _ _ (c .before .before .before .is-within .ensures) (c .before .before .if4 .left)) ∙ row-passes _ _ _ (le-ltb _ _ room) ∙ done)
+    sym (row-passes _ _ _ (whole-passes 2 _ (c .before .before .before .before .before .before .before .if1 .left)) ∙ row-passes _ _ _ (le-ltb _ _ (c .before .before .before .before .before .before .if2 .left)) ∙ row-passes _ _ _ (not-passes _ _ (c .before .before .before .before .before .curve-in .ensures) (c .before .before .before .before .if3 .left)) ∙ row-passes _ _ _ (not-passes _ _ (c .before .before .before .is-tolerance-squared .ensures) (c .before .before .if4 .left)) ∙ row-passes _ _ _ (le-ltb _ _ room) ∙ done)
 
 pub check-adaptive-spec : {M : Type 1} → statement M
 check-adaptive-spec =
@@ -61,7 +61,7 @@ check-adaptive-spec =
     returns-2
     curve-in-requires
     returns-3
-    is-within-requires
+    is-tolerance-squared-requires
     returns-4
     power-of-two-requires
     add-if5

@@ -18,20 +18,20 @@ returns-2 : tie.Need-returns-2
 unfolding segmentRows
 returns-2 c = sym (row-passes _ _ _ (whole-passes 3 _ (c .before .before .if1 .left)) ∙ row-fails _ _ _ (not-fails _ _ (c .before .curve-in-3d .ensures) (c .if2 .taken)))
 
-is-within-requires : tie.Need-is-within-requires
-is-within-requires c κs = search needs
+is-tolerance-requires : tie.Need-is-tolerance-requires
+is-tolerance-requires c κs = search needs
 
 returns-3 : tie.Need-returns-3
 unfolding segmentRows
-returns-3 c = sym (row-passes _ _ _ (whole-passes 3 _ (c .before .before .before .before .if1 .left)) ∙ row-passes _ _ _ (not-passes _ _ (c .before .before .before .curve-in-3d .ensures) (c .before .before .if2 .left)) ∙ row-fails _ _ _ (not-fails _ _ (c .before .is-within .ensures) (c .if3 .taken)))
+returns-3 c = sym (row-passes _ _ _ (whole-passes 3 _ (c .before .before .before .before .if1 .left)) ∙ row-passes _ _ _ (not-passes _ _ (c .before .before .before .curve-in-3d .ensures) (c .before .before .if2 .left)) ∙ row-fails _ _ _ (not-fails _ _ (c .before .is-tolerance .ensures) (c .if3 .taken)))
 
 returns-4 : tie.Need-returns-4
 unfolding segmentRows
-returns-4 c = sym (row-passes _ _ _ (whole-passes 3 _ (c .before .before .before .before .before .if1 .left)) ∙ row-passes _ _ _ (not-passes _ _ (c .before .before .before .before .curve-in-3d .ensures) (c .before .before .before .if2 .left)) ∙ row-passes _ _ _ (not-passes _ _ (c .before .before .is-within .ensures) (c .before .if3 .left)) ∙ row-fails _ _ _ (lt-ltb _ _ (c .if4 .taken)))
+returns-4 c = sym (row-passes _ _ _ (whole-passes 3 _ (c .before .before .before .before .before .if1 .left)) ∙ row-passes _ _ _ (not-passes _ _ (c .before .before .before .before .curve-in-3d .ensures) (c .before .before .before .if2 .left)) ∙ row-passes _ _ _ (not-passes _ _ (c .before .before .is-tolerance .ensures) (c .before .if3 .left)) ∙ row-fails _ _ _ (lt-ltb _ _ (c .if4 .taken)))
 
 returns-5 : tie.Need-returns-5
 unfolding segmentRows
-returns-5 c = sym (row-passes _ _ _ (whole-passes 3 _ (c .before .before .before .before .before .if1 .left)) ∙ row-passes _ _ _ (not-passes _ _ (c .before .before .before .before .curve-in-3d .ensures) (c .before .before .before .if2 .left)) ∙ row-passes _ _ _ (not-passes _ _ (c .before .before .is-within .ensures) (c .before .if3 .left)) ∙ row-passes _ _ _ (le-ltb _ _ (c .if4 .left)) ∙ done)
+returns-5 c = sym (row-passes _ _ _ (whole-passes 3 _ (c .before .before .before .before .before .if1 .left)) ∙ row-passes _ _ _ (not-passes _ _ (c .before .before .before .before .curve-in-3d .ensures) (c .before .before .before .if2 .left)) ∙ row-passes _ _ _ (not-passes _ _ (c .before .before .is-tolerance .ensures) (c .before .if3 .left)) ∙ row-passes _ _ _ (le-ltb _ _ (c .if4 .left)) ∙ done)
 
 pub check-segment-spec : {M : Type 1} → statement M
 check-segment-spec =
@@ -40,7 +40,7 @@ check-segment-spec =
     returns
     curve-in-3d-requires
     returns-2
-    is-within-requires
+    is-tolerance-requires
     returns-3
     returns-4
     returns-5)
