@@ -3,7 +3,7 @@ use super::draw::Draw;
 use super::frame::Compared;
 use super::list::{Record, filled, record};
 use super::shapes::{raised, reversed, track, zigzag};
-use super::simplify::{Commands, FUNCTIONS, Rooms, data_of, pairs_of, triples_of};
+use super::simplify::{Commands, FUNCTIONS, Rooms, data_of, kept, pairs_of, triples_of};
 use crate::random::Random;
 
 /// A drawn record has at most so many numbers and kinds.
@@ -79,10 +79,24 @@ fn edges(draw: &mut Draw) -> Vec<Compared> {
     ]
 }
 
-/// The worked cases, the corners, the edges, and then the functions in turn. A long one is drawn again.
+/// Answers thinned again, which are given again (document 02, §1): in room for them, and in more.
+fn again(draw: &mut Draw) -> Vec<Compared> {
+    let flat = track(draw, 60, 4.0, 1.0);
+    let solid = raised(&flat, draw);
+    let mut calls = Vec::new();
+    for tolerance in [0.5, 2.0] {
+        let pairs = kept(&pairs_of(&flat, tolerance, flat.len()), 2);
+        let triples = kept(&triples_of(&solid, tolerance, solid.len()), 3);
+        calls.push(pairs_of(&pairs, tolerance, pairs.len()));
+        calls.push(triples_of(&triples, tolerance, triples.len() + 3));
+    }
+    calls
+}
+
+/// The worked cases, the corners, the edges, answers thinned again, and then the functions in turn. A long one is drawn again.
 pub fn records(count: usize, seed: u64) -> Vec<Record> {
     let mut draw = Draw::new(Random::new(seed));
-    let fixed = [worked(), in_all_forms(), edges(&mut draw)];
+    let fixed = [worked(), in_all_forms(), edges(&mut draw), again(&mut draw)];
     filled(fixed.iter().flatten().map(record).collect(), count, |index| {
         let record = record(&FUNCTIONS[index % 3](&mut draw));
         (record.items <= LONG).then_some(record)

@@ -69,15 +69,20 @@ fn joined(first: Outcome, second: Outcome) -> Outcome {
     Outcome { number: second.number, lent: [first.lent, second.lent].concat() }
 }
 
+/// The points that a call gave, `width` numbers each, as they were written.
+pub fn kept(call: &Compared, width: usize) -> Vec<f64> {
+    let size = width * call.count() as usize;
+    call.proved.lent[0].words()[..size].iter().map(|word| f64::from_bits(*word)).collect()
+}
+
 /// An accepted call, and behind it the same on the points that it gave, lent as it wrote them: "they expect the points
 /// they saw" (document 02, §1). Of both the memory is compared.
 fn and_again(first: Compared, width: usize, thin: impl FnOnce(&[f64], usize) -> Compared) -> Compared {
     if first.given.number != 0 || first.proved != first.given {
         return first;
     }
-    let size = width * first.count() as usize;
-    let kept: Vec<f64> = first.proved.lent[0].words()[..size].iter().map(|word| f64::from_bits(*word)).collect();
-    let second = thin(&kept, size);
+    let kept = kept(&first, width);
+    let second = thin(&kept, kept.len());
     Compared {
         function: first.function,
         arguments: first.arguments,
