@@ -26,10 +26,10 @@
      rt_simplify_polyline            231328 bytes
      rt_simplify_polyline_3d         231328 bytes
      rt_simplify_data                117200 bytes
-     rt_fit_points_with_primitives   818856 bytes
-     rt_fit_arcs                     341720 bytes
-     rt_fit_file                     458648 bytes
-     rt_replace_lap                  458600 bytes
+     rt_fit_points_with_primitives   917144 bytes
+     rt_fit_arcs                     380152 bytes
+     rt_fit_file                     497080 bytes
+     rt_replace_lap                  497032 bytes
    No input recurses deeper, since each cut takes a point off. What the innermost call takes beside that was measured on
    these zigzags alone, and bytes that a call reserves but never writes do not show: leave a margin of some KiB. */
 #ifndef PIZHGAROL_H
