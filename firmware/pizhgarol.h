@@ -20,16 +20,16 @@
    - a fit of a file: 8 + 8 * L + 73 * most bytes, most as for a course; at most 58,920 bytes in all (64 laps, 800 commands);
    - a replacement: the same, with the new lap's most plus the fitted file's commands in all other laps.
 
-   STACK. Measured, not proved: firmware/stack.c fills a thread's stack with a pattern and runs the zigzags that recurse
-   deepest (2,048 points, or 800 commands, each cut taking one point off). firmware/run prints what it finds. On x86-64
-   Linux it was, in bytes, for the archive that this header came with:
+   STACK. Measured, not proved: firmware/stack.c fills a thread's stack with a pattern and runs the zigzags that are cut
+   most often (2,048 points, or 800 commands, each cut taking one point off): thinning recurses as deep as it cuts, a fit
+   does not. firmware/run prints what it finds. On x86-64 Linux it was, in bytes, for the archive that this header came with:
      rt_simplify_polyline            231328 bytes
      rt_simplify_polyline_3d         231328 bytes
      rt_simplify_data                117200 bytes
-     rt_fit_points_with_primitives   917144 bytes
-     rt_fit_arcs                     380152 bytes
-     rt_fit_file                     497080 bytes
-     rt_replace_lap                  497032 bytes
+     rt_fit_points_with_primitives     4480 bytes
+     rt_fit_arcs                     111648 bytes
+     rt_fit_file                     228576 bytes
+     rt_replace_lap                  228512 bytes
    No input recurses deeper, since each cut takes a point off. What the innermost call takes beside that was measured on
    these zigzags alone, and bytes that a call reserves but never writes do not show: leave a margin of some KiB. */
 #ifndef PIZHGAROL_H

@@ -19,6 +19,8 @@ use Rattle.geo.proofs.Rows.{row-passes, row-passed, refusal-front}
 use Rattle.geo.proofs.Tolerance.{tolerance-positive}
 use Rattle.geo.proofs.Outcomes.{commands-given, nine}
 use Rattle.geo.proofs.Flat.{flat-length}
+use Rattle.fitting.specs.declared.fitting.Rule.{Rule}
+use Rattle.fitting.specs.Pieces.{lapsRule}
 use Rattle.fitting.specs.Commands.{chainFit}
 use Rattle.fitting.specs.Written.{FitPlaced, commandsOf, chainNoted}
 use Rattle.fitting.proofs.Writing.{commands-length}
@@ -31,22 +33,22 @@ use Rattle.course.proofs.Parts.{noted-few, parts-commands}
 use Rattle.course.proofs.Stepping.{chain-few}
 
 -- what is noted beside the commands of a course does not change them
-pub course-commands : (tol : Float) (cs : List Command) → commandsOf (courseNoted tol cs) ≡ courseFit tol cs
+pub course-commands : (r : Rule) (cs : List Command) → commandsOf (courseNoted r cs) ≡ courseFit r cs
 unfolding courseNoted courseFit
-course-commands tol cs = parts-commands (chainNoted tol) (chainFit tol) (chain-noted tol) (courseParts tol cs)
+course-commands r cs = parts-commands (chainNoted r) (chainFit r) (chain-noted r) (courseParts (r .tolerance) cs)
 
 -- what is written of a course is at most its most
-noted-course-few : (tol : Float) → (+0 ≺ tol) ≡ true → (cs : List Command) → length (courseNoted tol cs) ≤ courseMost tol cs
+noted-course-few : (r : Rule) → (+0 ≺ r .tolerance) ≡ true → (cs : List Command) → length (courseNoted r cs) ≤ courseMost (r .tolerance) cs
 unfolding courseNoted courseMost
-noted-course-few tol pos cs = noted-few (chainNoted tol) (chain-few tol pos) (courseParts tol cs)
+noted-course-few r pos cs = noted-few (chainNoted r) (chain-few r pos) (courseParts (r .tolerance) cs)
 
-pub course-few : (tol : Float) → (+0 ≺ tol) ≡ true → (cs : List Command) → length (courseFit tol cs) ≤ courseMost tol cs
-course-few tol pos cs = let a = noted-course-few tol pos cs in let l = commands-length (courseNoted tol cs) in let e = ap length (course-commands tol cs) in omega arith
+pub course-few : (r : Rule) → (+0 ≺ r .tolerance) ≡ true → (cs : List Command) → length (courseFit r cs) ≤ courseMost (r .tolerance) cs
+course-few r pos cs = let a = noted-course-few r pos cs in let l = commands-length (courseNoted r cs) in let e = ap length (course-commands r cs) in omega arith
 
 -- of a course that starts with a Move something is written
-pub course-some : (tol : Float) (p : Point3D) (cs : List Command) → 1 ≤ length (courseFit tol (Move p ∷ cs))
+pub course-some : (r : Rule) (p : Point3D) (cs : List Command) → 1 ≤ length (courseFit r (Move p ∷ cs))
 unfolding courseFit fitOf courseParts partsFrom joined closed flat partFit
-course-some tol p cs = some (chainFit tol _) _
+course-some r p cs = some (chainFit r _) _
   where
     some : (xs ys : List Command) → 1 ≤ length (xs ++ (Move p ∷ ys))
     some xs ys = let c = length-append xs (Move p ∷ ys) in omega arith
@@ -131,13 +133,13 @@ module _ (ks : List ℕ) (ns : List Float) (tol : Float) (kinds numbers r : ℕ)
       }
 
 pub wrote-arcs : (ks : List ℕ) (ns : List Float) (tol : Float) (oks oks′ : List ℕ) (ons ons′ : List Float) (r k : ℕ)
-    → r ≡ refusal (arcsRows ks ns tol (length oks) (length ons)) → r ≡ 0 → FitPlaced (courseFit tol (lentCourse ks ns)) 0 k oks oks′ ons ons′
+    → r ≡ refusal (arcsRows ks ns tol (length oks) (length ons)) → r ≡ 0 → FitPlaced (courseFit (lapsRule tol) (lentCourse ks ns)) 0 k oks oks′ ons ons′
     → WroteCommands (arcsCall ks ns tol (length oks) (length ons)) oks oks′ ons ons′ (Written k)
 unfolding arcsCall
 wrote-arcs ks ns tol oks oks′ ons ons′ r k e z p =
-    let xs = courseFit tol (lentCourse ks ns) in
+    let xs = courseFit (lapsRule tol) (lentCourse ks ns) in
     let a = arcs-accepted ks ns tol (length oks) (length ons) r e z in
-    let l = course-few tol (a .above-zero) (lentCourse ks ns) in
+    let l = course-few (lapsRule tol) (a .above-zero) (lentCourse ks ns) in
     let b = a .room-kinds in
     let c = a .room-numbers in
     commands-given _ r e xs oks oks′ ons ons′ k z (p .count) (omega arith) (omega (arith, flat-length numbersOf 9 nine xs)) (p .kinds) (p .numbers)

@@ -15,9 +15,9 @@ use Rattle.geo.specs.declared.types.Command.the-variants.{Line}
 use Rattle.geo.specs.Lent.{pointAt, triple, flat}
 use Rattle.geo.specs.Walk.{listFrom}
 use Rattle.geo.proofs.Walk.{list-step, list-done}
-use Rattle.simplify.specs.Measure.{lineSq}
 use Rattle.simplify.specs.Flags.{Copied}
-use Rattle.fitting.specs.Pieces.{piecesBy}
+use Rattle.fitting.specs.declared.fitting.Rule.{Rule}
+use Rattle.fitting.specs.Pieces.{pointsRule, piecesBy}
 use Rattle.fitting.specs.Commands.{keptOf}
 use Rattle.fitting.specs.Written.{Noted, noted, commandsOf, notedIn, NotedPlaced}
 use Rattle.fitting.proofs.Own.{point-later}
@@ -94,37 +94,37 @@ points-behind [] = refl
 points-behind (p ∷ ps) = let e : length (p ∷ ps) - 1 ≡ length ps = omega arith in rw e (points-after p ps (points-again ps))
 
 -- a chain that is thinned to Lines: what stands at the front of the buffer are the points that are kept
-pub thinned-lines : (tol : Float) (s out out′ : List Float) (k : ℕ) → Copied triple (keptOf tol s) out out′ k → 3 * (length s / 3) ≤ length out
-    → linesFrom (take (3 * k) out′) (length (take (3 * k) out′) / 3 - 1) 1 ≡ flushedBy Lines tol s
+pub thinned-lines : (r : Rule) (s out out′ : List Float) (k : ℕ) → Copied triple (keptOf r s) out out′ k → 3 * (length s / 3) ≤ length out
+    → linesFrom (take (3 * k) out′) (length (take (3 * k) out′) / 3 - 1) 1 ≡ flushedBy Lines r s
 unfolding flushedBy
-thinned-lines tol s out out′ k c room =
-    let w = kept-wide tol s out out′ k c room in
+thinned-lines r s out out′ k c room =
+    let w = kept-wide r s out out′ k c room in
     let e = c .count in
-    let q : length (take (3 * k) out′) / 3 - 1 ≡ length (keptOf tol s) - 1 = omega arith in
-    rw q (ap (λ (l : List Float). linesFrom l (length (keptOf tol s) - 1) 1) (kept-front tol s out out′ k c room) ∙ ap (map lineNoted) (points-behind (keptOf tol s)))
+    let q : length (take (3 * k) out′) / 3 - 1 ≡ length (keptOf r s) - 1 = omega arith in
+    rw q (ap (λ (l : List Float). linesFrom l (length (keptOf r s) - 1) 1) (kept-front r s out out′ k c room) ∙ ap (map lineNoted) (points-behind (keptOf r s)))
 
 -- ---- a chain that is fitted as it stands: none with no step
-pub no-steps : (tol : Float) (s : List Float) → length s / 3 < 2 → flushedBy AsItStands tol s ≡ []
+pub no-steps : (r : Rule) (s : List Float) → length s / 3 < 2 → flushedBy AsItStands r s ≡ []
 unfolding flushedBy notedIn piecesBy
-no-steps tol s h = let d : length s / 3 - 1 ≡ 0 = omega arith in rw d
+no-steps r s h = let d : length s / 3 - 1 ≡ 0 = omega arith in rw d
 
-steps-length : (tol : Float) → (+0 ≺ tol) ≡ true → (s : List Float) → 2 ≤ length s / 3 → length (flushedBy AsItStands tol s) ≤ length s / 3 - 1 - 0
+steps-length : (r : Rule) → (+0 ≺ r .tolerance) ≡ true → (s : List Float) → 2 ≤ length s / 3 → length (flushedBy AsItStands r s) ≤ length s / 3 - 1 - 0
 unfolding flushedBy
-steps-length tol pos s h = noted-length tol pos (pointAt s) 0 (length s / 3 - 1) (omega arith)
+steps-length r pos s h = noted-length r pos (pointAt s) 0 (length s / 3 - 1) (omega arith)
 
-lines-length : (tol : Float) (s : List Float) → length (flushedBy Lines tol s) ≡ length (keptOf tol s) - 1
+lines-length : (r : Rule) (s : List Float) → length (flushedBy Lines r s) ≡ length (keptOf r s) - 1
 unfolding flushedBy
-lines-length tol s = length-map (drop 1 (keptOf tol s)) lineNoted ∙ length-drop 1 (keptOf tol s)
+lines-length r s = length-map (drop 1 (keptOf r s)) lineNoted ∙ length-drop 1 (keptOf r s)
 
 -- what is flushed has at most a command for each step
-pub flushed-few : (f : Flush) (tol : Float) → (+0 ≺ tol) ≡ true → (s : List Float) → length (flushedBy f tol s) ≤ length s / 3 - 1
-flushed-few Fitted tol pos s = unfold flushedBy in chain-few tol pos s
-flushed-few AsItStands tol pos s =
-    ⊎-elim (λ h. let e = ap length (no-steps tol s h) in omega arith)
-    (λ h. let l = steps-length tol pos s h in omega arith) (lt-or-ge (length s / 3) 2)
-flushed-few Lines tol pos s =
-    let f = kept-few tol s in
-    let l = lines-length tol s in omega arith
+pub flushed-few : (f : Flush) (r : Rule) → (+0 ≺ r .tolerance) ≡ true → (s : List Float) → length (flushedBy f r s) ≤ length s / 3 - 1
+flushed-few Fitted r pos s = unfold flushedBy in chain-few r pos s
+flushed-few AsItStands r pos s =
+    ⊎-elim (λ h. let e = ap length (no-steps r s h) in omega arith)
+    (λ h. let l = steps-length r pos s h in omega arith) (lt-or-ge (length s / 3) 2)
+flushed-few Lines r pos s =
+    let f = kept-few r s in
+    let l = lines-length r s in omega arith
 
 -- ---- what is noted beside a path's commands does not change them
 lines-commands : (ps : List Point3D) → commandsOf (map lineNoted ps) ≡ map Line ps
@@ -132,7 +132,7 @@ unfolding commandsOf lineNoted
 lines-commands [] = refl
 lines-commands (p ∷ ps) = ap (λ (cs : List Command). Line p ∷ cs) (lines-commands ps)
 
-pub path-commands : (arcs : Bool) (tol : Float) (s : List Float) → commandsOf (flushedBy (pathFlush arcs) tol s) ≡ optimizedChain arcs tol s
+pub path-commands : (arcs : Bool) (tol : Float) (s : List Float) → commandsOf (flushedBy (pathFlush arcs) (pointsRule tol) s) ≡ optimizedChain arcs tol s
 unfolding pathFlush flushedBy optimizedChain
-path-commands true tol s = noted-fit lineSq tol (pointAt s) 0 (length s / 3 - 1)
-path-commands false tol s = lines-commands (drop 1 (keptOf tol s))
+path-commands true tol s = noted-fit (pointsRule tol) (pointAt s) 0 (length s / 3 - 1)
+path-commands false tol s = lines-commands (drop 1 (keptOf (pointsRule tol) s))

@@ -21,9 +21,10 @@ use Rattle.geo.proofs.Rows.{row-passed}
 use Rattle.geo.proofs.Walk.{list-length}
 use Rattle.geo.proofs.Flat.{flat-length}
 use Rattle.bezier.specs.Linearize.{stepEnd, stepAt, steps, firstThird, lastThird, stepsNeeded, paramSteps}
-use Rattle.simplify.specs.Measure.{lineSq}
 use Rattle.simplify.specs.Simplify.{commandRows}
 use Rattle.circle.specs.Calls.{pointsRows}
+use Rattle.fitting.specs.declared.fitting.Rule.{Rule}
+use Rattle.fitting.specs.Pieces.{pointsRule, lapsRule}
 use Rattle.fitting.specs.Commands.{fitIn, keptOf, chainFit}
 use Rattle.fitting.specs.Calls.{fitRows, fitCall, primitivesCall}
 use Rattle.fitting.proofs.Own.{unless-given}
@@ -121,10 +122,10 @@ origin-placed : (k : ℕ) → Placed k origin
 origin-placed k = record { in-x = zero-below k; in-y = zero-below k; in-z = zero-below k }
 
 -- Every number that a course's fit writes is finite, at any tolerance, for commands of the domain and a most of at most 800.
-pub course-finite : (tol : Float) (cs : List Command) → CommandsIn cs → courseMost tol cs ≤ 800 → FiniteNumbers (courseFit tol cs)
+pub course-finite : (r : Rule) (cs : List Command) → CommandsIn cs → courseMost (r .tolerance) cs ≤ 800 → FiniteNumbers (courseFit r cs)
 unfolding courseFit courseMost courseParts
-course-finite tol cs h m =
-    parts-finite (joined tol) (chainFit tol) (course-near tol) (λ s S l. chain-finite tol s S l) origin (triple origin) cs
+course-finite r cs h m =
+    parts-finite (joined (r .tolerance)) (chainFit r) (course-near (r .tolerance)) (λ s S l. chain-finite r s S l) origin (triple origin) cs
     (origin-placed 20) (triple-each (origin-placed 27)) h m
 
 -- ---- what the checks of a public call leave
@@ -149,13 +150,13 @@ lent-in ks ns h = commands-in ks ns (length ks) 0 (λ j a b. every-at (λ i. com
 pub fit-points-finite : (s : List Float) (tol : Float) (lo hi kinds numbers : ℕ) (xs : List Command) → fitCall s tol lo hi kinds numbers ≡ gives xs → FiniteNumbers xs
 unfolding fitCall fitRows pointsRows
 fit-points-finite s tol lo hi kinds numbers xs e =
-    let g = unless-given (refusal (fitRows s tol lo hi kinds numbers)) (fitIn lineSq tol (pointAt s) lo hi) xs e in
+    let g = unless-given (refusal (fitRows s tol lo hi kinds numbers)) (fitIn (pointsRule tol) (pointAt s) lo hi) xs e in
     let acc = fit-accepted s tol lo hi kinds numbers 0 (g .0) refl in
     let a = row-passed 0 _ _ (g .0) in
     let b = row-passed 0 _ _ (a .1) in
     let c = row-passed 1 _ _ (b .1) in
     let d = row-passed 4 _ _ (c .1) in
-    subst FiniteNumbers (g .1) (lent-finite lineSq tol s lo hi (acc .few) (numbers-each s (not-false _ (d .0))) (acc .ends-inside))
+    subst FiniteNumbers (g .1) (lent-finite (pointsRule tol) s lo hi (acc .few) (numbers-each s (not-false _ (d .0))) (acc .ends-inside))
 
 -- Every number that `fit_points_with_primitives` gives is finite.
 pub primitives-finite : (s : List Float) (tol : Float) (kinds numbers : ℕ) (xs : List Command) → primitivesCall s tol kinds numbers ≡ gives xs → FiniteNumbers xs
@@ -165,14 +166,14 @@ primitives-finite s tol kinds numbers xs e = fit-points-finite s tol 0 (length s
 pub arcs-finite : (ks : List ℕ) (ns : List Float) (tol : Float) (kinds numbers : ℕ) (xs : List Command) → arcsCall ks ns tol kinds numbers ≡ gives xs → FiniteNumbers xs
 unfolding arcsCall arcsRows inputRows
 arcs-finite ks ns tol kinds numbers xs e =
-    let g = unless-given (refusal (arcsRows ks ns tol kinds numbers)) (courseFit tol (lentCourse ks ns)) xs e in
+    let g = unless-given (refusal (arcsRows ks ns tol kinds numbers)) (courseFit (lapsRule tol) (lentCourse ks ns)) xs e in
     let acc = arcs-accepted ks ns tol kinds numbers 0 (g .0) refl in
     let a = row-passed 0 _ _ (g .0) in
     let b = row-passed 0 _ _ (a .1) in
     let c = row-passed 1 _ _ (b .1) in
     let d = row-passed 3 _ _ (c .1) in
     let f = row-passed 4 _ _ (d .1) in
-    subst FiniteNumbers (g .1) (course-finite tol (lentCourse ks ns) (lent-in ks ns (not-false _ (f .0))) (acc .not-many))
+    subst FiniteNumbers (g .1) (course-finite (lapsRule tol) (lentCourse ks ns) (lent-in ks ns (not-false _ (f .0))) (acc .not-many))
 
 -- ---- optimize_path_from_array
 lines-finite : (k : ℕ) (ps : List Point3D) → EachBelow k (flat triple ps) → FiniteNumbers (map Line ps)
@@ -189,8 +190,8 @@ behind-finite k (p ∷ ps) h = lines-finite k ps (h .1 .1 .1)
 
 path-chain-finite : (arcs : Bool) (tol : Float) (s : List Float) → EachBelow 27 s → length s / 3 ≤ 2048 → FiniteNumbers (optimizedChain arcs tol s)
 unfolding optimizedChain
-path-chain-finite true tol s h l = lent-finite lineSq tol s 0 (length s / 3 - 1) l h (λ g. omega arith)
-path-chain-finite false tol s h l = behind-finite 27 (keptOf tol s) (kept-below tol s h)
+path-chain-finite true tol s h l = lent-finite (pointsRule tol) s 0 (length s / 3 - 1) l h (λ g. omega arith)
+path-chain-finite false tol s h l = behind-finite 27 (keptOf (pointsRule tol) s) (kept-below (pointsRule tol) s h)
 
 path-near : (last : Point3D) (c : Command) → Placed 20 last → commandIn c ≡ true → Joins (linesJoined last c)
 unfolding linesJoined commandIn

@@ -29,13 +29,13 @@ use Rattle.trial.specs.declared.trial.Trial.the-variants.{Arc, None}
 use Rattle.trial.specs.Deviation.{arcDeviation}
 use Rattle.trial.specs.Traversal.{traverses}
 use Rattle.trial.specs.Trial.{sharpAt, closedRange, trialRound, trialOf, ofCircle, ofCenter, trialThree, trialLeast, orElse, tryArcs}
-use Rattle.simplify.specs.Measure.{Measure, lineSq}
 use Rattle.simplify.specs.declared.simplify.Farthest.{Farthest}
 use Rattle.simplify.specs.Words.{Ascending}
 use Rattle.simplify.specs.Thin.{thinned, thinnedPoints}
 use Rattle.simplify.proofs.First.{found-in}
 use Rattle.simplify.proofs.Thinning.{kept-in-order}
-use Rattle.fitting.specs.Pieces.{rooted, lineDeviation, Shape, line, arc, Piece, Choice, whole, cutAt, arcOrCut, chooseBy, choice, follow, piecesBy, piecesIn}
+use Rattle.fitting.specs.declared.fitting.Rule.{Rule}
+use Rattle.fitting.specs.Pieces.{distance, rooted, lineDeviation, Shape, line, arc, Piece, Choice, whole, cutAt, counted, arcOrCut, chooseBy, choice, follow, piecesBy, piecesIn}
 use Rattle.fitting.specs.Commands.{normalOf, shaped, pieceCommand, fitIn, keptOf, chainFit}
 use Rattle.fitting.proofs.Chain.{kept-few}
 use Rattle.course.specs.Finite.{AllFinite, FiniteNumbers}
@@ -122,26 +122,29 @@ abbrev Chosen : ℕ → ℕ → Choice → Type 0
 Chosen lo hi (whole s) = Shaped s
 Chosen lo hi (cutAt k) = (lo ≤ k) × (k ≤ hi)
 
-module _ (m : Measure Point3D) (tol : Float) (at : ℕ → Point3D) where
-  farthest-within : (lo hi : ℕ) → lo ≤ hi → (lo ≤ lineDeviation m at lo hi .index) × (lineDeviation m at lo hi .index ≤ hi)
+module _ (r : Rule) (at : ℕ → Point3D) where
+  farthest-within : (lo hi : ℕ) → lo ≤ hi → (lo ≤ lineDeviation (distance r) at lo hi .index) × (lineDeviation (distance r) at lo hi .index ≤ hi)
   unfolding lineDeviation rooted
   farthest-within lo hi o =
-      ⊎-elim (λ r. subst (λ (w : Farthest). (lo ≤ w .index) × (w .index ≤ hi)) (sym (r .0)) (omega arith, o))
-      (λ r. let f = r .from in let t = r .to in (omega arith, omega arith)) (found-in m at lo hi)
+      ⊎-elim (λ e. subst (λ (w : Farthest). (lo ≤ w .index) × (w .index ≤ hi)) (sym (e .0)) (omega arith, o))
+      (λ e. let f = e .from in let t = e .to in (omega arith, omega arith)) (found-in (distance r) at lo hi)
 
   chosen-or : (t : Trial) (lo k hi : ℕ) → Tried t → lo ≤ k → k ≤ hi → Chosen lo hi (arcOrCut t k)
   unfolding arcOrCut
   chosen-or (Arc c d) lo k hi h a b = h
   chosen-or None lo k hi h a b = (a, b)
 
-  chosen : (lo hi : ℕ) → lo ≤ hi → hi - lo < 2048 → ((j : ℕ) → lo ≤ j → j ≤ hi → Placed 27 (at j)) → Chosen lo hi (choice m tol at lo hi)
+  tried-counted : (t : Trial) → Tried t → Tried (counted r t)
+  tried-counted t h = ⊎-elim (λ e. rw e h) (λ e. rw e tt) (either (r .arcs))
+
+  chosen : (lo hi : ℕ) → lo ≤ hi → hi - lo < 2048 → ((j : ℕ) → lo ≤ j → j ≤ hi → Placed 27 (at j)) → Chosen lo hi (choice r at lo hi)
   unfolding choice chooseBy
   chosen lo hi o l each =
-      let w = lineDeviation m at lo hi in
+      let w = lineDeviation (distance r) at lo hi in
       let i = farthest-within lo hi o in
       ⊎-elim (λ h. rw h tt)
-      (λ h. rw h (chosen-or (tryArcs at lo hi (w .index) tol) lo (w .index) hi (tried-flat tol at lo hi o l each (w .index)) (i .0) (i .1)))
-      (either (lt (w .dist) tol))
+      (λ h. rw h (chosen-or (counted r (tryArcs at lo hi (w .index) (r .tolerance))) lo (w .index) hi (tried-counted (tryArcs at lo hi (w .index) (r .tolerance)) (tried-flat (r .tolerance) at lo hi o l each (w .index))) (i .0) (i .1)))
+      (either (lt (w .dist) (r .tolerance)))
 
 -- ---- the numbers of a command
 pub triple-finite : (p : Point3D) → isFinite (p .x) ≡ true → isFinite (p .y) ≡ true → isFinite (p .z) ≡ true → AllFinite (triple p)
@@ -197,16 +200,16 @@ commands-of : (at : ℕ → Point3D) (ps : List Piece) → FinitePieces at ps �
 commands-of at [] h = tt
 commands-of at (p ∷ ps) h = (h .0, commands-of at ps (h .1))
 
-no-pieces : (m : Measure Point3D) (tol : Float) (at : ℕ → Point3D) (lo hi : ℕ) → hi ≤ lo → FinitePieces at (piecesIn m tol at lo hi)
+no-pieces : (r : Rule) (at : ℕ → Point3D) (lo hi : ℕ) → hi ≤ lo → FinitePieces at (piecesIn r at lo hi)
 unfolding piecesBy
-no-pieces m tol at lo hi h = let z : hi - lo ≡ 0 = omega arith in rw z tt
+no-pieces r at lo hi h = let z : hi - lo ≡ 0 = omega arith in rw z tt
 
 -- A range with no step has no command, whatever its points.
-pub no-step-finite : (m : Measure Point3D) (tol : Float) (at : ℕ → Point3D) (lo hi : ℕ) → hi ≤ lo → FiniteNumbers (fitIn m tol at lo hi)
+pub no-step-finite : (r : Rule) (at : ℕ → Point3D) (lo hi : ℕ) → hi ≤ lo → FiniteNumbers (fitIn r at lo hi)
 unfolding fitIn
-no-step-finite m tol at lo hi h = commands-of at (piecesIn m tol at lo hi) (no-pieces m tol at lo hi h)
+no-step-finite r at lo hi h = commands-of at (piecesIn r at lo hi) (no-pieces r at lo hi h)
 
-module _ (m : Measure Point3D) (tol : Float) (at : ℕ → Point3D) (lo hi : ℕ) (few : hi - lo < 2048) (each : (j : ℕ) → lo ≤ j → j ≤ hi → Placed 27 (at j)) where
+module _ (r : Rule) (at : ℕ → Point3D) (lo hi : ℕ) (few : hi - lo < 2048) (each : (j : ℕ) → lo ≤ j → j ≤ hi → Placed 27 (at j)) where
   follow-finite : (f : ℕ → ℕ → List Piece) (a b : ℕ) (c : Choice) → lo ≤ a → a ≤ b → b ≤ hi → Chosen a b c
       → ((i j : ℕ) → lo ≤ i → i ≤ j → j ≤ hi → FinitePieces at (f i j)) → FinitePieces at (follow f a b c)
   unfolding follow pieceCommand
@@ -216,20 +219,20 @@ module _ (m : Measure Point3D) (tol : Float) (at : ℕ → Point3D) (lo hi : ℕ
       let v = h .1 in
       pieces-append at (f a k) (f k b) (e a k p u (omega arith)) (e k b (omega arith) v r)
 
-  pieces-finite : (n a b : ℕ) → lo ≤ a → a ≤ b → b ≤ hi → FinitePieces at (piecesBy m tol at n a b)
+  pieces-finite : (n a b : ℕ) → lo ≤ a → a ≤ b → b ≤ hi → FinitePieces at (piecesBy r at n a b)
   unfolding piecesBy
-  pieces-finite zero a b p q r = tt
-  pieces-finite (suc n) a b p q r =
-      follow-finite (piecesBy m tol at n) a b (choice m tol at a b) p q r
-      (chosen m tol at a b q (omega arith) (λ j x y. each j (omega arith) (omega arith)))
+  pieces-finite zero a b p q l = tt
+  pieces-finite (suc n) a b p q l =
+      follow-finite (piecesBy r at n) a b (choice r at a b) p q l
+      (chosen r at a b q (omega arith) (λ j x y. each j (omega arith) (omega arith)))
       (λ i j x y z. pieces-finite n i j x y z)
 
   -- Every number that the fit of the points from lo to hi writes is finite, at any tolerance and by any measure of Lines.
-  pub fit-finite : FiniteNumbers (fitIn m tol at lo hi)
+  pub fit-finite : FiniteNumbers (fitIn r at lo hi)
   unfolding fitIn
   fit-finite =
-      commands-of at (piecesIn m tol at lo hi)
-      (⊎-elim (λ h. pieces-finite (hi - lo) lo hi (omega arith) (omega arith) (omega arith)) (λ h. no-pieces m tol at lo hi h) (lt-or-ge lo hi))
+      commands-of at (piecesIn r at lo hi)
+      (⊎-elim (λ h. pieces-finite (hi - lo) lo hi (omega arith) (omega arith) (omega arith)) (λ h. no-pieces r at lo hi h) (lt-or-ge lo hi))
 
 -- ---- points that are lent as triples
 -- each number of a list is at most 2 ^ k in size
@@ -256,12 +259,12 @@ point-placed k s h i l =
     }
 
 -- Every number that the fit of lent points from lo to hi writes is finite.
-pub lent-finite : (m : Measure Point3D) (tol : Float) (s : List Float) (lo hi : ℕ) → length s / 3 ≤ 2048 → EachBelow 27 s → (lo < hi → hi < length s / 3)
-    → FiniteNumbers (fitIn m tol (pointAt s) lo hi)
-lent-finite m tol s lo hi few h inside =
+pub lent-finite : (r : Rule) (s : List Float) (lo hi : ℕ) → length s / 3 ≤ 2048 → EachBelow 27 s → (lo < hi → hi < length s / 3)
+    → FiniteNumbers (fitIn r (pointAt s) lo hi)
+lent-finite r s lo hi few h inside =
     ⊎-elim
-    (λ g. let e = inside g in fit-finite m tol (pointAt s) lo hi (omega arith) (λ j a b. point-placed 27 s h j (omega arith)))
-    (λ g. no-step-finite m tol (pointAt s) lo hi g) (lt-or-ge lo hi)
+    (λ g. let e = inside g in fit-finite r (pointAt s) lo hi (omega arith) (λ j a b. point-placed 27 s h j (omega arith)))
+    (λ g. no-step-finite r (pointAt s) lo hi g) (lt-or-ge lo hi)
 
 -- ---- what thinning keeps
 kept-placed : (k n i : ℕ) (at : ℕ → Point3D) (is : List ℕ) → ((j : ℕ) → j < n → Placed k (at j)) → Ascending i n is → EachBelow k (flat triple (map at is))
@@ -271,17 +274,17 @@ kept-placed k n i at (j ∷ js) h a =
     let p = h j (a .1) in
     each-append k (triple (at j)) (flat triple (map at js)) (p .in-x, (p .in-y, (p .in-z, tt))) (kept-placed k n (j + 1) at js h (a .2))
 
-module _ (tol : Float) (s : List Float) (h : EachBelow 27 s) where
-  pub kept-below : EachBelow 27 (flat triple (keptOf tol s))
+module _ (r : Rule) (s : List Float) (h : EachBelow 27 s) where
+  pub kept-below : EachBelow 27 (flat triple (keptOf r s))
   unfolding thinnedPoints
   kept-below =
-      kept-placed 27 (length s / 3) 0 (pointAt s) (thinned lineSq (tol ⊗ tol) (pointAt s) (length s / 3)) (λ j l. point-placed 27 s h j l)
-      (kept-in-order lineSq (tol ⊗ tol) (square-not-negative tol) (pointAt s) (length s / 3))
+      kept-placed 27 (length s / 3) 0 (pointAt s) (thinned (distance r) (r .tolerance ⊗ r .tolerance) (pointAt s) (length s / 3)) (λ j l. point-placed 27 s h j l)
+      (kept-in-order (distance r) (r .tolerance ⊗ r .tolerance) (square-not-negative (r .tolerance)) (pointAt s) (length s / 3))
 
   -- Every number that the fit of a chain writes is finite, at any tolerance.
-  pub chain-finite : length s / 3 ≤ 2048 → FiniteNumbers (chainFit tol s)
+  pub chain-finite : length s / 3 ≤ 2048 → FiniteNumbers (chainFit r s)
   unfolding chainFit
   chain-finite few =
-      let f = kept-few tol s in
-      let w = flat-length triple 3 (λ p. refl) (keptOf tol s) in
-      lent-finite lineSq tol (flat triple (keptOf tol s)) 0 (length (keptOf tol s) - 1) (omega arith) kept-below (λ l. omega arith)
+      let f = kept-few r s in
+      let w = flat-length triple 3 (λ p. refl) (keptOf r s) in
+      lent-finite r (flat triple (keptOf r s)) 0 (length (keptOf r s) - 1) (omega arith) kept-below (λ l. omega arith)

@@ -20,6 +20,8 @@ use Rattle.geo.proofs.Rows.{row-passed}
 use Rattle.geo.proofs.Tolerance.{tolerance-positive}
 use Rattle.simplify.specs.Simplify.{commandRows}
 use Rattle.simplify.proofs.Accepted.{commands-accepted}
+use Rattle.fitting.specs.declared.fitting.Rule.{Rule}
+use Rattle.fitting.specs.Pieces.{pointsRule}
 use Rattle.fitting.specs.Written.{commandsOf, NotedPlaced}
 use Rattle.fitting.proofs.Writing.{commands-length, commands-placed}
 use Rattle.course.specs.declared.course.Flush.{Flush}
@@ -32,19 +34,19 @@ use Rattle.course.proofs.Chains.{flushed-few, path-commands}
 use borrow.Author.Tests.{not-false}
 
 -- ---- the course of `fit_arcs`
-pub course-fit : (tol : Float) (cs : List Command) → fitBy Fitted tol cs ≡ courseNoted tol cs
+pub course-fit : (r : Rule) (cs : List Command) → fitBy Fitted r cs ≡ courseNoted r cs
 unfolding fitBy partsBy courseNoted courseParts joinedBy joinsBeziers flushedBy
-course-fit tol cs = refl
+course-fit r cs = refl
 
 pub course-most : (tol : Float) (cs : List Command) → mostOf (partsBy Fitted tol cs) ≡ courseMost tol cs
 unfolding partsBy courseMost courseParts joinedBy joinsBeziers
 course-most tol cs = refl
 
 -- ---- that of `optimize_path_from_array`
-pub path-fit : (arcs : Bool) (tol : Float) (cs : List Command) → commandsOf (fitBy (pathFlush arcs) tol cs) ≡ optimized arcs tol cs
+pub path-fit : (arcs : Bool) (tol : Float) (cs : List Command) → commandsOf (fitBy (pathFlush arcs) (pointsRule tol) cs) ≡ optimized arcs tol cs
 unfolding fitBy partsBy optimized joinedBy joinsBeziers pathFlush
-path-fit true tol cs = parts-commands (flushedBy AsItStands tol) (optimizedChain true tol) (path-commands true tol) (partsFrom linesJoined origin (triple origin) cs)
-path-fit false tol cs = parts-commands (flushedBy Lines tol) (optimizedChain false tol) (path-commands false tol) (partsFrom linesJoined origin (triple origin) cs)
+path-fit true tol cs = parts-commands (flushedBy AsItStands (pointsRule tol)) (optimizedChain true tol) (path-commands true tol) (partsFrom linesJoined origin (triple origin) cs)
+path-fit false tol cs = parts-commands (flushedBy Lines (pointsRule tol)) (optimizedChain false tol) (path-commands false tol) (partsFrom linesJoined origin (triple origin) cs)
 
 whole-lines : (last : Point3D) (c : Command) → Whole (linesJoined last c)
 unfolding linesJoined
@@ -80,9 +82,9 @@ course-length ks ns zero i = refl
 course-length ks ns (suc n) i = ap suc (course-length ks ns n (i + 1))
 
 -- what is written is at most the most
-path-few : (arcs : Bool) (tol : Float) → (+0 ≺ tol) ≡ true → (cs : List Command) → length (fitBy (pathFlush arcs) tol cs) ≤ mostOf (partsBy (pathFlush arcs) tol cs)
+path-few : (arcs : Bool) (tol : Float) → (+0 ≺ tol) ≡ true → (cs : List Command) → length (fitBy (pathFlush arcs) (pointsRule tol) cs) ≤ mostOf (partsBy (pathFlush arcs) tol cs)
 unfolding fitBy
-path-few arcs tol pos cs = noted-few (flushedBy (pathFlush arcs) tol) (flushed-few (pathFlush arcs) tol pos) (partsBy (pathFlush arcs) tol cs)
+path-few arcs tol pos cs = noted-few (flushedBy (pathFlush arcs) (pointsRule tol)) (flushed-few (pathFlush arcs) (pointsRule tol) pos) (partsBy (pathFlush arcs) tol cs)
 
 -- the tolerance of a path that is accepted
 path-positive : (ks : List ℕ) (ns : List Float) (tol : Float) (kinds numbers r : ℕ) → r ≡ refusal (commandRows ks ns tol kinds numbers) → r ≡ 0 → (+0 ≺ tol) ≡ true
@@ -108,13 +110,13 @@ module _ (ks : List ℕ) (ns : List Float) (tol : Float) (arcs : Bool) (oks : Li
       let m = most-is in
       (path-positive ks ns tol (length oks) (length ons) r e z, (omega (arith, a), omega (arith, a, m), omega (arith, a, m), omega (arith, a, m)))
 
-  pub wrote-path : (f : Flush) → f ≡ pathFlush arcs → (oks′ : List ℕ) (ons′ : List Float) (oss oss′ : List ℕ) (k : ℕ) → NotedPlaced (fitBy f tol (lentCourse ks ns)) 0 k oks oks′ ons ons′ oss oss′
+  pub wrote-path : (f : Flush) → f ≡ pathFlush arcs → (oks′ : List ℕ) (ons′ : List Float) (oss oss′ : List ℕ) (k : ℕ) → NotedPlaced (fitBy f (pointsRule tol) (lentCourse ks ns)) 0 k oks oks′ ons ons′ oss oss′
       → WroteCommands (optimizeCall ks ns tol arcs (length oks) (length ons)) oks oks′ ons ons′ (Written k)
   unfolding optimizeCall
   wrote-path f is oks′ ons′ oss oss′ k q =
-      let fitted = fitBy (pathFlush arcs) tol (lentCourse ks ns) in
+      let fitted = fitBy (pathFlush arcs) (pointsRule tol) (lentCourse ks ns) in
       let d = path-fit arcs tol (lentCourse ks ns) in
-      let p = commands-placed _ _ 0 k oks oks′ ons ons′ oss oss′ (ap (λ (h : Flush). commandsOf (fitBy h tol (lentCourse ks ns))) is ∙ d) q in
+      let p = commands-placed _ _ 0 k oks oks′ ons ons′ oss oss′ (ap (λ (h : Flush). commandsOf (fitBy h (pointsRule tol) (lentCourse ks ns))) is ∙ d) q in
       let xs = optimized arcs tol (lentCourse ks ns) in
       let a = path-accepted in
       let l : length fitted ≤ mostOf (partsBy (pathFlush arcs) tol (lentCourse ks ns)) = path-few arcs tol (a .0) (lentCourse ks ns) in

@@ -14,6 +14,7 @@ use Rattle.geo.specs.declared.types.Command.{Command}
 use Rattle.geo.specs.declared.types.Command.the-variants.{Move, Line, Arc, Bezier}
 use Rattle.geo.specs.Lent.{pointAt, triple, flat, endOf}
 use Rattle.bezier.specs.Linearize.{stepEnd, paramSteps}
+use Rattle.fitting.specs.declared.fitting.Rule.{Rule}
 use Rattle.fitting.specs.Commands.{keptOf}
 use Rattle.fitting.specs.Written.{Noted, chainNoted}
 use Rattle.fitting.proofs.Fitted.{noted-length}
@@ -28,17 +29,17 @@ use Rattle.course.specs.Walks.{joinsBeziers, joinedBy, underWay, Room, S
 use Rattle.course.proofs.Walking.{length-front}
 
 -- a chain gives at most a command for each of its steps
-pub chain-few : (tol : Float) → (+0 ≺ tol) ≡ true → (s : List Float) → length (chainNoted tol s) ≤ length s / 3 - 1
-chain-few tol pos s = ⊎-elim none some (lt-or-ge (length s / 3) 2)
+pub chain-few : (r : Rule) → (+0 ≺ r .tolerance) ≡ true → (s : List Float) → length (chainNoted r s) ≤ length s / 3 - 1
+chain-few r pos s = ⊎-elim none some (lt-or-ge (length s / 3) 2)
   where
-    none : length s / 3 < 2 → length (chainNoted tol s) ≤ length s / 3 - 1
-    none h = let e = ap length (no-noted tol s h) in omega arith
+    none : length s / 3 < 2 → length (chainNoted r s) ≤ length s / 3 - 1
+    none h = let e = ap length (no-noted r s h) in omega arith
 
-    some : 2 ≤ length s / 3 → length (chainNoted tol s) ≤ length s / 3 - 1
+    some : 2 ≤ length s / 3 → length (chainNoted r s) ≤ length s / 3 - 1
     some h =
-        let k = kept-some tol s h in
-        let f = kept-few tol s in
-        let l : length (chainNoted tol s) ≤ length (keptOf tol s) - 1 - 0 = unfold chainNoted in noted-length tol pos (pointAt (flat triple (keptOf tol s))) 0 (length (keptOf tol s) - 1) (omega arith) in omega arith
+        let k = kept-some r s h in
+        let f = kept-few r s in
+        let l : length (chainNoted r s) ≤ length (keptOf r s) - 1 - 0 = unfold chainNoted in noted-length r pos (pointAt (flat triple (keptOf r s))) 0 (length (keptOf r s) - 1) (omega arith) in omega arith
 
 module _ (c : Command) (w : Walk) (s : List Float) (kinds numbers : ℕ) where
   pub front-length : (j : Join) → Room j c w s kinds numbers → length (underWay w s) ≡ 3 * w .points

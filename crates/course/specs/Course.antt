@@ -13,9 +13,10 @@ use Rattle.geo.specs.declared.types.Command.the-variants.{Move, Line, Arc, Bezi
 use Rattle.geo.specs.Lent.{pointAt, triple, flat, origin, commandsFrom}
 use Rattle.geo.specs.Domain.{whole, tolerance, commandsFormed, commandsIn}
 use Rattle.geo.specs.Outcome.{Row, row, refusal, Outcome, unless}
-use Rattle.simplify.specs.Measure.{lineSq}
 use Rattle.simplify.specs.Simplify.{commandRows}
 use Rattle.bezier.specs.Linearize.{stepEnd, paramSteps}
+use Rattle.fitting.specs.declared.fitting.Rule.{Rule}
+use Rattle.fitting.specs.Pieces.{pointsRule, lapsRule}
 use Rattle.fitting.specs.Commands.{fitIn, keptOf, chainFit}
 use Rattle.course.specs.Parts.{Part, Join, adds, ends, partsFrom, mostOf, fitOf}
 
@@ -30,9 +31,9 @@ joined tol last (Bezier p c d) = adds (flat stepEnd (paramSteps p c d last (tol 
 unfoldable pub courseParts : Float → List Command → List Part
 courseParts tol cs = partsFrom (joined tol) origin (triple origin) cs
 
--- its fit: each chain thinned and fitted
-unfoldable pub courseFit : Float → List Command → List Command
-courseFit tol cs = fitOf (chainFit tol) (courseParts tol cs)
+-- its fit by a rule: each chain thinned and fitted
+unfoldable pub courseFit : Rule → List Command → List Command
+courseFit r cs = fitOf (chainFit r) (courseParts (r .tolerance) cs)
 
 -- its most: its Moves and Arcs, and that of each chain, Bezier steps counted
 unfoldable pub courseMost : Float → List Command → ℕ
@@ -61,7 +62,7 @@ unfoldable pub arcsRows : List ℕ → List Float → Float → ℕ → ℕ → 
 arcsRows ks ns tol kinds numbers = inputRows ks ns tol numbers ++ roomRows (courseMost tol (lentCourse ks ns)) kinds numbers
 
 unfoldable pub arcsCall : List ℕ → List Float → Float → ℕ → ℕ → Outcome (List Command)
-arcsCall ks ns tol kinds numbers = unless (refusal (arcsRows ks ns tol kinds numbers)) (courseFit tol (lentCourse ks ns))
+arcsCall ks ns tol kinds numbers = unless (refusal (arcsRows ks ns tol kinds numbers)) (courseFit (lapsRule tol) (lentCourse ks ns))
 
 -- ---- optimize_path_from_array: only a Line adds to a chain. A chain is fitted as it stands where arcs are asked for, else thinned to Lines. The most is the command count
 unfoldable pub linesJoined : Point3D → Command → Join
@@ -71,8 +72,8 @@ linesJoined last (Arc p o n) = ends
 linesJoined last (Bezier p c d) = ends
 
 unfoldable pub optimizedChain : Bool → Float → List Float → List Command
-optimizedChain true tol s = fitIn lineSq tol (pointAt s) 0 (length s / 3 - 1)
-optimizedChain false tol s = map Line (drop 1 (keptOf tol s))
+optimizedChain true tol s = fitIn (pointsRule tol) (pointAt s) 0 (length s / 3 - 1)
+optimizedChain false tol s = map Line (drop 1 (keptOf (pointsRule tol) s))
 
 unfoldable pub optimized : Bool → Float → List Command → List Command
 optimized arcs tol cs = fitOf (optimizedChain arcs tol) (partsFrom linesJoined origin (triple origin) cs)

@@ -1,4 +1,4 @@
--- Demand 3's sentences about the chains of a course, as propositions, over the measure m by which a course is thinned and its Lines are tested. Definitions only;
+-- Demand 3's sentences about the chains of a course, as propositions, over the rule r by which a course is thinned and fitted. Definitions only;
 -- proofs/Demand.antt shows that they hold.
 use Prim.Native.Nat.{ℕ, _-_, _/_, _≤_, _<_}
 use mathlib.Core.Path.{_≡_}
@@ -9,47 +9,47 @@ use Rattle.floats.specs.Ops.{_⊗_}
 use Rattle.geo.specs.declared.types.Point3D.{Point3D}
 use Rattle.geo.specs.declared.types.Command.{Command}
 use Rattle.geo.specs.Lent.{pointAt, triple, flat}
-use Rattle.simplify.specs.Measure.{Measure, lineSq}
 use Rattle.simplify.specs.Thin.{keptIn, thinnedPoints}
 use Rattle.simplify.specs.Words.{Ascending, Near, Neighbours}
-use Rattle.fitting.specs.Pieces.{Piece, piecesIn}
+use Rattle.fitting.specs.declared.fitting.Rule.{Rule}
+use Rattle.fitting.specs.Pieces.{distance, Piece, piecesIn}
 use Rattle.fitting.specs.Laws.{RangeFitted}
 use Rattle.course.specs.Parts.{Part, chain, kept}
 
 -- ---- the thinned chain: its points, one by its index, and its last index, which is the number of its steps
-abbrev pub thinnedChain : Measure Point3D → Float → List Float → List Point3D
-thinnedChain m tol s = thinnedPoints m (tol ⊗ tol) (pointAt s) (length s / 3)
+abbrev pub thinnedChain : Rule → List Float → List Point3D
+thinnedChain r s = thinnedPoints (distance r) (r .tolerance ⊗ r .tolerance) (pointAt s) (length s / 3)
 
-abbrev pub thinnedAt : Float → List Float → ℕ → Point3D
-thinnedAt tol s = pointAt (flat triple (thinnedChain lineSq tol s))
+abbrev pub thinnedAt : Rule → List Float → ℕ → Point3D
+thinnedAt r s = pointAt (flat triple (thinnedChain r s))
 
-abbrev pub stepsOf : Float → List Float → ℕ
-stepsOf tol s = length (thinnedChain lineSq tol s) - 1
+abbrev pub stepsOf : Rule → List Float → ℕ
+stepsOf r s = length (thinnedChain r s) - 1
 
 -- the pieces of the chain s
-abbrev pub chainPieces : Float → List Float → List Piece
-chainPieces tol s = piecesIn lineSq tol (thinnedAt tol s) 0 (stepsOf tol s)
+abbrev pub chainPieces : Rule → List Float → List Piece
+chainPieces r s = piecesIn r (thinnedAt r s) 0 (stepsOf r s)
 
 -- the indices that thinning keeps strictly between the first point of the chain s and its last, and all that it keeps
-abbrev pub keptInside : Measure Point3D → Float → List Float → List ℕ
-keptInside m tol s = keptIn m (tol ⊗ tol) (pointAt s) 0 (length s / 3 - 1)
+abbrev pub keptInside : Rule → List Float → List ℕ
+keptInside r s = keptIn (distance r) (r .tolerance ⊗ r .tolerance) (pointAt s) 0 (length s / 3 - 1)
 
-abbrev pub keptIndices : Measure Point3D → Float → List Float → List ℕ
-keptIndices m tol s = 0 ∷ (keptInside m tol s ++ (length s / 3 - 1) ∷ [])
+abbrev pub keptIndices : Rule → List Float → List ℕ
+keptIndices r s = 0 ∷ (keptInside r s ++ (length s / 3 - 1) ∷ [])
 
 -- What demand 3 says of a chain s of two or more points and the commands xs that it gives.
-pub record ChainFitted (m : Measure Point3D) (tol : Float) (s : List Float) (xs : List Command) : Type 0 where
+pub record ChainFitted (r : Rule) (s : List Float) (xs : List Command) : Type 0 where
   -- the thinned chain is the chain's first point, those kept between, and its last, in the chain's order
-  pub thinned : thinnedChain m tol s ≡ map (pointAt s) (keptIndices m tol s)
-  pub ascending : Ascending 0 (length s / 3) (keptIndices m tol s)
+  pub thinned : thinnedChain r s ≡ map (pointAt s) (keptIndices r s)
+  pub ascending : Ascending 0 (length s / 3) (keptIndices r s)
   -- "each thinned-out point is, as computed, within [the tolerance] of the line through its kept neighbours"
-  pub neighbours : Neighbours (Near m (tol ⊗ tol) (pointAt s)) 0 (keptInside m tol s) (length s / 3 - 1)
+  pub neighbours : Neighbours (Near (distance r) (r .tolerance ⊗ r .tolerance) (pointAt s)) 0 (keptInside r s) (length s / 3 - 1)
   -- "A thinned chain of two or more points is a range": one Line or new Arc for each piece, each step in one piece, each deviation below the tolerance, and the cut rule
-  pub fitted : RangeFitted m tol (pointAt (flat triple (thinnedChain m tol s))) 0 (length (thinnedChain m tol s) - 1) xs
+  pub fitted : RangeFitted r (pointAt (flat triple (thinnedChain r s))) 0 (length (thinnedChain r s) - 1) xs
 
 -- and of any chain: with fewer than two points it has no step, and gives nothing
-pub record ChainGives (m : Measure Point3D) (tol : Float) (s : List Float) (xs : List Command) : Type 0 where
-  pub some : 2 ≤ length s / 3 → ChainFitted m tol s xs
+pub record ChainGives (r : Rule) (s : List Float) (xs : List Command) : Type 0 where
+  pub some : 2 ≤ length s / 3 → ChainFitted r s xs
   pub none : length s / 3 < 2 → xs ≡ []
 
 -- The commands xs are some of which A holds, and then some of which B does.
@@ -61,7 +61,7 @@ pub record Joined (A B : List Command → Type 0) (xs : List Command) : Type 0 w
   pub there : B rest
 
 -- What demand 3 says of the parts of a course and the commands xs that it gives: in order, each kept command itself, and of each chain the commands that it gives.
-abbrev pub PartsGive : Measure Point3D → Float → List Part → List Command → Type 0
-PartsGive m tol [] xs = xs ≡ []
-PartsGive m tol (chain s ∷ ps) xs = Joined (ChainGives m tol s) (PartsGive m tol ps) xs
-PartsGive m tol (kept c ∷ ps) xs = Joined (λ ys. ys ≡ c ∷ []) (PartsGive m tol ps) xs
+abbrev pub PartsGive : Rule → List Part → List Command → Type 0
+PartsGive r [] xs = xs ≡ []
+PartsGive r (chain s ∷ ps) xs = Joined (ChainGives r s) (PartsGive r ps) xs
+PartsGive r (kept c ∷ ps) xs = Joined (λ ys. ys ≡ c ∷ []) (PartsGive r ps) xs

@@ -11,7 +11,7 @@ use Rattle.geo.specs.declared.types.Point3D.{Point3D}
 use Rattle.geo.specs.declared.types.Command.{Command}
 use Rattle.geo.specs.declared.types.Command.the-variants.{Line}
 use Rattle.geo.specs.Lent.{pointAt, triple, flat, origin, endOf}
-use Rattle.simplify.specs.Measure.{lineSq}
+use Rattle.fitting.specs.declared.fitting.Rule.{Rule}
 use Rattle.fitting.specs.Commands.{keptOf}
 use Rattle.fitting.specs.Written.{Noted, noted, notedIn, chainNoted, NotedPlaced}
 use Rattle.course.specs.declared.course.Walk.{Walk}
@@ -66,10 +66,10 @@ partsBy f tol cs = partsFrom (joinedBy f tol) origin (triple origin) cs
 unfoldable pub lineNoted : Point3D → Noted
 lineNoted p = noted (Line p) 1
 
-unfoldable pub flushedBy : Flush → Float → List Float → List Noted
-flushedBy Fitted tol s = chainNoted tol s
-flushedBy AsItStands tol s = notedIn lineSq tol (pointAt s) 0 (length s / 3 - 1)
-flushedBy Lines tol s = map lineNoted (drop 1 (keptOf tol s))
+unfoldable pub flushedBy : Flush → Rule → List Float → List Noted
+flushedBy Fitted r s = chainNoted r s
+flushedBy AsItStands r s = notedIn r (pointAt s) 0 (length s / 3 - 1)
+flushedBy Lines r s = map lineNoted (drop 1 (keptOf r s))
 
 -- of a part, a chain's by `fit`; a command that is kept covers none
 unfoldable pub partNoted : (List Float → List Noted) → Part → List Noted
@@ -79,12 +79,12 @@ partNoted fit (kept c) = noted c 0 ∷ []
 unfoldable pub notedOf : (List Float → List Noted) → List Part → List Noted
 notedOf fit ps = flat (partNoted fit) ps
 
-unfoldable pub fitBy : Flush → Float → List Command → List Noted
-fitBy f tol cs = notedOf (flushedBy f tol) (partsBy f tol cs)
+unfoldable pub fitBy : Flush → Rule → List Command → List Noted
+fitBy f r cs = notedOf (flushedBy f r) (partsBy f (r .tolerance) cs)
 
 -- the fit of a course
-unfoldable pub courseNoted : Float → List Command → List Noted
-courseNoted tol cs = notedOf (chainNoted tol) (courseParts tol cs)
+unfoldable pub courseNoted : Rule → List Command → List Noted
+courseNoted r cs = notedOf (chainNoted r) (courseParts (r .tolerance) cs)
 
 -- ---- one command
 -- the chain under way, at the front of its buffer

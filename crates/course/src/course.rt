@@ -2,6 +2,7 @@
 use bezier::bezier::put_ends;
 use bezier::bezier::steps_needed;
 use bezier::bezier::whole_steps;
+use fitting::fitting::Rule;
 use fitting::fitting::fit_range;
 use fitting::fitting::flush_chain;
 use fitting::fitting::put_noted;
@@ -81,7 +82,7 @@ impl Walk {
     pub const NUMBERS: usize = 7200;
 
     // A chain has its first point from the start.
-    pub fn new() -> Self
+    fn new() -> Self
         ensures { λ r. ⌜ r ≡ record { points = 1; last = origin; written = 0 } ⌝ }
     {
         Self {
@@ -213,8 +214,8 @@ fn put_lines(
 
 // Thins a chain, in place, to Lines.
 fn thin_chain(
+    rule: Rule,
     chain: &mut [f64],
-    tolerance: f64,
     kinds: &mut [u8],
     nums: &mut [f64],
     steps: &mut [u32],
@@ -222,50 +223,51 @@ fn thin_chain(
 ) -> usize
     requires { ⌜ (length (now chain) / 3 ≤ chainPoints) × (at + (length (now chain) / 3 - 1) ≤ length (now kinds)) × (9 * (at + (length (now chain) / 3 - 1)) ≤ length (now nums)) ⌝ }
     // What the chain holds at exit is left open.
-    ensures { λ r. ⌜ NotedPlaced (flushedBy Lines tolerance (now (chain .entry))) at r (now (kinds .entry)) (now (kinds .exit)) (now (nums .entry)) (now (nums .exit)) (now (steps .entry)) (now (steps .exit)) ⌝ }
+    ensures { λ r. ⌜ NotedPlaced (flushedBy Lines rule (now (chain .entry))) at r (now (kinds .entry)) (now (kinds .exit)) (now (nums .entry)) (now (nums .exit)) (now (steps .entry)) (now (steps .exit)) ⌝ }
 {
     let n = chain.len() / 3;
-    let k = thin_in_place(chain, n, tolerance * tolerance);
+    let ruler = rule.ruler;
+    let k = thin_in_place(ruler, chain, n, rule.tolerance * rule.tolerance);
     put_lines(&chain[..3 * k], kinds, nums, steps, at)
 }
 
 // Fits a chain as it stands.
 fn fit_chain(
+    rule: Rule,
     chain: &[f64],
-    tolerance: f64,
     kinds: &mut [u8],
     nums: &mut [f64],
     steps: &mut [u32],
     at: usize,
 ) -> usize
-    requires { ⌜ ((+0 ≺ tolerance) ≡ true) × ((length (now chain) / 3 ≤ chainPoints) × (at + (length (now chain) / 3 - 1) ≤ length (now kinds)) × (9 * (at + (length (now chain) / 3 - 1)) ≤ length (now nums))) ⌝ }
-    ensures { λ r. ⌜ NotedPlaced (flushedBy AsItStands tolerance (now (chain .entry))) at r (now (kinds .entry)) (now (kinds .exit)) (now (nums .entry)) (now (nums .exit)) (now (steps .entry)) (now (steps .exit)) ⌝ }
+    requires { ⌜ ((+0 ≺ rule .tolerance) ≡ true) × ((length (now chain) / 3 ≤ chainPoints) × (at + (length (now chain) / 3 - 1) ≤ length (now kinds)) × (9 * (at + (length (now chain) / 3 - 1)) ≤ length (now nums))) ⌝ }
+    ensures { λ r. ⌜ NotedPlaced (flushedBy AsItStands rule (now (chain .entry))) at r (now (kinds .entry)) (now (kinds .exit)) (now (nums .entry)) (now (nums .exit)) (now (steps .entry)) (now (steps .exit)) ⌝ }
 {
     let n = chain.len() / 3;
     if n < 2 {
         return 0;
     }
-    fit_range(chain, tolerance, 0, n - 1, kinds, nums, steps, at)
+    fit_range(rule, chain, 0, n - 1, kinds, nums, steps, at)
 }
 
 // Writes a chain's commands with the steps that each covers, and answers how many they are. The chain may be thinned in place.
 fn flush_by(
     how: Flush,
+    rule: Rule,
     chain: &mut [f64],
-    tolerance: f64,
     kinds: &mut [u8],
     nums: &mut [f64],
     steps: &mut [u32],
     at: usize,
 ) -> usize
-    requires { ⌜ ((+0 ≺ tolerance) ≡ true) × ((length (now chain) / 3 ≤ chainPoints) × (at + (length (now chain) / 3 - 1) ≤ length (now kinds)) × (9 * (at + (length (now chain) / 3 - 1)) ≤ length (now nums))) ⌝ }
+    requires { ⌜ ((+0 ≺ rule .tolerance) ≡ true) × ((length (now chain) / 3 ≤ chainPoints) × (at + (length (now chain) / 3 - 1) ≤ length (now kinds)) × (9 * (at + (length (now chain) / 3 - 1)) ≤ length (now nums))) ⌝ }
     // What the chain holds at exit is left open.
-    ensures { λ r. ⌜ NotedPlaced (flushedBy how tolerance (now (chain .entry))) at r (now (kinds .entry)) (now (kinds .exit)) (now (nums .entry)) (now (nums .exit)) (now (steps .entry)) (now (steps .exit)) ⌝ }
+    ensures { λ r. ⌜ NotedPlaced (flushedBy how rule (now (chain .entry))) at r (now (kinds .entry)) (now (kinds .exit)) (now (nums .entry)) (now (nums .exit)) (now (steps .entry)) (now (steps .exit)) ⌝ }
 {
     match how {
-        Flush::Fitted => flush_chain(chain, tolerance, kinds, nums, steps, at),
-        Flush::AsItStands => fit_chain(chain, tolerance, kinds, nums, steps, at),
-        Flush::Lines => thin_chain(chain, tolerance, kinds, nums, steps, at),
+        Flush::Fitted => flush_chain(rule, chain, kinds, nums, steps, at),
+        Flush::AsItStands => fit_chain(rule, chain, kinds, nums, steps, at),
+        Flush::Lines => thin_chain(rule, chain, kinds, nums, steps, at),
     }
 }
 
@@ -273,20 +275,20 @@ fn flush_by(
 fn end_chain(
     c: Command,
     how: Flush,
-    tolerance: f64,
+    rule: Rule,
     w: Walk,
     chain: &mut [f64],
     kinds: &mut [u8],
     nums: &mut [f64],
     steps: &mut [u32],
 ) -> Walk
-    requires { ⌜ ((+0 ≺ tolerance) ≡ true) × Room ends c w (now chain) (length (now kinds)) (length (now nums)) ⌝ }
-    ensures { λ r. ⌜ Stepped (flushedBy how tolerance) ends c w r (now (chain .entry)) (now (chain .exit)) (now (kinds .entry)) (now (kinds .exit)) (now (nums .entry)) (now (nums .exit)) (now (steps .entry)) (now (steps .exit)) ⌝ }
+    requires { ⌜ ((+0 ≺ rule .tolerance) ≡ true) × Room ends c w (now chain) (length (now kinds)) (length (now nums)) ⌝ }
+    ensures { λ r. ⌜ Stepped (flushedBy how rule) ends c w r (now (chain .entry)) (now (chain .exit)) (now (kinds .entry)) (now (kinds .exit)) (now (nums .entry)) (now (nums .exit)) (now (steps .entry)) (now (steps .exit)) ⌝ }
 {
     let n = flush_by(
         how,
+        rule,
         &mut chain[..3 * w.points],
-        tolerance,
         kinds,
         nums,
         steps,
@@ -306,15 +308,15 @@ fn end_chain(
 fn take_command(
     c: Command,
     how: Flush,
-    tolerance: f64,
+    rule: Rule,
     w: Walk,
     chain: &mut [f64],
     kinds: &mut [u8],
     nums: &mut [f64],
     steps: &mut [u32],
 ) -> Walk
-    requires { ⌜ ((+0 ≺ tolerance) ≡ true) × Room (joinedBy how tolerance (w .last) c) c w (now chain) (length (now kinds)) (length (now nums)) ⌝ }
-    ensures { λ r. ⌜ Stepped (flushedBy how tolerance) (joinedBy how tolerance (w .last) c) c w r (now (chain .entry)) (now (chain .exit)) (now (kinds .entry)) (now (kinds .exit)) (now (nums .entry)) (now (nums .exit)) (now (steps .entry)) (now (steps .exit)) ⌝ }
+    requires { ⌜ ((+0 ≺ rule .tolerance) ≡ true) × Room (joinedBy how (rule .tolerance) (w .last) c) c w (now chain) (length (now kinds)) (length (now nums)) ⌝ }
+    ensures { λ r. ⌜ Stepped (flushedBy how rule) (joinedBy how (rule .tolerance) (w .last) c) c w r (now (chain .entry)) (now (chain .exit)) (now (kinds .entry)) (now (kinds .exit)) (now (nums .entry)) (now (nums .exit)) (now (steps .entry)) (now (steps .exit)) ⌝ }
 {
     match c {
         Command::Line { end } => add_line(end, w, chain),
@@ -324,16 +326,16 @@ fn take_command(
             control2,
         } => {
             if how.joins_beziers() {
-                return add_bezier(end, control1, control2, tolerance, w, chain);
+                return add_bezier(end, control1, control2, rule.tolerance, w, chain);
             }
-            end_chain(c, how, tolerance, w, chain, kinds, nums, steps)
+            end_chain(c, how, rule, w, chain, kinds, nums, steps)
         }
-        Command::Move { end: _ } => end_chain(c, how, tolerance, w, chain, kinds, nums, steps),
+        Command::Move { end: _ } => end_chain(c, how, rule, w, chain, kinds, nums, steps),
         Command::Arc {
             end: _,
             center_offset: _,
             normal: _,
-        } => end_chain(c, how, tolerance, w, chain, kinds, nums, steps),
+        } => end_chain(c, how, rule, w, chain, kinds, nums, steps),
     }
 }
 
@@ -343,27 +345,27 @@ fn walk_course(
     kinds: &[u8],
     nums: &[f64],
     how: Flush,
-    tolerance: f64,
+    rule: Rule,
     chain: &mut [f64],
     out_kinds: &mut [u8],
     out_nums: &mut [f64],
     steps: &mut [u32],
 ) -> usize
-    requires { ⌜ ((+0 ≺ tolerance) ≡ true) × ((9 * length (now kinds) ≤ length (now nums)) × (mostOf (partsBy how tolerance (lentCourse (now kinds) (now nums))) ≤ mostCommands) × (mostOf (partsBy how tolerance (lentCourse (now kinds) (now nums))) ≤ length (now «out_kinds»)) × (9 * mostOf (partsBy how tolerance (lentCourse (now kinds) (now nums))) ≤ length (now «out_nums»)) × (length (now chain) ≡ chainNumbers)) ⌝ }
+    requires { ⌜ ((+0 ≺ rule .tolerance) ≡ true) × ((9 * length (now kinds) ≤ length (now nums)) × (mostOf (partsBy how (rule .tolerance) (lentCourse (now kinds) (now nums))) ≤ mostCommands) × (mostOf (partsBy how (rule .tolerance) (lentCourse (now kinds) (now nums))) ≤ length (now «out_kinds»)) × (9 * mostOf (partsBy how (rule .tolerance) (lentCourse (now kinds) (now nums))) ≤ length (now «out_nums»)) × (length (now chain) ≡ chainNumbers)) ⌝ }
     // What the chain holds at exit is left open.
-    ensures { λ r. ⌜ NotedPlaced (fitBy how tolerance (lentCourse (now (kinds .entry)) (now (nums .entry)))) 0 r (now («out_kinds» .entry)) (now («out_kinds» .exit)) (now («out_nums» .entry)) (now («out_nums» .exit)) (now (steps .entry)) (now (steps .exit)) ⌝ }
+    ensures { λ r. ⌜ NotedPlaced (fitBy how rule (lentCourse (now (kinds .entry)) (now (nums .entry)))) 0 r (now («out_kinds» .entry)) (now («out_kinds» .exit)) (now («out_nums» .entry)) (now («out_nums» .exit)) (now (steps .entry)) (now (steps .exit)) ⌝ }
 {
     let mut w = Walk::new();
     // The buffer may still hold the chain of another course.
     put_point(chain, 0, Point3D::ZERO);
     for i in 0..kinds.len() {
         let c = command_at(kinds, nums, i);
-        w = take_command(c, how, tolerance, w, chain, out_kinds, out_nums, steps);
+        w = take_command(c, how, rule, w, chain, out_kinds, out_nums, steps);
     }
     let n = flush_by(
         how,
+        rule,
         &mut chain[..3 * w.points],
-        tolerance,
         out_kinds,
         out_nums,
         steps,
@@ -376,21 +378,21 @@ fn walk_course(
 pub fn fit_course_with_steps(
     kinds: &[u8],
     nums: &[f64],
-    tolerance: f64,
+    rule: Rule,
     chain: &mut [f64],
     out_kinds: &mut [u8],
     out_nums: &mut [f64],
     steps: &mut [u32],
 ) -> usize
-    requires { ⌜ ((+0 ≺ tolerance) ≡ true) × ((9 * length (now kinds) ≤ length (now nums)) × (courseMost tolerance (lentCourse (now kinds) (now nums)) ≤ mostCommands) × (courseMost tolerance (lentCourse (now kinds) (now nums)) ≤ length (now «out_kinds»)) × (9 * courseMost tolerance (lentCourse (now kinds) (now nums)) ≤ length (now «out_nums»)) × (length (now chain) ≡ chainNumbers)) ⌝ }
+    requires { ⌜ ((+0 ≺ rule .tolerance) ≡ true) × ((9 * length (now kinds) ≤ length (now nums)) × (courseMost (rule .tolerance) (lentCourse (now kinds) (now nums)) ≤ mostCommands) × (courseMost (rule .tolerance) (lentCourse (now kinds) (now nums)) ≤ length (now «out_kinds»)) × (9 * courseMost (rule .tolerance) (lentCourse (now kinds) (now nums)) ≤ length (now «out_nums»)) × (length (now chain) ≡ chainNumbers)) ⌝ }
     // The chain is lent as room to work in: what it holds at exit is left open.
-    ensures { λ r. ⌜ NotedPlaced (courseNoted tolerance (lentCourse (now (kinds .entry)) (now (nums .entry)))) 0 r (now («out_kinds» .entry)) (now («out_kinds» .exit)) (now («out_nums» .entry)) (now («out_nums» .exit)) (now (steps .entry)) (now (steps .exit)) ⌝ }
+    ensures { λ r. ⌜ NotedPlaced (courseNoted rule (lentCourse (now (kinds .entry)) (now (nums .entry)))) 0 r (now («out_kinds» .entry)) (now («out_kinds» .exit)) (now («out_nums» .entry)) (now («out_nums» .exit)) (now (steps .entry)) (now (steps .exit)) ⌝ }
 {
     walk_course(
         kinds,
         nums,
         Flush::Fitted,
-        tolerance,
+        rule,
         chain,
         out_kinds,
         out_nums,
@@ -402,16 +404,16 @@ pub fn fit_course_with_steps(
 pub fn fit_course(
     kinds: &[u8],
     nums: &[f64],
-    tolerance: f64,
+    rule: Rule,
     chain: &mut [f64],
     out_kinds: &mut [u8],
     out_nums: &mut [f64],
 ) -> usize
-    requires { ⌜ ((+0 ≺ tolerance) ≡ true) × ((9 * length (now kinds) ≤ length (now nums)) × (courseMost tolerance (lentCourse (now kinds) (now nums)) ≤ mostCommands) × (courseMost tolerance (lentCourse (now kinds) (now nums)) ≤ length (now «out_kinds»)) × (9 * courseMost tolerance (lentCourse (now kinds) (now nums)) ≤ length (now «out_nums»)) × (length (now chain) ≡ chainNumbers)) ⌝ }
+    requires { ⌜ ((+0 ≺ rule .tolerance) ≡ true) × ((9 * length (now kinds) ≤ length (now nums)) × (courseMost (rule .tolerance) (lentCourse (now kinds) (now nums)) ≤ mostCommands) × (courseMost (rule .tolerance) (lentCourse (now kinds) (now nums)) ≤ length (now «out_kinds»)) × (9 * courseMost (rule .tolerance) (lentCourse (now kinds) (now nums)) ≤ length (now «out_nums»)) × (length (now chain) ≡ chainNumbers)) ⌝ }
     // The chain is lent as room to work in: what it holds at exit is left open.
-    ensures { λ r. ⌜ FitPlaced (courseFit tolerance (lentCourse (now (kinds .entry)) (now (nums .entry)))) 0 r (now («out_kinds» .entry)) (now («out_kinds» .exit)) (now («out_nums» .entry)) (now («out_nums» .exit)) ⌝ }
+    ensures { λ r. ⌜ FitPlaced (courseFit rule (lentCourse (now (kinds .entry)) (now (nums .entry)))) 0 r (now («out_kinds» .entry)) (now («out_kinds» .exit)) (now («out_nums» .entry)) (now («out_nums» .exit)) ⌝ }
 {
-    fit_course_with_steps(kinds, nums, tolerance, chain, out_kinds, out_nums, &mut [])
+    fit_course_with_steps(kinds, nums, rule, chain, out_kinds, out_nums, &mut [])
 }
 
 // Why the commands of a course are refused, or 0: rows 1 to 6.
@@ -486,7 +488,8 @@ pub fn fit_arcs(
         return Answer::Refused(refused);
     }
     let mut chain = [0.0; Walk::CHAIN];
-    Answer::Written(fit_course(kinds, nums, tolerance, &mut chain, out_kinds, out_nums))
+    let rule = Rule::of_laps(tolerance);
+    Answer::Written(fit_course(kinds, nums, rule, &mut chain, out_kinds, out_nums))
 }
 
 // How a path's chains are written.
@@ -515,12 +518,13 @@ pub fn optimize_path_from_array(
         return Answer::Refused(refused);
     }
     let how = path_flush(use_fit_arcs);
+    let rule = Rule::of_points(tolerance);
     let mut chain = [0.0; Walk::CHAIN];
     Answer::Written(walk_course(
         kinds,
         nums,
         how,
-        tolerance,
+        rule,
         &mut chain,
         out_kinds,
         out_nums,

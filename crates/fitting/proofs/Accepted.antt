@@ -27,7 +27,7 @@ use Rattle.circle.specs.declared.circle.Deviation.{Deviation}
 use Rattle.circle.specs.Calls.{pointsRows}
 use Rattle.circle.specs.Worst.{worst}
 use Rattle.trial.specs.Deviation.{arcDeviation}
-use Rattle.fitting.specs.Pieces.{lineDeviation, piecesBy}
+use Rattle.fitting.specs.Pieces.{pointsRule, lineDeviation, piecesBy}
 use Rattle.fitting.specs.declared.fitting.LineDeviation as measured
 use Rattle.fitting.specs.declared.fitting.ArcDeviation as around
 use Rattle.fitting.specs.Commands.{fitIn}
@@ -99,13 +99,13 @@ module _ (s : List Float) (tol : Float) (lo hi kinds numbers r : ℕ) (q : r ≡
 -- ---- what an accepted fit answers and leaves
 module _ (s : List Float) (tol : Float) (lo hi : ℕ) (ks ks′ : List ℕ) (ns ns′ : List Float) (r k : ℕ)
     (q : r ≡ refusal (fitRows s tol lo hi (length ks) (length ns))) (z : r ≡ 0) where
-  pub wrote-fit : lo < hi → FitPlaced (fitIn lineSq tol (pointAt s) lo hi) 0 k ks ks′ ns ns′
+  pub wrote-fit : lo < hi → FitPlaced (fitIn (pointsRule tol) (pointAt s) lo hi) 0 k ks ks′ ns ns′
       → WroteCommands (fitCall s tol lo hi (length ks) (length ns)) ks ks′ ns ns′ (Written k)
   unfolding fitCall
   wrote-fit some p =
-      let xs = fitIn lineSq tol (pointAt s) lo hi in
+      let xs = fitIn (pointsRule tol) (pointAt s) lo hi in
       let a = fit-accepted s tol lo hi (length ks) (length ns) r q z in
-      let l = fit-length tol (a .above-zero) (pointAt s) lo hi some in
+      let l = fit-length (pointsRule tol) (a .above-zero) (pointAt s) lo hi some in
       let rk = a .room-kinds in
       let rn = a .room-numbers in
       commands-given _ r q xs ks ks′ ns ns′ k z (p .count) (omega arith) (omega (arith, flat-length numbersOf 9 nine xs)) (p .kinds) (p .numbers)
@@ -115,7 +115,7 @@ module _ (s : List Float) (tol : Float) (lo hi : ℕ) (ks ks′ : List ℕ) (ns 
   unfolding fitCall fitIn piecesBy flat
   wrote-no-fit none p o =
       let d : hi - lo ≡ 0 = omega arith in
-      let e : fitIn lineSq tol (pointAt s) lo hi ≡ [] = rw d in
+      let e : fitIn (pointsRule tol) (pointAt s) lo hi ≡ [] = rw d in
       subst (λ (xs : List Command). WroteCommands (unless (refusal (fitRows s tol lo hi (length ks) (length ns))) xs) ks ks′ ns ns′ (Written 0)) (sym e)
       (commands-given _ r q [] ks ks′ ns ns′ 0 z refl (omega arith) (omega (arith, flat-length numbersOf 9 nine [])) p o)
 

@@ -11,70 +11,70 @@ use Rattle.floats.proofs.Unsigned.{square-not-negative}
 use Rattle.geo.specs.Lent.{pointAt, triple, flat}
 use Rattle.geo.proofs.Stores.{sets-front, take-front}
 use Rattle.geo.proofs.Flat.{flat-length}
-use Rattle.simplify.specs.Measure.{lineSq}
 use Rattle.simplify.specs.Thin.{keptIn, thinned, thinnedPoints}
 use Rattle.simplify.specs.Flags.{Copied}
 use Rattle.simplify.proofs.Thinning.{ends-kept, kept-at-most}
-use Rattle.fitting.specs.Pieces.{piecesBy}
+use Rattle.fitting.specs.declared.fitting.Rule.{Rule}
+use Rattle.fitting.specs.Pieces.{distance, piecesBy}
 use Rattle.fitting.specs.Commands.{fitIn, keptOf, chainFit}
 use Rattle.fitting.specs.Written.{FitPlaced, commandsOf, notedIn, chainNoted, NotedPlaced}
 use Rattle.fitting.proofs.Fitted.{noted-fit}
 
-module _ (tol : Float) (s : List Float) where
-  kept-length : length (keptOf tol s) ≡ length (thinned lineSq (tol ⊗ tol) (pointAt s) (length s / 3))
+module _ (r : Rule) (s : List Float) where
+  kept-length : length (keptOf r s) ≡ length (thinned (distance r) (r .tolerance ⊗ r .tolerance) (pointAt s) (length s / 3))
   unfolding thinnedPoints
-  kept-length = length-map (thinned lineSq (tol ⊗ tol) (pointAt s) (length s / 3)) (pointAt s)
+  kept-length = length-map (thinned (distance r) (r .tolerance ⊗ r .tolerance) (pointAt s) (length s / 3)) (pointAt s)
 
-  pub kept-few : length (keptOf tol s) ≤ length s / 3
-  kept-few = let l = kept-at-most lineSq (tol ⊗ tol) (square-not-negative tol) (pointAt s) (length s / 3) in omega (arith, kept-length)
+  pub kept-few : length (keptOf r s) ≤ length s / 3
+  kept-few = let l = kept-at-most (distance r) (r .tolerance ⊗ r .tolerance) (square-not-negative (r .tolerance)) (pointAt s) (length s / 3) in omega (arith, kept-length)
 
   -- both ends of a chain with a step
-  pub kept-some : 2 ≤ length s / 3 → 2 ≤ length (keptOf tol s)
+  pub kept-some : 2 ≤ length s / 3 → 2 ≤ length (keptOf r s)
   kept-some h =
-      let ks = keptIn lineSq (tol ⊗ tol) (pointAt s) 0 (length s / 3 - 1) in
-      let e = ap length (ends-kept lineSq (tol ⊗ tol) (square-not-negative tol) (pointAt s) (length s / 3) h) in
+      let ks = keptIn (distance r) (r .tolerance ⊗ r .tolerance) (pointAt s) 0 (length s / 3 - 1) in
+      let e = ap length (ends-kept (distance r) (r .tolerance ⊗ r .tolerance) (square-not-negative (r .tolerance)) (pointAt s) (length s / 3) h) in
       let l = length-append ks ((length s / 3 - 1) ∷ []) in omega (arith, kept-length)
 
   -- the k points kept stand at the front of the buffer
-  module _ (out out′ : List Float) (k : ℕ) (c : Copied triple (keptOf tol s) out out′ k) (room : 3 * (length s / 3) ≤ length out) where
-    wide : length (flat triple (keptOf tol s)) ≡ 3 * k
-    wide = let e = c .count in omega (arith, flat-length triple 3 (λ p. refl) (keptOf tol s))
+  module _ (out out′ : List Float) (k : ℕ) (c : Copied triple (keptOf r s) out out′ k) (room : 3 * (length s / 3) ≤ length out) where
+    wide : length (flat triple (keptOf r s)) ≡ 3 * k
+    wide = let e = c .count in omega (arith, flat-length triple 3 (λ p. refl) (keptOf r s))
 
     pub kept-fits : 3 * k ≤ length out′
-    kept-fits = let e = c .count in let f = kept-few in let l = ap length (c .items) ∙ length-sets out 0 (flat triple (keptOf tol s)) in omega arith
+    kept-fits = let e = c .count in let f = kept-few in let l = ap length (c .items) ∙ length-sets out 0 (flat triple (keptOf r s)) in omega arith
 
-    pub kept-front : take (3 * k) out′ ≡ flat triple (keptOf tol s)
+    pub kept-front : take (3 * k) out′ ≡ flat triple (keptOf r s)
     kept-front =
         let e = c .count in
         let f = kept-few in
-        let vs = flat triple (keptOf tol s) in
+        let vs = flat triple (keptOf r s) in
         subst (λ (j : ℕ). take j out′ ≡ vs) wide (ap (take (length vs)) (c .items ∙ sets-front vs out (omega (arith, wide))) ∙ take-front vs (drop (length vs) out))
 
     pub kept-wide : length (take (3 * k) out′) ≡ 3 * k
     kept-wide = ap length kept-front ∙ wide
 
     -- what the fit of the buffer's front leaves is the chain's
-    pub fitted-chain : (at n : ℕ) (ks ks′ : List ℕ) (ns ns′ : List Float) (ss ss′ : List ℕ) → NotedPlaced (notedIn lineSq tol (pointAt (take (3 * k) out′)) 0 (k - 1)) at n ks ks′ ns ns′ ss ss′
-        → NotedPlaced (chainNoted tol s) at n ks ks′ ns ns′ ss ss′
+    pub fitted-chain : (at n : ℕ) (ks ks′ : List ℕ) (ns ns′ : List Float) (ss ss′ : List ℕ) → NotedPlaced (notedIn r (pointAt (take (3 * k) out′)) 0 (k - 1)) at n ks ks′ ns ns′ ss ss′
+        → NotedPlaced (chainNoted r s) at n ks ks′ ns ns′ ss ss′
     unfolding chainNoted
     fitted-chain at n ks ks′ ns ns′ ss ss′ p =
-        subst (λ (j : ℕ). NotedPlaced (notedIn lineSq tol (pointAt (flat triple (keptOf tol s))) 0 (j - 1)) at n ks ks′ ns ns′ ss ss′) (c .count)
-        (subst (λ (l : List Float). NotedPlaced (notedIn lineSq tol (pointAt l) 0 (k - 1)) at n ks ks′ ns ns′ ss ss′) kept-front p)
+        subst (λ (j : ℕ). NotedPlaced (notedIn r (pointAt (flat triple (keptOf r s))) 0 (j - 1)) at n ks ks′ ns ns′ ss ss′) (c .count)
+        (subst (λ (l : List Float). NotedPlaced (notedIn r (pointAt l) 0 (k - 1)) at n ks ks′ ns ns′ ss ss′) kept-front p)
 
   -- what is noted beside a chain's commands does not change them
-  pub chain-noted : commandsOf (chainNoted tol s) ≡ chainFit tol s
+  pub chain-noted : commandsOf (chainNoted r s) ≡ chainFit r s
   unfolding chainNoted chainFit
-  chain-noted = noted-fit lineSq tol (pointAt (flat triple (keptOf tol s))) 0 (length (keptOf tol s) - 1)
+  chain-noted = noted-fit r (pointAt (flat triple (keptOf r s))) 0 (length (keptOf r s) - 1)
 
   -- a chain with no step
-  pub no-chain : length s / 3 < 2 → (at : ℕ) (ks : List ℕ) (ns : List Float) → FitPlaced (chainFit tol s) at 0 ks ks ns ns
+  pub no-chain : length s / 3 < 2 → (at : ℕ) (ks : List ℕ) (ns : List Float) → FitPlaced (chainFit r s) at 0 ks ks ns ns
   unfolding chainFit fitIn piecesBy flat
   no-chain h at ks ns =
       let f = kept-few in
-      let d : length (keptOf tol s) - 1 ≡ 0 = omega arith in rw d (record { count = refl; kinds = refl; numbers = refl })
+      let d : length (keptOf r s) - 1 ≡ 0 = omega arith in rw d (record { count = refl; kinds = refl; numbers = refl })
 
-  pub no-noted : length s / 3 < 2 → chainNoted tol s ≡ []
+  pub no-noted : length s / 3 < 2 → chainNoted r s ≡ []
   unfolding chainNoted notedIn piecesBy
   no-noted h =
       let f = kept-few in
-      let d : length (keptOf tol s) - 1 ≡ 0 = omega arith in rw d
+      let d : length (keptOf r s) - 1 ≡ 0 = omega arith in rw d

@@ -3,5 +3,6 @@ pub mod Recursion
 pub mod Fitted
 pub mod Pieces
 pub mod Writing
+pub mod Ranges
 pub mod Accepted
 pub mod Chain

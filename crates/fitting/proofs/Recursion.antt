@@ -10,29 +10,28 @@ use lib.Ieee.{Float, lt, ofBits}
 use Rattle.floats.specs.Ops.{_≺_, +0}
 use Rattle.floats.specs.Root.{rootOf}
 use Rattle.floats.proofs.Order.{either, clash}
-use Rattle.geo.specs.declared.types.Point.{Point}
 use Rattle.geo.specs.declared.types.Point3D.{Point3D}
 use Rattle.circle.specs.declared.circle.Deviation.{Deviation}
 use Rattle.trial.specs.declared.trial.Trial.{Trial}
 use Rattle.trial.specs.declared.trial.Trial.the-variants.{Arc, None}
 use Rattle.trial.specs.Trial.{tryArcs}
-use Rattle.simplify.specs.Measure.{Measure}
 use Rattle.simplify.proofs.First.{found-in}
-use Rattle.fitting.specs.Pieces.{rooted, lineDeviation, line, arc, Piece, Choice, whole, cutAt, arcOrCut, chooseBy, choice, follow, piecesBy, piecesIn}
+use Rattle.fitting.specs.declared.fitting.Rule.{Rule}
+use Rattle.fitting.specs.Pieces.{distance, rooted, lineDeviation, Piece, Choice, whole, cutAt, counted, arcOrCut, chooseBy, choice, follow, piecesBy, piecesIn}
 
 zero-root : rootOf +0 ≡ +0
 unfolding rootOf ofBits
 zero-root = refl
 
-module _ (m : Measure Point3D) (tol : Float) (pos : (+0 ≺ tol) ≡ true) (at : ℕ → Point3D) where
+module _ (r : Rule) (pos : (+0 ≺ r .tolerance) ≡ true) (at : ℕ → Point3D) where
   -- where the Line fails, its first farthest point lies strictly inside the range
-  pub farthest-inside : (lo hi : ℕ) (w : Deviation) → w ≡ lineDeviation m at lo hi → lt (w .dist) tol ≡ false → (lo < w .index) × (w .index < hi)
+  pub farthest-inside : (lo hi : ℕ) (w : Deviation) → w ≡ lineDeviation (distance r) at lo hi → lt (w .dist) (r .tolerance) ≡ false → (lo < w .index) × (w .index < hi)
   unfolding lineDeviation rooted
   farthest-inside lo hi w e h =
       subst (λ (d : Deviation). (lo < d .index) × (d .index < hi)) (sym e)
       (⊎-elim
-      (λ r. clash (sym (subst (λ (d : Deviation). lt (d .dist) tol ≡ false) (e ∙ ap rooted (r .0)) h) ∙ ap (λ (x : Float). lt x tol) zero-root ∙ pos))
-      (λ r. (let f = r .from in omega arith, r .to)) (found-in m at lo hi))
+      (λ f. clash (sym (subst (λ (d : Deviation). lt (d .dist) (r .tolerance) ≡ false) (e ∙ ap rooted (f .0)) h) ∙ ap (λ (x : Float). lt x (r .tolerance)) zero-root ∙ pos))
+      (λ g. (let f = g .from in omega arith, g .to)) (found-in (distance r) at lo hi))
 
   -- a cut lies strictly inside
   abbrev pub Inside : ℕ → ℕ → Choice → Type 0
@@ -44,13 +43,13 @@ module _ (m : Measure Point3D) (tol : Float) (pos : (+0 ≺ tol) ≡ true) (at :
   inside-or (Arc c d) lo k hi g h = tt
   inside-or None lo k hi g h = (g, h)
 
-  pub inside : (lo hi : ℕ) → Inside lo hi (choice m tol at lo hi)
+  pub inside : (lo hi : ℕ) → Inside lo hi (choice r at lo hi)
   unfolding choice chooseBy
   inside lo hi =
-      let w = lineDeviation m at lo hi in
+      let w = lineDeviation (distance r) at lo hi in
       ⊎-elim (λ h. rw h tt)
-      (λ h. let i = farthest-inside lo hi w refl h in rw h (inside-or (tryArcs at lo hi (w .index) tol) lo (w .index) hi (i .0) (i .1)))
-      (either (lt (w .dist) tol))
+      (λ h. let i = farthest-inside lo hi w refl h in rw h (inside-or (counted r (tryArcs at lo hi (w .index) (r .tolerance))) lo (w .index) hi (i .0) (i .1)))
+      (either (lt (w .dist) (r .tolerance)))
 
   -- ---- any count of cuts that is large enough
   follow-same : (f g : ℕ → ℕ → List Piece) (lo hi : ℕ) (c : Choice) → Inside lo hi c
@@ -59,21 +58,21 @@ module _ (m : Measure Point3D) (tol : Float) (pos : (+0 ≺ tol) ≡ true) (at :
   follow-same f g lo hi (whole s) v e = refl
   follow-same f g lo hi (cutAt k) v e = rw (e lo k (v .0) (omega (arith, v .1)), e k hi (v .1) (omega (arith, v .0)))
 
-  enough : (n k lo hi : ℕ) → lo < hi → hi - lo ≤ n → hi - lo ≤ k → piecesBy m tol at n lo hi ≡ piecesBy m tol at k lo hi
+  enough : (n k lo hi : ℕ) → lo < hi → hi - lo ≤ n → hi - lo ≤ k → piecesBy r at n lo hi ≡ piecesBy r at k lo hi
   unfolding piecesBy
   enough zero k lo hi h p q = absurd (omega arith)
   enough (suc n) zero lo hi h p q = absurd (omega arith)
   enough (suc n) (suc k) lo hi h p q =
-      follow-same (piecesBy m tol at n) (piecesBy m tol at k) lo hi (choice m tol at lo hi) (inside lo hi)
-      (λ a b g r. enough n k a b g (omega arith) (omega arith))
+      follow-same (piecesBy r at n) (piecesBy r at k) lo hi (choice r at lo hi) (inside lo hi)
+      (λ a b g l. enough n k a b g (omega arith) (omega arith))
 
   -- The pieces of a range are what its choice says: one, or those of the two ranges that a cut leaves.
-  pub pieces-follow : (lo hi : ℕ) → lo < hi → piecesIn m tol at lo hi ≡ follow (piecesIn m tol at) lo hi (choice m tol at lo hi)
+  pub pieces-follow : (lo hi : ℕ) → lo < hi → piecesIn r at lo hi ≡ follow (piecesIn r at) lo hi (choice r at lo hi)
   unfolding piecesBy
   pieces-follow lo hi h =
       enough (hi - lo) (suc (hi - lo)) lo hi h (omega arith) (omega arith)
-      ∙ follow-same (piecesBy m tol at (hi - lo)) (piecesIn m tol at) lo hi (choice m tol at lo hi) (inside lo hi)
-      (λ a b g r. enough (hi - lo) (b - a) a b g (omega arith) (omega arith))
+      ∙ follow-same (piecesBy r at (hi - lo)) (piecesIn r at) lo hi (choice r at lo hi) (inside lo hi)
+      (λ a b g l. enough (hi - lo) (b - a) a b g (omega arith) (omega arith))
 
   -- ---- at most one piece for each step
   follow-length : (f : ℕ → ℕ → List Piece) (lo hi : ℕ) (c : Choice) → lo < hi → Inside lo hi c
@@ -83,35 +82,11 @@ module _ (m : Measure Point3D) (tol : Float) (pos : (+0 ≺ tol) ≡ true) (at :
   follow-length f lo hi (cutAt k) h v e =
       rw length-append (omega (arith, v .0, v .1, e lo k (v .0) (omega (arith, v .1)), e k hi (v .1) (omega (arith, v .0))))
 
-  length-by : (n lo hi : ℕ) → lo < hi → hi - lo ≤ n → length (piecesBy m tol at n lo hi) ≤ hi - lo
+  length-by : (n lo hi : ℕ) → lo < hi → hi - lo ≤ n → length (piecesBy r at n lo hi) ≤ hi - lo
   unfolding piecesBy
   length-by zero lo hi h p = absurd (omega arith)
   length-by (suc n) lo hi h p =
-      follow-length (piecesBy m tol at n) lo hi (choice m tol at lo hi) h (inside lo hi) (λ a b g r. length-by n a b g (omega arith))
+      follow-length (piecesBy r at n) lo hi (choice r at lo hi) h (inside lo hi) (λ a b g l. length-by n a b g (omega arith))
 
-  pub pieces-length : (lo hi : ℕ) → lo < hi → length (piecesIn m tol at lo hi) ≤ hi - lo
+  pub pieces-length : (lo hi : ℕ) → lo < hi → length (piecesIn r at lo hi) ≤ hi - lo
   pieces-length lo hi h = length-by (hi - lo) lo hi h (omega arith)
-
-  -- ---- by the tests that the code makes
-  module _ (lo hi : ℕ) (some : lo < hi) (w : Deviation) (e : w ≡ lineDeviation m at lo hi) where
-    pub pieces-line : lt (w .dist) tol ≡ true → piecesIn m tol at lo hi ≡ record { from = lo; to = hi; shape = line } ∷ []
-    unfolding choice chooseBy follow
-    pieces-line h =
-        let g : lt (lineDeviation m at lo hi .dist) tol ≡ true = subst (λ (d : Deviation). lt (d .dist) tol ≡ true) e h in
-        pieces-follow lo hi some ∙ rw g
-
-    chosen : lt (w .dist) tol ≡ false → choice m tol at lo hi ≡ arcOrCut (tryArcs at lo hi (w .index) tol) (w .index)
-    unfolding choice chooseBy
-    chosen h =
-        let g : lt (lineDeviation m at lo hi .dist) tol ≡ false = subst (λ (d : Deviation). lt (d .dist) tol ≡ false) e h in
-        rw (g, ← e)
-
-    pub pieces-arc : (c : Point) (d : _) → lt (w .dist) tol ≡ false → tryArcs at lo hi (w .index) tol ≡ Arc c d
-        → piecesIn m tol at lo hi ≡ record { from = lo; to = hi; shape = arc c d } ∷ []
-    unfolding arcOrCut follow
-    pieces-arc c d h t = pieces-follow lo hi some ∙ rw (chosen h, t)
-
-    pub pieces-cut : lt (w .dist) tol ≡ false → tryArcs at lo hi (w .index) tol ≡ None
-        → piecesIn m tol at lo hi ≡ piecesIn m tol at lo (w .index) ++ piecesIn m tol at (w .index) hi
-    unfolding arcOrCut follow
-    pieces-cut h t = pieces-follow lo hi some ∙ rw (chosen h, t)

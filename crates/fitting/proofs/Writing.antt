@@ -84,13 +84,16 @@ pub commands-placed : (xs : List Noted) (cs : List Command) (at n : ℕ) (ks ks�
     → NotedPlaced xs at n ks ks′ ns ns′ ss ss′ → FitPlaced cs at n ks ks′ ns ns′
 commands-placed xs cs at n ks ks′ ns ns′ ss ss′ e p = subst (λ (zs : List Command). FitPlaced zs at n ks ks′ ns ns′) e (p .commands)
 
--- both outputs are as long as before
+-- the outputs are as long as before
 module _ (xs : List Noted) (at n : ℕ) (ks ks′ : List ℕ) (ns ns′ : List Float) (ss ss′ : List ℕ) (p : NotedPlaced xs at n ks ks′ ns ns′ ss ss′) where
   pub placed-kinds : length ks′ ≡ length ks
   placed-kinds = ap length (p .commands .kinds) ∙ length-sets ks at (map kindOf (commandsOf xs))
 
   pub placed-numbers : length ns′ ≡ length ns
   placed-numbers = ap length (p .commands .numbers) ∙ length-sets ns (9 * at) (flat numbersOf (commandsOf xs))
+
+  pub placed-notes : length ss′ ≡ length ss
+  placed-notes = ap length (p .notes) ∙ length-sets ss at (notesOf xs)
 
 -- ---- a loop that writes: of the whole, `done` is written from place `at` on, n of them, and `left` is left
 pub record Progress (whole left : List Noted) (at n : ℕ) (ks₀ ks : List ℕ) (ns₀ ns : List Float) (ss₀ ss : List ℕ) : Type 0 where

@@ -16,7 +16,7 @@ use Rattle.circle.specs.Calls.{pointsRows}
 use Rattle.trial.specs.Deviation.{arcDeviation}
 use Rattle.fitting.specs.declared.fitting.LineDeviation as measured
 use Rattle.fitting.specs.declared.fitting.ArcDeviation as around
-use Rattle.fitting.specs.Pieces.{lineDeviation}
+use Rattle.fitting.specs.Pieces.{pointsRule, lineDeviation}
 use Rattle.fitting.specs.Commands.{fitIn}
 
 -- ---- get_polyline_line_deviation: both indices lie inside the points
@@ -53,7 +53,7 @@ fitRows s tol lo hi kinds numbers =
     ∷ []))
 
 unfoldable pub fitCall : List Float → Float → ℕ → ℕ → ℕ → ℕ → Outcome (List Command)
-fitCall s tol lo hi kinds numbers = unless (refusal (fitRows s tol lo hi kinds numbers)) (fitIn lineSq tol (pointAt s) lo hi)
+fitCall s tol lo hi kinds numbers = unless (refusal (fitRows s tol lo hi kinds numbers)) (fitIn (pointsRule tol) (pointAt s) lo hi)
 
 -- ---- fit_points_with_primitives: all points, from the first to the last. Their last index is inside them, so row 7 refuses none
 abbrev pub primitivesCall : List Float → Float → ℕ → ℕ → Outcome (List Command)

@@ -9,9 +9,9 @@ use Rattle.geo.specs.declared.types.Point3D.{Point3D}
 use Rattle.geo.specs.declared.types.Command.{Command}
 use Rattle.geo.specs.declared.types.Command.the-variants.{Line, Arc}
 use Rattle.geo.specs.Lent.{pointAt, triple, flat}
-use Rattle.simplify.specs.Measure.{Measure, lineSq}
 use Rattle.simplify.specs.Thin.{thinnedPoints}
-use Rattle.fitting.specs.Pieces.{Shape, line, arc, Piece, piecesIn}
+use Rattle.fitting.specs.declared.fitting.Rule.{Rule}
+use Rattle.fitting.specs.Pieces.{distance, Shape, line, arc, Piece, piecesIn}
 
 -- the normal of an arc: (0, 0, −1) clockwise, else (0, 0, 1)
 unfoldable pub normalOf : Bool → Point3D
@@ -27,13 +27,13 @@ unfoldable pub pieceCommand : (ℕ → Point3D) → Piece → Command
 pieceCommand at p = shaped (at (p .from)) (at (p .to)) (p .shape)
 
 -- one command for each piece, in order
-unfoldable pub fitIn : Measure Point3D → Float → (ℕ → Point3D) → ℕ → ℕ → List Command
-fitIn m tol at lo hi = map (pieceCommand at) (piecesIn m tol at lo hi)
+unfoldable pub fitIn : Rule → (ℕ → Point3D) → ℕ → ℕ → List Command
+fitIn r at lo hi = map (pieceCommand at) (piecesIn r at lo hi)
 
 -- what thinning keeps of a chain of points, lent as the triples s
-abbrev pub keptOf : Float → List Float → List Point3D
-keptOf tol s = thinnedPoints lineSq (tol ⊗ tol) (pointAt s) (length s / 3)
+abbrev pub keptOf : Rule → List Float → List Point3D
+keptOf r s = thinnedPoints (distance r) (r .tolerance ⊗ r .tolerance) (pointAt s) (length s / 3)
 
 -- the fit of a chain: what is kept, laid out as triples again, from its first point to its last; nothing where fewer than two are kept
-unfoldable pub chainFit : Float → List Float → List Command
-chainFit tol s = fitIn lineSq tol (pointAt (flat triple (keptOf tol s))) 0 (length (keptOf tol s) - 1)
+unfoldable pub chainFit : Rule → List Float → List Command
+chainFit r s = fitIn r (pointAt (flat triple (keptOf r s))) 0 (length (keptOf r s) - 1)

@@ -1,4 +1,4 @@
--- Demand 3's words about the pieces of a range, as propositions, over any measure m and any points `at`. Definitions only; proofs/Pieces.antt shows that they hold.
+-- Demand 3's words about the pieces of a range, as propositions, over any rule r and any points `at`. Definitions only; proofs/Pieces.antt shows that they hold.
 use Prim.Native.Nat.{ℕ, _+_, _-_, _≤_, _<_}
 use mathlib.Core.Path.{_≡_}
 use mathlib.Core.Bool.{Bool, true, false, _&&_}
@@ -19,8 +19,9 @@ use Rattle.circle.specs.Three.{radiusFrom}
 use Rattle.trial.specs.declared.trial.Trial.the-variants.{Arc, None}
 use Rattle.trial.specs.Trial.{threeTried, leastTried}
 use Rattle.trial.specs.Laws.{ArcPasses}
-use Rattle.simplify.specs.Measure.{Measure, lineSq}
-use Rattle.fitting.specs.Pieces.{lineDeviation, Piece, piecesIn}
+use Rattle.simplify.specs.Measure.{lineSq}
+use Rattle.fitting.specs.declared.fitting.Rule.{Rule}
+use Rattle.fitting.specs.Pieces.{distance, counted, lineDeviation, Piece, piecesIn}
 use Rattle.fitting.specs.Calls.{lineCall, arcCall}
 
 -- The pieces follow one another from lo to hi, each at least one step long: so each step, from i to i + 1, lies in exactly one piece.
@@ -47,12 +48,12 @@ shifted lo w = record { dist = w .dist; index = lo + w .index }
 -- ---- what a piece is written as
 -- "A deviation is the deviation function's over the piece": the Line's is below the tolerance, and so is whatever `get_polyline_line_deviation`, which measures to the
 -- endless line, answers of the piece's own points
-pub record LinePasses (m : Measure Point3D) (tol : Float) (at : ℕ → Point3D) (lo hi : ℕ) : Type 0 where
-  pub deviation : (lineDeviation m at lo hi .dist ≺ tol) ≡ true
-  pub answered : m ≡ lineSq → (w : Deviation) → lineCall (ownPoints at lo hi) 0 (hi - lo) ≡ gives w → (w .dist ≺ tol) ≡ true
+pub record LinePasses (r : Rule) (at : ℕ → Point3D) (lo hi : ℕ) : Type 0 where
+  pub deviation : (lineDeviation (distance r) at lo hi .dist ≺ r .tolerance) ≡ true
+  pub answered : distance r ≡ lineSq → (w : Deviation) → lineCall (ownPoints at lo hi) 0 (hi - lo) ≡ gives w → (w .dist ≺ r .tolerance) ≡ true
 
-abbrev pub LineFails : Measure Point3D → Float → (ℕ → Point3D) → ℕ → ℕ → Type 0
-LineFails m tol at lo hi = (lineDeviation m at lo hi .dist ≺ tol) ≡ false
+abbrev pub LineFails : Rule → (ℕ → Point3D) → ℕ → ℕ → Type 0
+LineFails r at lo hi = (lineDeviation (distance r) at lo hi .dist ≺ r .tolerance) ≡ false
 
 -- The new Arc x of the points from lo to hi, "an Arc's [deviation] with its trial's centre and radius": c is its trial's centre, d says whether it goes clockwise
 pub record NewArc (tol : Float) (at : ℕ → Point3D) (lo hi : ℕ) (c : Point) (d : Bool) (x : command.Command) : Type 0 where
@@ -66,47 +67,47 @@ pub record NewArc (tol : Float) (at : ℕ → Point3D) (lo hi : ℕ) (c : Point)
 
 -- "An uncut range is a piece, written to its last point as a Line if that passes, else as the Arc of the first arc trial that does": x is that command for the points from lo
 -- to hi, the first trial being by three points, the second by least squares
-pub data WrittenAs (m : Measure Point3D) (tol : Float) (at : ℕ → Point3D) (lo hi : ℕ) (x : command.Command) : Type 0 where
-  as-line : LinePasses m tol at lo hi → x ≡ command.the-variants.Line (at hi) → WrittenAs m tol at lo hi x
-  as-first : (c : Point) (d : Bool) → LineFails m tol at lo hi → threeTried at lo hi (lineDeviation m at lo hi .index) tol ≡ Arc c d
-      → NewArc tol at lo hi c d x → WrittenAs m tol at lo hi x
-  as-second : (c : Point) (d : Bool) → LineFails m tol at lo hi → threeTried at lo hi (lineDeviation m at lo hi .index) tol ≡ None
-      → leastTried at lo hi (lineDeviation m at lo hi .index) tol ≡ Arc c d → NewArc tol at lo hi c d x → WrittenAs m tol at lo hi x
+pub data WrittenAs (r : Rule) (at : ℕ → Point3D) (lo hi : ℕ) (x : command.Command) : Type 0 where
+  as-line : LinePasses r at lo hi → x ≡ command.the-variants.Line (at hi) → WrittenAs r at lo hi x
+  as-first : (c : Point) (d : Bool) → LineFails r at lo hi → counted r (threeTried at lo hi (lineDeviation (distance r) at lo hi .index) (r .tolerance)) ≡ Arc c d
+      → NewArc (r .tolerance) at lo hi c d x → WrittenAs r at lo hi x
+  as-second : (c : Point) (d : Bool) → LineFails r at lo hi → counted r (threeTried at lo hi (lineDeviation (distance r) at lo hi .index) (r .tolerance)) ≡ None
+      → counted r (leastTried at lo hi (lineDeviation (distance r) at lo hi .index) (r .tolerance)) ≡ Arc c d → NewArc (r .tolerance) at lo hi c d x → WrittenAs r at lo hi x
 
 -- one command for each piece, in order
-abbrev pub AllWritten : Measure Point3D → Float → (ℕ → Point3D) → List Piece → List command.Command → Type 0
-AllWritten m tol at [] [] = Unit
-AllWritten m tol at [] (x ∷ xs) = ⊥
-AllWritten m tol at (p ∷ ps) [] = ⊥
-AllWritten m tol at (p ∷ ps) (x ∷ xs) = WrittenAs m tol at (p .from) (p .to) x × AllWritten m tol at ps xs
+abbrev pub AllWritten : Rule → (ℕ → Point3D) → List Piece → List command.Command → Type 0
+AllWritten r at [] [] = Unit
+AllWritten r at [] (x ∷ xs) = ⊥
+AllWritten r at (p ∷ ps) [] = ⊥
+AllWritten r at (p ∷ ps) (x ∷ xs) = WrittenAs r at (p .from) (p .to) x × AllWritten r at ps xs
 
 -- ---- the cut rule
--- The Line of a range and both its arc trials fail.
-pub record AllFail (m : Measure Point3D) (tol : Float) (at : ℕ → Point3D) (lo hi : ℕ) : Type 0 where
-  pub line-fails : LineFails m tol at lo hi
-  pub three-fails : threeTried at lo hi (lineDeviation m at lo hi .index) tol ≡ None
-  pub least-fails : leastTried at lo hi (lineDeviation m at lo hi .index) tol ≡ None
+-- The Line of a range and both its arc trials fail, or count as failed.
+pub record AllFail (r : Rule) (at : ℕ → Point3D) (lo hi : ℕ) : Type 0 where
+  pub line-fails : LineFails r at lo hi
+  pub three-fails : counted r (threeTried at lo hi (lineDeviation (distance r) at lo hi .index) (r .tolerance)) ≡ None
+  pub least-fails : counted r (leastTried at lo hi (lineDeviation (distance r) at lo hi .index) (r .tolerance)) ≡ None
 
 -- The range is cut at k, strictly inside: its pieces are those of the two ranges that share k.
-pub record CutThere (m : Measure Point3D) (tol : Float) (at : ℕ → Point3D) (lo k hi : ℕ) : Type 0 where
+pub record CutThere (r : Rule) (at : ℕ → Point3D) (lo k hi : ℕ) : Type 0 where
   pub behind : lo < k
   pub before : k < hi
-  pub pieces : piecesIn m tol at lo hi ≡ piecesIn m tol at lo k ++ piecesIn m tol at k hi
+  pub pieces : piecesIn r at lo hi ≡ piecesIn r at lo k ++ piecesIn r at k hi
 
 -- It is not cut: it has one piece, itself.
-pub record Uncut (m : Measure Point3D) (tol : Float) (at : ℕ → Point3D) (lo hi : ℕ) : Type 0 where
+pub record Uncut (r : Rule) (at : ℕ → Point3D) (lo hi : ℕ) : Type 0 where
   pub piece : Piece
   pub from : piece .from ≡ lo
   pub to : piece .to ≡ hi
-  pub pieces : piecesIn m tol at lo hi ≡ piece ∷ []
+  pub pieces : piecesIn r at lo hi ≡ piece ∷ []
 
 -- ---- what demand 3 says of a range from lo to hi and the commands xs that it gives, sentence by sentence
-pub record RangeFitted (m : Measure Point3D) (tol : Float) (at : ℕ → Point3D) (lo hi : ℕ) (xs : List command.Command) : Type 0 where
+pub record RangeFitted (r : Rule) (at : ℕ → Point3D) (lo hi : ℕ) (xs : List command.Command) : Type 0 where
   -- "in order, one Line or new Arc for each of its pieces", and "a Line's or new Arc's computed deviation over its piece is below the tolerance"
-  pub commands : AllWritten m tol at (piecesIn m tol at lo hi) xs
+  pub commands : AllWritten r at (piecesIn r at lo hi) xs
   -- "each step [...] lies in exactly one piece"; and the pieces follow one another from the first point to the last
-  pub steps : (i : ℕ) → lo ≤ i → i < hi → holding i (piecesIn m tol at lo hi) ≡ 1
-  pub order : Covers lo (piecesIn m tol at lo hi) hi
+  pub steps : (i : ℕ) → lo ≤ i → i < hi → holding i (piecesIn r at lo hi) ≡ 1
+  pub order : Covers lo (piecesIn r at lo hi) hi
   -- "a range is cut exactly when its Line and both arc trials fail", at its Line's first farthest point
-  pub cut : (a b : ℕ) → a < b → AllFail m tol at a b → CutThere m tol at a (lineDeviation m at a b .index) b
-  pub uncut : (a b : ℕ) → a < b → (AllFail m tol at a b → ⊥) → Uncut m tol at a b
+  pub cut : (a b : ℕ) → a < b → AllFail r at a b → CutThere r at a (lineDeviation (distance r) at a b .index) b
+  pub uncut : (a b : ℕ) → a < b → (AllFail r at a b → ⊥) → Uncut r at a b

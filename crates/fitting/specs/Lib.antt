@@ -1,5 +1,6 @@
 pub mod Pieces
 pub mod Commands
 pub mod Written
+pub mod Ranges
 pub mod Laws
 pub mod Calls

@@ -8,7 +8,7 @@ use lib.Ieee.{Float}
 use Rattle.geo.specs.declared.types.Point3D.{Point3D}
 use Rattle.geo.specs.declared.types.Command.{Command}
 use Rattle.geo.specs.Lent.{pointAt, triple, flat, kindOf, numbersOf}
-use Rattle.simplify.specs.Measure.{Measure, lineSq}
+use Rattle.fitting.specs.declared.fitting.Rule.{Rule}
 use Rattle.fitting.specs.Pieces.{Piece, piecesIn}
 use Rattle.fitting.specs.Commands.{pieceCommand, keptOf}
 
@@ -36,11 +36,11 @@ notesOf xs = map (λ (x : Noted). x .steps) xs
 unfoldable pub pieceNoted : (ℕ → Point3D) → Piece → Noted
 pieceNoted at p = noted (pieceCommand at p) (p .to - p .from)
 
-unfoldable pub notedIn : Measure Point3D → Float → (ℕ → Point3D) → ℕ → ℕ → List Noted
-notedIn m tol at lo hi = map (pieceNoted at) (piecesIn m tol at lo hi)
+unfoldable pub notedIn : Rule → (ℕ → Point3D) → ℕ → ℕ → List Noted
+notedIn r at lo hi = map (pieceNoted at) (piecesIn r at lo hi)
 
-unfoldable pub chainNoted : Float → List Float → List Noted
-chainNoted tol s = notedIn lineSq tol (pointAt (flat triple (keptOf tol s))) 0 (length (keptOf tol s) - 1)
+unfoldable pub chainNoted : Rule → List Float → List Noted
+chainNoted r s = notedIn r (pointAt (flat triple (keptOf r s))) 0 (length (keptOf r s) - 1)
 
 -- Written from place `at` on, with the steps in a column of their own, as far as the column reaches (`sets` changes no place that is not there): nobody who lends an empty one
 -- gets any.

@@ -2,6 +2,7 @@
 use circle::circle::Deviation;
 use circle::circle::check_points;
 use floats::root::sqrt;
+use geo::domain::MOST_POINTS;
 use geo::domain::is_centre;
 use geo::domain::is_radius;
 use geo::domain::is_tolerance;
@@ -11,6 +12,7 @@ use geo::types::Answer;
 use geo::types::Command;
 use geo::types::Point;
 use geo::types::Point3D;
+use simplify::simplify::Ruler;
 use simplify::simplify::farthest_between;
 use simplify::simplify::thin_in_place;
 use trial::trial::Trial;
@@ -20,17 +22,50 @@ ghost use mathlib.Core.Path.{_≡_};
 ghost use mathlib.Core.Bool.{true, not, _&&_};
 ghost use mathlib.Core.List.{[], _∷_};
 ghost use Prim.Native.Nat.{_+_, _-_, _*_, _/_, _<_, _≤_};
-ghost use lib.ListN.{length};
+ghost use lib.ListN.{length, set};
 ghost use lib.Dec.{ltb};
 ghost use Rattle.floats.specs.Ops.{_≺_, +0};
 ghost use Rattle.geo.specs.Lent.{pointAt};
 ghost use Rattle.geo.specs.Outcome.{refusal};
 ghost use Rattle.geo.specs.Commands.{WroteCommands};
-ghost use Rattle.simplify.specs.Measure.{lineSq};
-ghost use Rattle.fitting.specs.Pieces.{lineDeviation, arc};
+ghost use Rattle.simplify.specs.Measure.{measureOf};
+ghost use Rattle.fitting.specs.Pieces.{pointsRule, lapsRule, counted, lineDeviation, arc};
 ghost use Rattle.fitting.specs.Commands.{normalOf, shaped};
 ghost use Rattle.fitting.specs.Written.{noted, notedIn, chainNoted, NotedPlaced};
+ghost use Rattle.fitting.specs.Ranges.{nextFrom, Looked};
+ghost use Rattle.trial.specs.Trial.{tryArcs};
 ghost use Rattle.fitting.specs.Calls.{lineRows, lineCall, lineAnswer, arcRows, arcCall, arcAnswer, fitRows, fitCall, primitivesCall};
+
+// By which rule a range is judged: which distance of a point counts, whether arcs are tried, and the tolerance.
+pub struct Rule {
+    pub ruler: Ruler,
+    pub arcs: bool,
+    pub tolerance: f64,
+}
+
+impl Rule {
+    // The rule of the functions that take points.
+    pub fn of_points(tolerance: f64) -> Self
+        ensures { λ r. ⌜ r ≡ pointsRule tolerance ⌝ }
+    {
+        Self {
+            ruler: Ruler::Line,
+            arcs: true,
+            tolerance,
+        }
+    }
+
+    // The rule of a course, and so of a file and of a lap.
+    pub fn of_laps(tolerance: f64) -> Self
+        ensures { λ r. ⌜ r ≡ lapsRule tolerance ⌝ }
+    {
+        Self {
+            ruler: Ruler::Line,
+            arcs: true,
+            tolerance,
+        }
+    }
+}
 
 // What get_polyline_line_deviation answers: the greatest distance and where it first stands.
 pub enum LineDeviation {
@@ -44,12 +79,12 @@ pub enum ArcDeviation {
     Refused(u32),
 }
 
-// The greatest distance of a point from the endless line through the range's ends, and the first point that has it.
-fn line_deviation(points: &[f64], start: usize, end: usize) -> Deviation
+// The greatest distance of a point from the Line between the range's ends, and the first point that has it.
+fn line_deviation(ruler: Ruler, points: &[f64], start: usize, end: usize) -> Deviation
     requires { ⌜ (3 * start + 2 < length (now points)) × (3 * end + 2 < length (now points)) ⌝ }
-    ensures { λ r. ⌜ r ≡ lineDeviation lineSq (pointAt (now (points .entry))) start end ⌝ }
+    ensures { λ r. ⌜ r ≡ lineDeviation (measureOf ruler) (pointAt (now (points .entry))) start end ⌝ }
 {
-    let w = farthest_between(points, start, end);
+    let w = farthest_between(ruler, points, start, end);
     Deviation {
         dist: sqrt(w.square),
         index: w.index,
@@ -107,12 +142,129 @@ pub fn put_noted(
     }
 }
 
-// Writes the commands for the points from start to end, from place `at` on, and answers how many they are. Where neither
-// a Line nor an Arc passes, the range is cut at the Line's first farthest point, which lies strictly inside: a tolerance
-// above 0 lets a Line pass whose deviation is 0.
-pub fn fit_range(
+// A fit of a range on its way: the part that is looked at, from lo to hi; how many ends of parts behind it are waiting; and the
+// place of the next command. The ends stand in an array, so that a cut takes no room on the stack.
+struct Stand {
+    lo: usize,
+    hi: usize,
+    waiting: usize,
+    place: usize,
+}
+
+impl Stand {
+    // Behind a piece: the next part ends where the last of the waiting ends stands.
+    fn next(self, place: usize, ends: &[u16]) -> Self
+        requires { ⌜ self .waiting ≤ length (now ends) ⌝ }
+        ensures { λ r. ⌜ r ≡ nextFrom (now (ends .entry)) (self .hi) place (self .waiting) ⌝ }
+    {
+        if self.waiting == 0 {
+            return Self {
+                lo: self.hi,
+                hi: self.hi,
+                waiting: 0,
+                place,
+            };
+        }
+        let n = self.waiting - 1;
+        Self {
+            lo: self.hi,
+            hi: wide(ends[n]),
+            waiting: n,
+            place,
+        }
+    }
+
+    // A cut at k: its front is looked at first, and its end waits.
+    fn cut(self, k: usize, ends: &mut [u16]) -> Self
+        requires { ⌜ (self .waiting < length (now ends)) × (self .hi < 2048) ⌝ }
+        ensures { λ r. ⌜ (r ≡ record { lo = self .lo; hi = k; waiting = self .waiting + 1; place = self .place }) × (now (ends .exit) ≡ set (now (ends .entry)) (self .waiting) (self .hi)) ⌝ }
+    {
+        let n = self.waiting;
+        ends[n] = self.hi as u16;
+        Self {
+            lo: self.lo,
+            hi: k,
+            waiting: n + 1,
+            place: self.place,
+        }
+    }
+}
+
+fn wide(n: u16) -> usize
+    ensures { λ r. ⌜ r ≡ n ⌝ }
+{
+    n as usize
+}
+
+// The arc of a range whose Line fails, where arcs are tried; k is its Line's first farthest point.
+fn try_rule(rule: Rule, points: &[f64], start: usize, end: usize, k: usize) -> Trial
+    requires { ⌜ (start < end) × (end < 2048) × (start < k) × (k < end) × (3 * end + 2 < length (now points)) ⌝ }
+    ensures { λ r. ⌜ r ≡ counted rule (tryArcs (pointAt (now (points .entry))) start end k (rule .tolerance)) ⌝ }
+{
+    if rule.arcs {
+        return try_arcs(points, start, end, k, rule.tolerance);
+    }
+    Trial::None
+}
+
+// Writes the piece that is looked at as the command c.
+fn put_piece(
+    c: Command,
+    w: Stand,
+    ends: &[u16],
+    kinds: &mut [u8],
+    nums: &mut [f64],
+    steps: &mut [u32],
+) -> Stand
+    requires { ⌜ (w .lo < w .hi) × (w .hi < 2048) × (w .waiting ≤ length (now ends)) × (w .place < length (now kinds)) × (9 * w .place + 8 < length (now nums)) ⌝ }
+    ensures { λ r. ⌜ (r ≡ nextFrom (now (ends .entry)) (w .hi) (w .place + 1) (w .waiting)) × NotedPlaced (noted c (w .hi - w .lo) ∷ []) (w .place) 1 (now (kinds .entry)) (now (kinds .exit)) (now (nums .entry)) (now (nums .exit)) (now (steps .entry)) (now (steps .exit)) ⌝ }
+{
+    let covered = (w.hi - w.lo) as u32;
+    put_noted(kinds, nums, steps, w.place, c, covered);
+    w.next(w.place + 1, ends)
+}
+
+// Looks at one part: writes it as a Line or an Arc where one passes, else cuts it at the Line's first farthest point, which lies
+// strictly inside: a tolerance above 0 lets a Line pass whose deviation is 0.
+fn fit_next(
+    rule: Rule,
     points: &[f64],
-    tolerance: f64,
+    w: Stand,
+    ends: &mut [u16],
+    kinds: &mut [u8],
+    nums: &mut [f64],
+    steps: &mut [u32],
+) -> Stand
+    requires { ⌜ ((+0 ≺ rule .tolerance) ≡ true) × ((w .lo < w .hi) × (w .hi < 2048) × (3 * w .hi + 2 < length (now points)) × (w .waiting < length (now ends)) × (w .place < length (now kinds)) × (9 * w .place + 8 < length (now nums))) ⌝ }
+    ensures { λ r. ⌜ Looked rule (pointAt (now (points .entry))) w r (now (ends .entry)) (now (ends .exit)) (now (kinds .entry)) (now (kinds .exit)) (now (nums .entry)) (now (nums .exit)) (now (steps .entry)) (now (steps .exit)) ⌝ }
+{
+    let ruler = rule.ruler;
+    let d = line_deviation(ruler, points, w.lo, w.hi);
+    let b = point_at(points, w.hi);
+    if d.dist < rule.tolerance {
+        return put_piece(Command::Line { end: b }, w, ends, kinds, nums, steps);
+    }
+    let t = try_rule(rule, points, w.lo, w.hi, d.index);
+    match t {
+        Trial::Arc { center, clockwise } => {
+            let a = point_at(points, w.lo);
+            put_piece(
+                arc_command(a, b, center, clockwise),
+                w,
+                ends,
+                kinds,
+                nums,
+                steps,
+            )
+        }
+        Trial::None => w.cut(d.index, ends),
+    }
+}
+
+// Writes the commands for the points from start to end, from place `at` on, and answers how many they are.
+pub fn fit_range(
+    rule: Rule,
+    points: &[f64],
     start: usize,
     end: usize,
     kinds: &mut [u8],
@@ -120,52 +272,42 @@ pub fn fit_range(
     steps: &mut [u32],
     at: usize,
 ) -> usize
-    requires { ⌜ ((+0 ≺ tolerance) ≡ true) × ((start < end) × (end < 2048) × (3 * end + 2 < length (now points)) × (at + (end - start) ≤ length (now kinds)) × (9 * (at + (end - start)) ≤ length (now nums))) ⌝ }
-    ensures { λ r. ⌜ NotedPlaced (notedIn lineSq tolerance (pointAt (now (points .entry))) start end) at r (now (kinds .entry)) (now (kinds .exit)) (now (nums .entry)) (now (nums .exit)) (now (steps .entry)) (now (steps .exit)) ⌝ }
+    requires { ⌜ ((+0 ≺ rule .tolerance) ≡ true) × ((start < end) × (end < 2048) × (3 * end + 2 < length (now points)) × (at + (end - start) ≤ length (now kinds)) × (9 * (at + (end - start)) ≤ length (now nums))) ⌝ }
+    ensures { λ r. ⌜ NotedPlaced (notedIn rule (pointAt (now (points .entry))) start end) at r (now (kinds .entry)) (now (kinds .exit)) (now (nums .entry)) (now (nums .exit)) (now (steps .entry)) (now (steps .exit)) ⌝ }
 {
-    let w = line_deviation(points, start, end);
-    let b = point_at(points, end);
-    let covered = (end - start) as u32;
-    if w.dist < tolerance {
-        put_noted(kinds, nums, steps, at, Command::Line { end: b }, covered);
-        return 1;
+    let mut ends = [0u16; MOST_POINTS];
+    let mut w = Stand {
+        lo: start,
+        hi: end,
+        waiting: 0,
+        place: at,
+    };
+    while w.lo < end {
+        w = fit_next(rule, points, w, &mut ends, kinds, nums, steps);
     }
-    let split = w.index;
-    let t = try_arcs(points, start, end, split, tolerance);
-    match t {
-        Trial::Arc { center, clockwise } => {
-            let a = point_at(points, start);
-            let c = arc_command(a, b, center, clockwise);
-            put_noted(kinds, nums, steps, at, c, covered);
-            1
-        }
-        Trial::None => {
-            let n = fit_range(points, tolerance, start, split, kinds, nums, steps, at);
-            let m = fit_range(points, tolerance, split, end, kinds, nums, steps, at + n);
-            n + m
-        }
-    }
+    w.place - at
 }
 
 // Fits a chain: it is thinned in place, and what is kept is fitted. A course of at most 800 commands has no longer chain than 801 points.
 pub fn flush_chain(
+    rule: Rule,
     chain: &mut [f64],
-    tolerance: f64,
     kinds: &mut [u8],
     nums: &mut [f64],
     steps: &mut [u32],
     at: usize,
 ) -> usize
-    requires { ⌜ ((+0 ≺ tolerance) ≡ true) × ((length (now chain) / 3 ≤ 801) × (at + (length (now chain) / 3 - 1) ≤ length (now kinds)) × (9 * (at + (length (now chain) / 3 - 1)) ≤ length (now nums))) ⌝ }
+    requires { ⌜ ((+0 ≺ rule .tolerance) ≡ true) × ((length (now chain) / 3 ≤ 801) × (at + (length (now chain) / 3 - 1) ≤ length (now kinds)) × (9 * (at + (length (now chain) / 3 - 1)) ≤ length (now nums))) ⌝ }
     // The chain is lent as room to work in: what it holds at exit is left open.
-    ensures { λ r. ⌜ NotedPlaced (chainNoted tolerance (now (chain .entry))) at r (now (kinds .entry)) (now (kinds .exit)) (now (nums .entry)) (now (nums .exit)) (now (steps .entry)) (now (steps .exit)) ⌝ }
+    ensures { λ r. ⌜ NotedPlaced (chainNoted rule (now (chain .entry))) at r (now (kinds .entry)) (now (kinds .exit)) (now (nums .entry)) (now (nums .exit)) (now (steps .entry)) (now (steps .exit)) ⌝ }
 {
     let n = chain.len() / 3;
     if n < 2 {
         return 0;
     }
-    let k = thin_in_place(chain, n, tolerance * tolerance);
-    fit_range(&chain[..3 * k], tolerance, 0, k - 1, kinds, nums, steps, at)
+    let ruler = rule.ruler;
+    let k = thin_in_place(ruler, chain, n, rule.tolerance * rule.tolerance);
+    fit_range(rule, &chain[..3 * k], 0, k - 1, kinds, nums, steps, at)
 }
 
 // The number of the first row that a line's deviation falls under, or 0.
@@ -194,7 +336,7 @@ pub fn get_polyline_line_deviation(points: &[f64], start: usize, end: usize) -> 
     if refused != 0 {
         return LineDeviation::Refused(refused);
     }
-    LineDeviation::Is(line_deviation(points, start, end))
+    LineDeviation::Is(line_deviation(Ruler::Line, points, start, end))
 }
 
 // The number of the first row that an arc's deviation falls under, or 0.
@@ -304,7 +446,8 @@ pub fn fit_points_recursive(
     if end <= start {
         return Answer::Written(0);
     }
-    Answer::Written(fit_range(points, tolerance, start, end, kinds, nums, &mut [], 0))
+    let rule = Rule::of_points(tolerance);
+    Answer::Written(fit_range(rule, points, start, end, kinds, nums, &mut [], 0))
 }
 
 // Fits primitives to all points.

@@ -13,6 +13,7 @@ use Rattle.geo.specs.Lent.{flat, kindOf, numbersOf, commandsFrom}
 use Rattle.file.specs.Command.{commandsAt, decoded, enc}
 use Rattle.file.proofs.Lent.{back-part, back-front}
 use Rattle.fitting.specs.Written.{FitPlaced}
+use Rattle.fitting.specs.Pieces.{lapsRule}
 use Rattle.course.specs.Course.{courseFit, courseMost, lentCourse}
 use Rattle.course.proofs.Accepted.{course-few}
 use Rattle.laps.specs.File.{Lap, body, PutLap}
@@ -38,7 +39,7 @@ module _ (s : List ℕ) (at n : ℕ) (ks₀ ks : List ℕ) (ns₀ ns : List Floa
 
     pub fit-read : fitNew tol (take n ks) (take (9 * n) ns) ≡ fitLap tol (commandsAt s at n)
     unfolding fitNew fitLap
-    fit-read = ap (λ (cs : List Command). map enc (courseFit tol cs)) read-back
+    fit-read = ap (λ (cs : List Command). map enc (courseFit (lapsRule tol) cs)) read-back
 
 -- ---- a fit in two arrays, written as a lap
 body-enc : (cs : List Command) → body (map enc cs) ≡ flat enc cs
@@ -47,24 +48,24 @@ body-enc [] = refl
 body-enc (c ∷ cs) = ap (λ (l : List ℕ). enc c ++ l) (body-enc cs)
 
 module _ (tol : Float) (pos : (+0 ≺ tol) ≡ true) (ks : List ℕ) (ns : List Float) (few : courseMost tol (lentCourse ks ns) ≤ 800) (n : ℕ) (fk₀ fk : List ℕ) (fn₀ fn : List Float)
-    (p : FitPlaced (courseFit tol (lentCourse ks ns)) 0 n fk₀ fk fn₀ fn) (h : 800 ≤ length fk₀) (k : 7200 ≤ length fn₀) where
+    (p : FitPlaced (courseFit (lapsRule tol) (lentCourse ks ns)) 0 n fk₀ fk fn₀ fn) (h : 800 ≤ length fk₀) (k : 7200 ≤ length fn₀) where
   counted : n ≤ 800
-  counted = let a = course-few tol pos (lentCourse ks ns) in let b = p .count in omega arith
+  counted = let a = course-few (lapsRule tol) pos (lentCourse ks ns) in let b = p .count in omega arith
 
   pub fits-kinds : n ≤ length fk
-  fits-kinds = let a = counted in let l = ap length (p .kinds) ∙ length-sets fk₀ 0 (map kindOf (courseFit tol (lentCourse ks ns))) in omega arith
+  fits-kinds = let a = counted in let l = ap length (p .kinds) ∙ length-sets fk₀ 0 (map kindOf (courseFit (lapsRule tol) (lentCourse ks ns))) in omega arith
 
   pub fits-numbers : 9 * n ≤ length fn
-  fits-numbers = let a = counted in let l = ap length (p .numbers) ∙ length-sets fn₀ 0 (flat numbersOf (courseFit tol (lentCourse ks ns))) in omega arith
+  fits-numbers = let a = counted in let l = ap length (p .numbers) ∙ length-sets fn₀ 0 (flat numbersOf (courseFit (lapsRule tol) (lentCourse ks ns))) in omega arith
 
   pub counted-new : length (fitNew tol ks ns) ≡ n
   unfolding fitNew
-  counted-new = length-map (courseFit tol (lentCourse ks ns)) enc ∙ sym (p .count)
+  counted-new = length-map (courseFit (lapsRule tol) (lentCourse ks ns)) enc ∙ sym (p .count)
 
   pub put-fit : (out out′ : List ℕ) (to : ℕ) → out′ ≡ sets out to (flat enc (commandsFrom fk fn n 0)) → PutLap (fitNew tol ks ns) out out′ to n
   unfolding fitNew
   put-fit out out′ to o =
-      let cs : List Command = courseFit tol (lentCourse ks ns) in
+      let cs : List Command = courseFit (lapsRule tol) (lentCourse ks ns) in
       let a = counted in
       let b : n ≡ length cs = p .count in
       let c : commandsFrom fk fn n 0 ≡ cs = ap (λ (m : ℕ). commandsFrom fk fn m 0) b ∙ back-front cs fk₀ fk fn₀ fn (omega arith) (omega arith) (p .kinds) (p .numbers) in

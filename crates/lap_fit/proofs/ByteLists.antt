@@ -9,6 +9,7 @@ use Rattle.geo.specs.declared.types.Command.the-variants.{Move, Line, Arc, Bezi
 use Rattle.geo.specs.Lent.{flat, kindOf, numbersOf}
 use Rattle.file.specs.Bytes.{u32Bytes, f64Bytes}
 use Rattle.file.specs.Command.{decoded, enc}
+use Rattle.fitting.specs.Pieces.{lapsRule}
 use Rattle.course.specs.Course.{courseFit}
 use Rattle.laps.specs.File.{Lap, body, bodies, table, mark, encode, Bytes}
 use Rattle.lap_fit.specs.Fit.{fitLap}
@@ -62,7 +63,7 @@ lap (c ∷ cs) = both (enc c) (body (map enc cs)) (command c) (lap cs)
 laps : (tol : Float) (ls : List Lap) → Bytes (bodies (map (fitLap tol) ls))
 unfolding bodies fitLap
 laps tol [] = none
-laps tol (l ∷ ls) = both (body (fitLap tol l)) (bodies (map (fitLap tol) ls)) (lap (courseFit tol (map decoded l))) (laps tol ls)
+laps tol (l ∷ ls) = both (body (fitLap tol l)) (bodies (map (fitLap tol) ls)) (lap (courseFit (lapsRule tol) (map decoded l))) (laps tol ls)
 
 entries : (at : ℕ) (ls : List Lap) → Bytes (table at ls)
 unfolding table

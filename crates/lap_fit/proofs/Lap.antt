@@ -15,6 +15,7 @@ use Rattle.geo.specs.declared.types.Command.{Command}
 use Rattle.geo.specs.declared.types.Command.the-variants.{Move}
 use Rattle.geo.specs.Lent.{origin, endOf, commandOf}
 use Rattle.file.specs.Command.{commandsAt, decoded, enc, pointFrom}
+use Rattle.fitting.specs.Pieces.{lapsRule}
 use Rattle.course.specs.Course.{joined, courseFit, courseMost, lentCourse}
 use Rattle.course.specs.Walks.{weightOf, weightsFrom}
 use Rattle.course.proofs.Accepted.{course-few, course-some}
@@ -28,11 +29,11 @@ use Rattle.lap_fit.specs.Fit.{fitLap, mostLap, lapsMost, fitNew}
 module _ (tol : Float) (pos : (+0 ≺ tol) ≡ true) where
   pub fit-most : (l : Lap) → length (fitLap tol l) ≤ mostLap tol l
   unfolding fitLap mostLap
-  fit-most l = rw (length-map (courseFit tol (map decoded l)) enc) (course-few tol pos (map decoded l))
+  fit-most l = rw (length-map (courseFit (lapsRule tol) (map decoded l)) enc) (course-few (lapsRule tol) pos (map decoded l))
 
   pub new-most : (ks : List ℕ) (ns : List Float) → length (fitNew tol ks ns) ≤ courseMost tol (lentCourse ks ns)
   unfolding fitNew
-  new-most ks ns = rw (length-map (courseFit tol (lentCourse ks ns)) enc) (course-few tol pos (lentCourse ks ns))
+  new-most ks ns = rw (length-map (courseFit (lapsRule tol) (lentCourse ks ns)) enc) (course-few (lapsRule tol) pos (lentCourse ks ns))
 
 -- and something where the lap starts with a Move, as row 4 asks
 starts-with-move : (c : List ℕ) → formOk true c ≡ true → decoded c ≡ Move (pointFrom c 1)
@@ -45,13 +46,13 @@ fit-some tol [] h e = absurd (omega arith)
 fit-some tol (c ∷ l) h e =
     let a = cond-false (formOk true c) _ e in
     let m = starts-with-move c (a .0) in
-    let s = course-some tol (pointFrom c 1) (map decoded l) in
-    rw (length-map (courseFit tol (map decoded (c ∷ l))) enc, m) (omega arith)
+    let s = course-some (lapsRule tol) (pointFrom c 1) (map decoded l) in
+    rw (length-map (courseFit (lapsRule tol) (map decoded (c ∷ l))) enc, m) (omega arith)
 
 -- each command of a fit has 73 bytes
 pub whole-fit : (tol : Float) (l : Lap) → EachFull (fitLap tol l)
 unfolding fitLap
-whole-fit tol l = whole-enc (courseFit tol (map decoded l))
+whole-fit tol l = whole-enc (courseFit (lapsRule tol) (map decoded l))
 
 pub wholes-fit : (tol : Float) (ls : List Lap) → AllFull (map (fitLap tol) ls)
 wholes-fit tol [] = tt
@@ -59,7 +60,7 @@ wholes-fit tol (l ∷ ls) = (whole-fit tol l, wholes-fit tol ls)
 
 pub whole-new : (tol : Float) (ks : List ℕ) (ns : List Float) → EachFull (fitNew tol ks ns)
 unfolding fitNew
-whole-new tol ks ns = whole-enc (courseFit tol (lentCourse ks ns))
+whole-new tol ks ns = whole-enc (courseFit (lapsRule tol) (lentCourse ks ns))
 
 -- ---- the laps of a file, one by one
 pub mosts-step : (tol : Float) (s : List ℕ) (j at l n : ℕ) → j < l → n ≡ countAt s j

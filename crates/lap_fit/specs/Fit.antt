@@ -6,13 +6,14 @@ use lib.Ieee.{Float}
 use Rattle.geo.specs.Domain.{tolerance}
 use Rattle.geo.specs.Outcome.{Row, row, refusal, Outcome, unless}
 use Rattle.file.specs.Command.{decoded, enc}
+use Rattle.fitting.specs.Pieces.{lapsRule}
 use Rattle.course.specs.Course.{courseFit, courseMost, lentCourse}
 use Rattle.laps.specs.File.{Lap, lapCount, lapsOf, encode}
 use Rattle.laps.specs.Rows.{fileRows, sizeRows}
 
 -- "The fit of a file is `fit_arcs` of each lap under a new table"
 unfoldable pub fitLap : Float → Lap → Lap
-fitLap tol l = map enc (courseFit tol (map decoded l))
+fitLap tol l = map enc (courseFit (lapsRule tol) (map decoded l))
 
 -- "for a course, its Moves and Arcs plus that of each chain, Bezier steps counted"; of a file, all laps of it
 unfoldable pub mostLap : Float → Lap → ℕ
@@ -24,7 +25,7 @@ lapsMost tol (l ∷ ls) = mostLap tol l + lapsMost tol ls
 
 -- the fit of commands that are lent as the kinds ks and the numbers ns
 unfoldable pub fitNew : Float → List ℕ → List Float → Lap
-fitNew tol ks ns = map enc (courseFit tol (lentCourse ks ns))
+fitNew tol ks ns = map enc (courseFit (lapsRule tol) (lentCourse ks ns))
 
 -- ---- the fit of the file s into an output of `room` bytes
 unfoldable pub fileFitRows : List ℕ → Float → ℕ → List Row

@@ -7,6 +7,7 @@ use file::command::COMMAND_BYTES;
 use file::command::read_command;
 use file::command::read_commands;
 use file::command::write_commands;
+use fitting::fitting::Rule;
 use geo::domain::is_tolerance;
 use geo::types::Answer;
 use geo::types::Point3D;
@@ -80,7 +81,8 @@ fn fit_lent(
     requires { ⌜ ((+0 ≺ tolerance) ≡ true) × (9 * length (now kinds) ≤ length (now nums)) × (courseMost tolerance (lentCourse (now kinds) (now nums)) ≤ 800) × (to + 73 * length (fitNew tolerance (now kinds) (now nums)) ≤ length (now out)) × (length (now «out_kinds») ≡ 800) × (length (now «out_nums») ≡ 7200) × (length (now chain) ≡ 2403) ⌝ }
     ensures { λ r. ⌜ PutLap (fitNew tolerance (now (kinds .entry)) (now (nums .entry))) (now (out .entry)) (now (out .exit)) to r ⌝ }
 {
-    let n = fit_course(kinds, nums, tolerance, chain, out_kinds, out_nums);
+    let rule = Rule::of_laps(tolerance);
+    let n = fit_course(kinds, nums, rule, chain, out_kinds, out_nums);
     write_commands(out_kinds, out_nums, n, out, to);
     n
 }

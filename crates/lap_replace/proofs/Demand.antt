@@ -17,6 +17,7 @@ use Rattle.geo.proofs.Rows.{unless-gives}
 use Rattle.geo.proofs.Tolerance.{tolerance-positive}
 use Rattle.file.specs.Command.{decoded, enc, lentLap}
 use Rattle.file.proofs.Lent.{lent-commands, lent-length}
+use Rattle.fitting.specs.Pieces.{lapsRule}
 use Rattle.course.specs.Course.{courseFit}
 use Rattle.course.proofs.Demand.{course-gives}
 use Rattle.laps.proofs.Canonical as form
@@ -56,7 +57,7 @@ getD-map f [] i h = absurd (omega arith)
 getD-map f (l ∷ ls) zero h = refl
 getD-map f (l ∷ ls) (suc i) h = getD-map f ls i (omega arith)
 
-lap-fitted : (s f : List ℕ) (tol : Float) → Fitted s tol f → (j : ℕ) → 1 ≤ j → j ≤ lapCount s → lapAt f j ≡ map enc (courseFit tol (map decoded (lapAt s j)))
+lap-fitted : (s f : List ℕ) (tol : Float) → Fitted s tol f → (j : ℕ) → 1 ≤ j → j ≤ lapCount s → lapAt f j ≡ map enc (courseFit (lapsRule tol) (map decoded (lapAt s j)))
 unfolding lapAt fitLap
 lap-fitted s f tol q j a b =
     let n = length-laps-of s in
@@ -74,9 +75,9 @@ each-lap-gives s f tol room e =
     let pos = tolerance-positive tol (a .passed .within) in (
       q .count,
       λ j g h. record {
-        commands = courseFit tol (map decoded (lapAt s j));
+        commands = courseFit (lapsRule tol) (map decoded (lapAt s j));
         bytes = lap-fitted s f tol q j g h;
-        parts = course-gives tol pos (map decoded (lapAt s j));
+        parts = course-gives (lapsRule tol) pos (map decoded (lapAt s j));
       },
     )
 

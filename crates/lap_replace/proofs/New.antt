@@ -16,6 +16,7 @@ use Rattle.geo.specs.Domain.{everyFrom, formed, commandsFormed, commandIn, comm
 use Rattle.geo.proofs.Walk.{list-length}
 use Rattle.file.specs.Command.{decoded, wellFormed, laid, enc, lentBytes, lentLap, Held, HeldPoint}
 use Rattle.file.proofs.RoundTrip.{decoded-laid, formed-laid}
+use Rattle.fitting.specs.Pieces.{lapsRule}
 use Rattle.course.specs.Course.{courseFit, courseMost, lentCourse}
 use Rattle.laps.specs.File.{placed, formOk, domainOk, lapOk}
 use Rattle.laps.proofs.Here.{cond-false}
@@ -59,7 +60,7 @@ module _ (ks : List ℕ) (ns : List Float) (held : Held ns) where
 
   pub lent-fit : (tol : Float) → fitLap tol (lentLap ks ns) ≡ fitNew tol ks ns
   unfolding fitLap fitNew
-  lent-fit tol = ap (λ (cs : List Command). map enc (courseFit tol cs)) lent-course
+  lent-fit tol = ap (λ (cs : List Command). map enc (courseFit (lapsRule tol) cs)) lent-course
 
   -- ---- row 4
   every-more : (ok : ℕ → Bool) (n i : ℕ) → ok i ≡ true → everyFrom ok n (i + 1) ≡ true → everyFrom ok (suc n) i ≡ true

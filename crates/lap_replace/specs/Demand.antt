@@ -5,12 +5,12 @@ use mathlib.Core.Path.{_≡_}
 use mathlib.Core.List.{List, [], map}
 use lib.ListN.{length, getD, take}
 use lib.Ieee.{Float}
-use Rattle.geo.specs.declared.types.Point3D.{Point3D}
 use Rattle.geo.specs.declared.types.Command.{Command}
 use Rattle.geo.specs.Outcome.{gives}
 use Rattle.geo.specs.Lent.{flat, kindOf, numbersOf}
-use Rattle.simplify.specs.Measure.{Measure, lineSq}
+use Rattle.fitting.specs.declared.fitting.Rule.{Rule}
 use Rattle.file.specs.Command.{decoded, enc, lentLap, Held}
+use Rattle.fitting.specs.Pieces.{lapsRule}
 use Rattle.course.specs.Course.{courseParts, courseFit}
 use Rattle.course.specs.Demand.{PartsGive}
 use Rattle.laps.specs.File.{Lap, lapCount, lapsOf, mark, encode, tableOk, Bytes, AllFull, commandCount}
@@ -44,21 +44,21 @@ OneCourse =
 abbrev pub LapsAreFitted : Type 0
 LapsAreFitted =
     (s f : List ℕ) (tol : Float) (room : ℕ) → fitFile s tol room ≡ gives f
-    → (lapCount f ≡ lapCount s) × ((j : ℕ) → 1 ≤ j → j ≤ lapCount s → lapAt f j ≡ map enc (courseFit tol (map decoded (lapAt s j))))
+    → (lapCount f ≡ lapCount s) × ((j : ℕ) → 1 ≤ j → j ≤ lapCount s → lapAt f j ≡ map enc (courseFit (lapsRule tol) (map decoded (lapAt s j))))
 
 -- "and in it each chain gives, in order, one Line or new Arc for each of its pieces; each step of each thinned chain lies in exactly one piece; a Line's or new Arc's
 -- computed deviation over its piece is below the tolerance; each thinned-out point is, as computed, within it of the line through its kept neighbours; and a range is cut
 -- exactly when its Line and both arc trials fail": a fitted lap is the bytes of commands which are, in order, the recorded lap's kept commands and what each of its chains
 -- gives, as `ChainFitted` of `course/specs/Demand.antt` says sentence by sentence
-pub record LapGives (m : Measure Point3D) (tol : Float) (recorded fitted : Lap) : Type 0 where
+pub record LapGives (r : Rule) (recorded fitted : Lap) : Type 0 where
   pub commands : List Command
   pub bytes : fitted ≡ map enc commands
-  pub parts : PartsGive m tol (courseParts tol (map decoded recorded)) commands
+  pub parts : PartsGive r (courseParts (r .tolerance) (map decoded recorded)) commands
 
 abbrev pub EachLapGives : Type 0
 EachLapGives =
     (s f : List ℕ) (tol : Float) (room : ℕ) → fitFile s tol room ≡ gives f
-    → (lapCount f ≡ lapCount s) × ((j : ℕ) → 1 ≤ j → j ≤ lapCount s → LapGives lineSq tol (lapAt s j) (lapAt f j))
+    → (lapCount f ≡ lapCount s) × ((j : ℕ) → 1 ≤ j → j ≤ lapCount s → LapGives (lapsRule tol) (lapAt s j) (lapAt f j))
 
 -- an accepted fit is a lap file: bytes within document 01's limits, with the mark and a right table
 pub record IsLapFile (f : List ℕ) : Type 0 where

@@ -15,6 +15,7 @@ use Rattle.geo.specs.Lent.{kindOf}
 use Rattle.geo.proofs.Rows.{refusal-front, unless-gives}
 use Rattle.geo.proofs.Tolerance.{tolerance-positive}
 use Rattle.file.specs.Command.{decoded, enc}
+use Rattle.fitting.specs.Pieces.{lapsRule}
 use Rattle.course.specs.Course.{courseFit}
 use Rattle.listing.specs.Rows.{chainRows, partRows, rowsOf, courseRows}
 use Rattle.listing.proofs.Laws.{course-kinds, course-steps}
@@ -126,7 +127,7 @@ unfolding lapRows
 kinds-of-the-fit s f tol room e k a b =
     let cs = map decoded (lapAt s k) in
     let l = laps-are-fitted s f tol room e .1 k a b in
-    course-kinds tol cs ∙ sym (ap (map kindByte) l ∙ kind-bytes (courseFit tol cs))
+    course-kinds (lapsRule tol) cs ∙ sym (ap (map kindByte) l ∙ kind-bytes (courseFit (lapsRule tol) cs))
 
 -- ---- steps
 -- They are those of the lap's parts in order,
@@ -142,4 +143,4 @@ rows-of-a-chain tol points = refl
 -- The steps that they give are, together, the steps of the lap's thinned chains.
 pub steps-of-the-chains : StepsOfTheChains
 unfolding lapRows
-steps-of-the-chains s f tol room e k a b = course-steps tol (tolerance-positive tol (accepted s tol room f e .passed .within)) (map decoded (lapAt s k))
+steps-of-the-chains s f tol room e k a b = course-steps (lapsRule tol) (tolerance-positive tol (accepted s tol room f e .passed .within)) (map decoded (lapAt s k))

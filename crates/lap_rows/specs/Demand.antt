@@ -7,6 +7,7 @@ use lib.Ieee.{Float}
 use Rattle.geo.specs.Outcome.{refusal, gives}
 use Rattle.geo.specs.Lent.{flat}
 use Rattle.file.specs.Command.{decoded}
+use Rattle.fitting.specs.Pieces.{lapsRule}
 use Rattle.course.specs.Parts.{chain}
 use Rattle.course.specs.Course.{courseParts}
 use Rattle.course.specs.Demand.{chainPieces}
@@ -55,13 +56,13 @@ KindsOfTheFit =
 
 -- They are those of the lap's parts in order: of a chain one row for each piece of its fit, with the piece's steps; of a command that is kept one row with no step.
 abbrev pub RowsOfTheParts : Type 0
-RowsOfTheParts = (s : List ℕ) (tol : Float) (k : ℕ) → lapRows tol (lapAt s k) ≡ flat (partRows tol) (courseParts tol (map decoded (lapAt s k)))
+RowsOfTheParts = (s : List ℕ) (tol : Float) (k : ℕ) → lapRows tol (lapAt s k) ≡ flat (partRows (lapsRule tol)) (courseParts tol (map decoded (lapAt s k)))
 
 abbrev pub RowsOfAChain : Type 0
-RowsOfAChain = (tol : Float) (points : List Float) → partRows tol (chain points) ≡ map pieceRow (chainPieces tol points)
+RowsOfAChain = (tol : Float) (points : List Float) → partRows (lapsRule tol) (chain points) ≡ map pieceRow (chainPieces (lapsRule tol) points)
 
 -- The steps that they give are, together, the steps of the lap's thinned chains.
 abbrev pub StepsOfTheChains : Type 0
 StepsOfTheChains =
     (s f : List ℕ) (tol : Float) (room : ℕ) → fitFile s tol room ≡ gives f
-    → (k : ℕ) → 1 ≤ k → k ≤ lapCount s → sumOf (stepsIn (lapRows tol (lapAt s k))) ≡ chainsSteps tol (courseParts tol (map decoded (lapAt s k)))
+    → (k : ℕ) → 1 ≤ k → k ≤ lapCount s → sumOf (stepsIn (lapRows tol (lapAt s k))) ≡ chainsSteps (lapsRule tol) (courseParts tol (map decoded (lapAt s k)))

@@ -14,6 +14,7 @@ use Rattle.geo.specs.Outcome.{Row, row, refusal, Outcome, unless}
 use Rattle.geo.specs.Walk.{listFrom}
 use Rattle.file.specs.Command.{decoded}
 use Rattle.listing.specs.Rows.{ListRow, letterOf, courseRows}
+use Rattle.fitting.specs.Pieces.{lapsRule}
 use Rattle.laps.specs.File.{Lap, lapsOf}
 use Rattle.laps.specs.Rows.{fileRows}
 use Rattle.lap_fit.specs.Fit.{lapsMost}
@@ -47,7 +48,7 @@ rowsText lap rs = flat (rowText lap) rs
 
 -- whose rows are those of its commands
 unfoldable pub lapRows : Float → Lap → List ListRow
-lapRows tol l = courseRows tol (map decoded l)
+lapRows tol l = courseRows (lapsRule tol) (map decoded l)
 
 unfoldable pub lapText : Float → ℕ → Lap → List ℕ
 lapText tol lap l = rowsText lap (lapRows tol l)

@@ -3,6 +3,7 @@ use course::course::Walk;
 use course::course::fit_course_with_steps;
 use file::command::COMMAND_BYTES;
 use file::command::read_commands;
+use fitting::fitting::Rule;
 use geo::domain::is_tolerance;
 use geo::types::Answer;
 use lap_fit::fit::most_of;
@@ -102,10 +103,11 @@ fn list_commands(
 {
     read_commands(s, at, n, kinds, nums);
     let m = 9 * n;
+    let rule = Rule::of_laps(tolerance);
     fit_course_with_steps(
         &kinds[..n],
         &nums[..m],
-        tolerance,
+        rule,
         chain,
         out_kinds,
         out_nums,

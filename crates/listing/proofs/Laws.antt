@@ -15,7 +15,7 @@ use Rattle.geo.specs.declared.types.Command.{Command}
 use Rattle.geo.specs.declared.types.Command.the-variants.{Move, Line, Arc, Bezier}
 use Rattle.geo.specs.Lent.{triple, flat, origin, endOf, kindOf}
 use Rattle.geo.proofs.Flat.{flat-append, flat-one}
-use Rattle.simplify.specs.Measure.{lineSq}
+use Rattle.fitting.specs.declared.fitting.Rule.{Rule}
 use Rattle.fitting.specs.Pieces.{Shape, line, arc, Piece, piecesBy}
 use Rattle.fitting.specs.Commands.{shaped, pieceCommand, fitIn, keptOf, chainFit}
 use Rattle.fitting.specs.Laws.{Covers}
@@ -30,19 +30,19 @@ use Rattle.listing.specs.Rows.{ListRow, keptRow, shapeKind, letterOf, pi
 use Rattle.listing.proofs.Columns.{kinds-append, steps-append, kinds-length}
 
 -- ---- rows of parts: one list of them behind another, one chain alone, and a chain with no step, which has no row
-rows-append : (tol : Float) (xs ys : List Part) → rowsOf tol (xs ++ ys) ≡ rowsOf tol xs ++ rowsOf tol ys
+rows-append : (rule : Rule) (xs ys : List Part) → rowsOf rule (xs ++ ys) ≡ rowsOf rule xs ++ rowsOf rule ys
 unfolding rowsOf
-rows-append tol xs ys = flat-append (partRows tol) xs ys
+rows-append rule xs ys = flat-append (partRows rule) xs ys
 
-rows-chain : (tol : Float) (s : List Float) → rowsOf tol (chain s ∷ []) ≡ chainRows tol s
+rows-chain : (rule : Rule) (s : List Float) → rowsOf rule (chain s ∷ []) ≡ chainRows rule s
 unfolding rowsOf partRows
-rows-chain tol s = flat-one (partRows tol) (chain s)
+rows-chain rule s = flat-one (partRows rule) (chain s)
 
-no-rows : (tol : Float) (s : List Float) → length s / 3 < 2 → chainRows tol s ≡ []
+no-rows : (rule : Rule) (s : List Float) → length s / 3 < 2 → chainRows rule s ≡ []
 unfolding chainRows piecesBy
-no-rows tol s h =
-    let f = kept-few tol s in
-    let d : length (keptOf tol s) - 1 ≡ 0 = omega arith in rw d
+no-rows rule s h =
+    let f = kept-few rule s in
+    let d : length (keptOf rule s) - 1 ≡ 0 = omega arith in rw d
 
 -- ---- kinds
 shape-kind : (a b : Point3D) (s : Shape) → shapeKind s ≡ kindOf (shaped a b s)
@@ -57,26 +57,26 @@ pieces-kinds at (p ∷ ps) =
     ap (λ (k : ℕ). k ∷ kindsOf (map pieceRow ps)) (shape-kind (at (p .from)) (at (p .to)) (p .shape)) ∙ ap (λ (l : List ℕ). kindOf (pieceCommand at p) ∷ l) (pieces-kinds at ps)
 
 -- The rows of a chain have the kinds of the commands that its fit writes, in order.
-pub chain-kinds : (tol : Float) (s : List Float) → kindsOf (chainRows tol s) ≡ map kindOf (chainFit tol s)
+pub chain-kinds : (rule : Rule) (s : List Float) → kindsOf (chainRows rule s) ≡ map kindOf (chainFit rule s)
 unfolding chainRows chainFit fitIn
-chain-kinds tol s = pieces-kinds (thinnedAt tol s) (chainPieces tol s)
+chain-kinds rule s = pieces-kinds (thinnedAt rule s) (chainPieces rule s)
 
-part-kinds : (tol : Float) (p : Part) → kindsOf (partRows tol p) ≡ map kindOf (partFit (chainFit tol) p)
+part-kinds : (rule : Rule) (p : Part) → kindsOf (partRows rule p) ≡ map kindOf (partFit (chainFit rule) p)
 unfolding partRows partFit
-part-kinds tol (chain s) = chain-kinds tol s
-part-kinds tol (kept c) = unfold kindsOf in refl
+part-kinds rule (chain s) = chain-kinds rule s
+part-kinds rule (kept c) = unfold kindsOf in refl
 
-parts-kinds : (tol : Float) (ps : List Part) → kindsOf (rowsOf tol ps) ≡ map kindOf (fitOf (chainFit tol) ps)
+parts-kinds : (rule : Rule) (ps : List Part) → kindsOf (rowsOf rule ps) ≡ map kindOf (fitOf (chainFit rule) ps)
 unfolding rowsOf fitOf flat
-parts-kinds tol [] = unfold kindsOf in refl
-parts-kinds tol (p ∷ ps) =
-    kinds-append (partRows tol p) (rowsOf tol ps) ∙ ap (λ (l : List ℕ). l ++ kindsOf (rowsOf tol ps)) (part-kinds tol p)
-    ∙ ap (λ (l : List ℕ). map kindOf (partFit (chainFit tol) p) ++ l) (parts-kinds tol ps) ∙ sym (map-append kindOf (partFit (chainFit tol) p) (fitOf (chainFit tol) ps))
+parts-kinds rule [] = unfold kindsOf in refl
+parts-kinds rule (p ∷ ps) =
+    kinds-append (partRows rule p) (rowsOf rule ps) ∙ ap (λ (l : List ℕ). l ++ kindsOf (rowsOf rule ps)) (part-kinds rule p)
+    ∙ ap (λ (l : List ℕ). map kindOf (partFit (chainFit rule) p) ++ l) (parts-kinds rule ps) ∙ sym (map-append kindOf (partFit (chainFit rule) p) (fitOf (chainFit rule) ps))
 
 -- A course has one row for each command that its fit writes, in order, with that command's kind.
-pub course-kinds : (tol : Float) (cs : List Command) → kindsOf (courseRows tol cs) ≡ map kindOf (courseFit tol cs)
+pub course-kinds : (rule : Rule) (cs : List Command) → kindsOf (courseRows rule cs) ≡ map kindOf (courseFit rule cs)
 unfolding courseRows courseFit
-course-kinds tol cs = parts-kinds tol (courseParts tol cs)
+course-kinds rule cs = parts-kinds rule (courseParts (rule .tolerance) cs)
 
 -- ---- letters
 -- the letter of a kind above 1
@@ -100,41 +100,41 @@ unfolding kindsOf pieceRow
 pieces-lettered [] = tt
 pieces-lettered (p ∷ ps) = (shape-lettered (p .shape), pieces-lettered ps)
 
-chain-lettered : (tol : Float) (s : List Float) → Lettered (kindsOf (chainRows tol s))
+chain-lettered : (rule : Rule) (s : List Float) → Lettered (kindsOf (chainRows rule s))
 unfolding chainRows
-chain-lettered tol s = pieces-lettered (chainPieces tol s)
+chain-lettered rule s = pieces-lettered (chainPieces rule s)
 
-none-lettered : (tol : Float) → Lettered (kindsOf (rowsOf tol []))
+none-lettered : (rule : Rule) → Lettered (kindsOf (rowsOf rule []))
 unfolding rowsOf flat kindsOf
-none-lettered tol = tt
+none-lettered rule = tt
 
 -- a chain and a command that is kept behind it
-kept-lettered : (tol : Float) (s : List Float) (c : Command) → kindOf c ≤ 2 → Lettered (kindsOf (rowsOf tol (chain s ∷ kept c ∷ [])))
+kept-lettered : (rule : Rule) (s : List Float) (c : Command) → kindOf c ≤ 2 → Lettered (kindsOf (rowsOf rule (chain s ∷ kept c ∷ [])))
 unfolding rowsOf flat partRows
-kept-lettered tol s c h =
+kept-lettered rule s c h =
     let z : Lettered (kindsOf (keptRow c ∷ [])) = unfold kindsOf in (h, tt) in
-    subst (λ (l : List ℕ). Lettered l) (sym (kinds-append (chainRows tol s) (keptRow c ∷ []))) (lettered-append (kindsOf (chainRows tol s)) (kindsOf (keptRow c ∷ [])) (chain-lettered tol s) z)
+    subst (λ (l : List ℕ). Lettered l) (sym (kinds-append (chainRows rule s) (keptRow c ∷ []))) (lettered-append (kindsOf (chainRows rule s)) (kindsOf (keptRow c ∷ [])) (chain-lettered rule s) z)
 
-closed-lettered : (tol : Float) (last : Point3D) (s : List Float) (c : Command) → Lettered (kindsOf (rowsOf tol (closed s c (joined tol last c))))
+closed-lettered : (rule : Rule) (last : Point3D) (s : List Float) (c : Command) → Lettered (kindsOf (rowsOf rule (closed s c (joined (rule .tolerance) last c))))
 unfolding closed joined
-closed-lettered tol last s (Move p) = kept-lettered tol s (Move p) (unfold kindOf in omega arith)
-closed-lettered tol last s (Line p) = none-lettered tol
-closed-lettered tol last s (Arc p o n) = kept-lettered tol s (Arc p o n) (unfold kindOf in omega arith)
-closed-lettered tol last s (Bezier p q r) = none-lettered tol
+closed-lettered rule last s (Move p) = kept-lettered rule s (Move p) (unfold kindOf in omega arith)
+closed-lettered rule last s (Line p) = none-lettered rule
+closed-lettered rule last s (Arc p o n) = kept-lettered rule s (Arc p o n) (unfold kindOf in omega arith)
+closed-lettered rule last s (Bezier p q r) = none-lettered rule
 
-parts-lettered : (tol : Float) (last : Point3D) (s : List Float) (cs : List Command) → Lettered (kindsOf (rowsOf tol (partsFrom (joined tol) last s cs)))
-parts-lettered tol last s [] = subst (λ (rs : List ListRow). Lettered (kindsOf rs)) (sym (ap (rowsOf tol) (parts-end (joined tol) last s) ∙ rows-chain tol s)) (chain-lettered tol s)
-parts-lettered tol last s (c ∷ cs) =
-    let j = joined tol last c in
-    let next = partsFrom (joined tol) (endOf c) (carried s c j) cs in
-    let e = ap (λ (ps : List Part). kindsOf (rowsOf tol ps)) (parts-step (joined tol) last s c cs) ∙ ap kindsOf (rows-append tol (closed s c j) next)
-    ∙ kinds-append (rowsOf tol (closed s c j)) (rowsOf tol next) in
-    subst (λ (l : List ℕ). Lettered l) (sym e) (lettered-append (kindsOf (rowsOf tol (closed s c j))) (kindsOf (rowsOf tol next)) (closed-lettered tol last s c) (parts-lettered tol (endOf c) (carried s c j) cs))
+parts-lettered : (rule : Rule) (last : Point3D) (s : List Float) (cs : List Command) → Lettered (kindsOf (rowsOf rule (partsFrom (joined (rule .tolerance)) last s cs)))
+parts-lettered rule last s [] = subst (λ (rs : List ListRow). Lettered (kindsOf rs)) (sym (ap (rowsOf rule) (parts-end (joined (rule .tolerance)) last s) ∙ rows-chain rule s)) (chain-lettered rule s)
+parts-lettered rule last s (c ∷ cs) =
+    let j = joined (rule .tolerance) last c in
+    let next = partsFrom (joined (rule .tolerance)) (endOf c) (carried s c j) cs in
+    let e = ap (λ (ps : List Part). kindsOf (rowsOf rule ps)) (parts-step (joined (rule .tolerance)) last s c cs) ∙ ap kindsOf (rows-append rule (closed s c j) next)
+    ∙ kinds-append (rowsOf rule (closed s c j)) (rowsOf rule next) in
+    subst (λ (l : List ℕ). Lettered l) (sym e) (lettered-append (kindsOf (rowsOf rule (closed s c j))) (kindsOf (rowsOf rule next)) (closed-lettered rule last s c) (parts-lettered rule (endOf c) (carried s c j) cs))
 
 -- Each row is of a Move, a Line or an Arc: the three letters are enough, and an A is an Arc.
-pub course-letters : (tol : Float) (cs : List Command) → Lettered (kindsOf (courseRows tol cs))
+pub course-letters : (rule : Rule) (cs : List Command) → Lettered (kindsOf (courseRows rule cs))
 unfolding courseRows courseParts
-course-letters tol cs = parts-lettered tol origin (triple origin) cs
+course-letters rule cs = parts-lettered rule origin (triple origin) cs
 
 -- ---- steps
 sum-append : (xs ys : List ℕ) → sumOf (xs ++ ys) ≡ sumOf xs + sumOf ys
@@ -152,45 +152,45 @@ covered lo hi (p ∷ ps) v =
     let r = covered (p .to) hi ps (v .2) in omega arith
 
 -- The steps that a chain's rows give are, together, the steps of its thinned chain: each is counted once.
-pub chain-steps : (tol : Float) → (+0 ≺ tol) ≡ true → (s : List Float) → 2 ≤ length s / 3 → sumOf (stepsIn (chainRows tol s)) ≡ stepsOf tol s
+pub chain-steps : (rule : Rule) → (+0 ≺ rule .tolerance) ≡ true → (s : List Float) → 2 ≤ length s / 3 → sumOf (stepsIn (chainRows rule s)) ≡ stepsOf rule s
 unfolding chainRows
-chain-steps tol pos s h =
-    let k = kept-some tol s h in
-    let e = covered 0 (stepsOf tol s) (chainPieces tol s) (pieces-cover lineSq tol pos (thinnedAt tol s) 0 (stepsOf tol s) (omega arith)) in omega arith
+chain-steps rule pos s h =
+    let k = kept-some rule s h in
+    let e = covered 0 (stepsOf rule s) (chainPieces rule s) (pieces-cover rule pos (thinnedAt rule s) 0 (stepsOf rule s) (omega arith)) in omega arith
 
-any-steps : (tol : Float) → (+0 ≺ tol) ≡ true → (s : List Float) → sumOf (stepsIn (chainRows tol s)) ≡ stepsOf tol s
-any-steps tol pos s =
+any-steps : (rule : Rule) → (+0 ≺ rule .tolerance) ≡ true → (s : List Float) → sumOf (stepsIn (chainRows rule s)) ≡ stepsOf rule s
+any-steps rule pos s =
     ⊎-elim
     (λ h.
-    let f = kept-few tol s in
+    let f = kept-few rule s in
     let z : sumOf (stepsIn []) ≡ 0 = unfold sumOf stepsIn in refl in
-    let e = ap (λ (l : List _). sumOf (stepsIn l)) (no-rows tol s h) in omega arith)
-    (λ h. chain-steps tol pos s h) (lt-or-ge (length s / 3) 2)
+    let e = ap (λ (l : List _). sumOf (stepsIn l)) (no-rows rule s h) in omega arith)
+    (λ h. chain-steps rule pos s h) (lt-or-ge (length s / 3) 2)
 
 -- a kept command adds no step
 no-step : (c : Command) (rs : List ListRow) → sumOf (stepsIn (keptRow c ∷ rs)) ≡ sumOf (stepsIn rs)
 unfolding sumOf stepsIn
 no-step c rs = zero-add (sumOf (stepsIn rs))
 
-parts-steps : (tol : Float) → (+0 ≺ tol) ≡ true → (ps : List Part) → sumOf (stepsIn (rowsOf tol ps)) ≡ chainsSteps tol ps
+parts-steps : (rule : Rule) → (+0 ≺ rule .tolerance) ≡ true → (ps : List Part) → sumOf (stepsIn (rowsOf rule ps)) ≡ chainsSteps rule ps
 unfolding rowsOf flat partRows chainsSteps
-parts-steps tol pos [] = unfold sumOf stepsIn in refl
-parts-steps tol pos (chain s ∷ ps) =
-    let e = ap sumOf (steps-append (chainRows tol s) (rowsOf tol ps)) in
-    let t = sum-append (stepsIn (chainRows tol s)) (stepsIn (rowsOf tol ps)) in
-    let a = any-steps tol pos s in
-    let r = parts-steps tol pos ps in omega arith
-parts-steps tol pos (kept c ∷ ps) = no-step c (rowsOf tol ps) ∙ parts-steps tol pos ps
+parts-steps rule pos [] = unfold sumOf stepsIn in refl
+parts-steps rule pos (chain s ∷ ps) =
+    let e = ap sumOf (steps-append (chainRows rule s) (rowsOf rule ps)) in
+    let t = sum-append (stepsIn (chainRows rule s)) (stepsIn (rowsOf rule ps)) in
+    let a = any-steps rule pos s in
+    let r = parts-steps rule pos ps in omega arith
+parts-steps rule pos (kept c ∷ ps) = no-step c (rowsOf rule ps) ∙ parts-steps rule pos ps
 
 -- So the steps that a course's rows give are, together, the steps of its thinned chains; a kept command adds none.
-pub course-steps : (tol : Float) → (+0 ≺ tol) ≡ true → (cs : List Command) → sumOf (stepsIn (courseRows tol cs)) ≡ chainsSteps tol (courseParts tol cs)
+pub course-steps : (rule : Rule) → (+0 ≺ rule .tolerance) ≡ true → (cs : List Command) → sumOf (stepsIn (courseRows rule cs)) ≡ chainsSteps rule (courseParts (rule .tolerance) cs)
 unfolding courseRows
-course-steps tol pos cs = parts-steps tol pos (courseParts tol cs)
+course-steps rule pos cs = parts-steps rule pos (courseParts (rule .tolerance) cs)
 
 -- There are at most as many rows as the most of the course.
-pub course-rows-few : (tol : Float) → (+0 ≺ tol) ≡ true → (cs : List Command) → length (courseRows tol cs) ≤ courseMost tol cs
-course-rows-few tol pos cs =
-    let a = kinds-length (courseRows tol cs) in
-    let b = ap length (course-kinds tol cs) in
-    let c = length-map (courseFit tol cs) kindOf in
-    let d = course-few tol pos cs in omega arith
+pub course-rows-few : (rule : Rule) → (+0 ≺ rule .tolerance) ≡ true → (cs : List Command) → length (courseRows rule cs) ≤ courseMost (rule .tolerance) cs
+course-rows-few rule pos cs =
+    let a = kinds-length (courseRows rule cs) in
+    let b = ap length (course-kinds rule cs) in
+    let c = length-map (courseFit rule cs) kindOf in
+    let d = course-few rule pos cs in omega arith

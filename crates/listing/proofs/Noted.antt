@@ -9,6 +9,7 @@ use lib.Ieee.{Float}
 use Rattle.geo.specs.declared.types.Point3D.{Point3D}
 use Rattle.geo.specs.declared.types.Command.{Command}
 use Rattle.geo.specs.Lent.{flat, kindOf}
+use Rattle.fitting.specs.declared.fitting.Rule.{Rule}
 use Rattle.fitting.specs.Pieces.{Piece}
 use Rattle.fitting.specs.Written.{commandsOf, notesOf, pieceNoted, notedIn, chainNoted, NotedPlaced}
 use Rattle.fitting.proofs.Writing.{notes-append}
@@ -27,34 +28,34 @@ unfolding notesOf pieceNoted stepsIn pieceRow
 pieces-notes at [] = refl
 pieces-notes at (p ∷ ps) = ap (λ (l : List ℕ). pieceRow p .steps ∷ l) (pieces-notes at ps)
 
-part-notes : (tol : Float) (p : Part) → notesOf (partNoted (chainNoted tol) p) ≡ stepsIn (partRows tol p)
+part-notes : (rule : Rule) (p : Part) → notesOf (partNoted (chainNoted rule) p) ≡ stepsIn (partRows rule p)
 unfolding partNoted partRows
-part-notes tol (chain s) = unfold chainNoted notedIn chainRows in pieces-notes (thinnedAt tol s) (chainPieces tol s)
-part-notes tol (kept c) = unfold notesOf stepsIn in refl
+part-notes rule (chain s) = unfold chainNoted notedIn chainRows in pieces-notes (thinnedAt rule s) (chainPieces rule s)
+part-notes rule (kept c) = unfold notesOf stepsIn in refl
 
-parts-notes : (tol : Float) (ps : List Part) → notesOf (notedOf (chainNoted tol) ps) ≡ stepsIn (rowsOf tol ps)
+parts-notes : (rule : Rule) (ps : List Part) → notesOf (notedOf (chainNoted rule) ps) ≡ stepsIn (rowsOf rule ps)
 unfolding notedOf rowsOf flat
-parts-notes tol [] = unfold notesOf stepsIn in refl
-parts-notes tol (p ∷ ps) =
-    notes-append (partNoted (chainNoted tol) p) (notedOf (chainNoted tol) ps) ∙ ap (λ (l : List ℕ). l ++ notesOf (notedOf (chainNoted tol) ps)) (part-notes tol p)
-    ∙ ap (λ (l : List ℕ). stepsIn (partRows tol p) ++ l) (parts-notes tol ps) ∙ sym (steps-append (partRows tol p) (rowsOf tol ps))
+parts-notes rule [] = unfold notesOf stepsIn in refl
+parts-notes rule (p ∷ ps) =
+    notes-append (partNoted (chainNoted rule) p) (notedOf (chainNoted rule) ps) ∙ ap (λ (l : List ℕ). l ++ notesOf (notedOf (chainNoted rule) ps)) (part-notes rule p)
+    ∙ ap (λ (l : List ℕ). stepsIn (partRows rule p) ++ l) (parts-notes rule ps) ∙ sym (steps-append (partRows rule p) (rowsOf rule ps))
 
 -- what is noted beside a course's commands are the steps of its rows
-pub course-notes : (tol : Float) (cs : List Command) → notesOf (courseNoted tol cs) ≡ stepsIn (courseRows tol cs)
+pub course-notes : (rule : Rule) (cs : List Command) → notesOf (courseNoted rule cs) ≡ stepsIn (courseRows rule cs)
 unfolding courseNoted courseRows
-course-notes tol cs = parts-notes tol (courseParts tol cs)
+course-notes rule cs = parts-notes rule (courseParts (rule .tolerance) cs)
 
 -- So the fit with steps leaves the course's rows.
-pub rows-placed : (tol : Float) (cs : List Command) (n : ℕ) (ks ks′ : List ℕ) (ns ns′ : List Float) (ss ss′ : List ℕ)
-    → NotedPlaced (courseNoted tol cs) 0 n ks ks′ ns ns′ ss ss′ → RowsPlaced (courseRows tol cs) n ks ks′ ss ss′
-rows-placed tol cs n ks ks′ ns ns′ ss ss′ p =
-    let e : map kindOf (commandsOf (courseNoted tol cs)) ≡ kindsOf (courseRows tol cs) = ap (map kindOf) (course-commands tol cs) ∙ sym (course-kinds tol cs) in
+pub rows-placed : (rule : Rule) (cs : List Command) (n : ℕ) (ks ks′ : List ℕ) (ns ns′ : List Float) (ss ss′ : List ℕ)
+    → NotedPlaced (courseNoted rule cs) 0 n ks ks′ ns ns′ ss ss′ → RowsPlaced (courseRows rule cs) n ks ks′ ss ss′
+rows-placed rule cs n ks ks′ ns ns′ ss ss′ p =
+    let e : map kindOf (commandsOf (courseNoted rule cs)) ≡ kindsOf (courseRows rule cs) = ap (map kindOf) (course-commands rule cs) ∙ sym (course-kinds rule cs) in
     let a = p .commands .count in
-    let b = length-map (commandsOf (courseNoted tol cs)) kindOf in
+    let b = length-map (commandsOf (courseNoted rule cs)) kindOf in
     let c = ap length e in
-    let d = kinds-length (courseRows tol cs) in
+    let d = kinds-length (courseRows rule cs) in
     record {
       count = omega arith;
       kinds = p .commands .kinds ∙ ap (sets ks 0) e;
-      steps = p .notes ∙ ap (sets ss 0) (course-notes tol cs);
+      steps = p .notes ∙ ap (sets ss 0) (course-notes rule cs);
     }

@@ -5,6 +5,7 @@ use mathlib.Core.List.{List, [], _∷_, map}
 use lib.Ieee.{Float}
 use Rattle.geo.specs.declared.types.Command.{Command}
 use Rattle.geo.specs.Lent.{flat, kindOf}
+use Rattle.fitting.specs.declared.fitting.Rule.{Rule}
 use Rattle.fitting.specs.Pieces.{Shape, line, arc, Piece}
 use Rattle.course.specs.Parts.{Part, chain, kept}
 use Rattle.course.specs.Course.{courseParts}
@@ -31,24 +32,24 @@ unfoldable pub pieceRow : Piece → ListRow
 pieceRow p = record { kind = shapeKind (p .shape); steps = p .to - p .from }
 
 -- one row for each piece of a chain, in order; none where it has fewer than two points
-unfoldable pub chainRows : Float → List Float → List ListRow
-chainRows tol s = map pieceRow (chainPieces tol s)
+unfoldable pub chainRows : Rule → List Float → List ListRow
+chainRows rule s = map pieceRow (chainPieces rule s)
 
 -- a command that is kept covers no step
 abbrev pub keptRow : Command → ListRow
 keptRow c = record { kind = kindOf c; steps = 0 }
 
-unfoldable pub partRows : Float → Part → List ListRow
-partRows tol (chain s) = chainRows tol s
-partRows tol (kept c) = keptRow c ∷ []
+unfoldable pub partRows : Rule → Part → List ListRow
+partRows rule (chain s) = chainRows rule s
+partRows rule (kept c) = keptRow c ∷ []
 
 -- of several parts
-unfoldable pub rowsOf : Float → List Part → List ListRow
-rowsOf tol ps = flat (partRows tol) ps
+unfoldable pub rowsOf : Rule → List Part → List ListRow
+rowsOf rule ps = flat (partRows rule) ps
 
 -- the rows of a course
-unfoldable pub courseRows : Float → List Command → List ListRow
-courseRows tol cs = rowsOf tol (courseParts tol cs)
+unfoldable pub courseRows : Rule → List Command → List ListRow
+courseRows rule cs = rowsOf rule (courseParts (rule .tolerance) cs)
 
 -- ---- their two columns
 unfoldable pub kindsOf : List ListRow → List ℕ
@@ -68,7 +69,7 @@ sumOf [] = 0
 sumOf (n ∷ ns) = n + sumOf ns
 
 -- the steps of the thinned chains among several parts
-unfoldable pub chainsSteps : Float → List Part → ℕ
-chainsSteps tol [] = 0
-chainsSteps tol (chain s ∷ ps) = stepsOf tol s + chainsSteps tol ps
-chainsSteps tol (kept c ∷ ps) = chainsSteps tol ps
+unfoldable pub chainsSteps : Rule → List Part → ℕ
+chainsSteps rule [] = 0
+chainsSteps rule (chain s ∷ ps) = stepsOf rule s + chainsSteps rule ps
+chainsSteps rule (kept c ∷ ps) = chainsSteps rule ps

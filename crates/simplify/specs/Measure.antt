@@ -6,6 +6,8 @@ use Rattle.geo.specs.declared.types.Point.{Point}
 use Rattle.geo.specs.declared.types.Point3D.{Point3D}
 use Rattle.geo.specs.Vector.{lengthSq, perpDot}
 use Rattle.simplify.specs.declared.simplify.Chord.{Chord}
+use Rattle.simplify.specs.declared.simplify.Ruler.{Ruler}
+use Rattle.simplify.specs.declared.simplify.Ruler.the-variants.{Line}
 
 -- A measure gives the squared distance of a point, its last argument, to the chord of two others, its first and second.
 -- Thinning and its laws are stated over any measure.
@@ -34,6 +36,10 @@ toLine c p = offLine c (p .x ⊖ c .start .x) (p .y ⊖ c .start .y)
 unfoldable pub lineSq : Measure Point3D
 unfolding chordOf toLine
 lineSq a b p = toLine (chordOf a b) p
+
+-- the measure of a ruler
+abbrev pub measureOf : Ruler → Measure Point3D
+measureOf Line = lineSq
 
 -- and of points of the plane, which stand at height 0
 abbrev pub raised : Point → Point3D

@@ -22,13 +22,18 @@ ghost use Rattle.floats.specs.Ops.{_≺_, +0};
 ghost use Rattle.geo.specs.Outcome.{Wrote, refusal};
 ghost use Rattle.geo.specs.Commands.{WroteCommands};
 ghost use Rattle.geo.specs.Lent.{pair, triple, flat, pairAt, pointAt, commandAt, endOf};
-ghost use Rattle.simplify.specs.Measure.{chordOf, toLine, lineSq, planeSq, raised};
+ghost use Rattle.simplify.specs.Measure.{chordOf, toLine, lineSq, measureOf, planeSq, raised};
 ghost use Rattle.simplify.specs.Farthest.{onChord, farther, farthestIn};
 ghost use Rattle.simplify.specs.Search.{spreadOf, squareOfSpread, begun, Sound};
 ghost use Rattle.simplify.specs.Thin.{keptIn, thinnedPoints};
 ghost use Rattle.simplify.specs.Data.{isMove, toCommand, commandSq, thinnedCommands};
 ghost use Rattle.simplify.specs.Flags.{marked, flagged, flaggedCommands, Copied, CopiedCommands};
 ghost use Rattle.simplify.specs.Simplify.{pointRows, commandRows, simplifyPolyline, simplifyPolyline3d, simplifyData};
+
+// Which distance of a point counts: that to the endless line through the ends of its range, in x and y.
+pub enum Ruler {
+    Line,
+}
 
 // The chord of a range, worked out once for all the points between. Distances are measured in x and y.
 struct Chord {
@@ -214,8 +219,8 @@ fn farthest_pair(points: &[f64], start: usize, end: usize) -> Farthest
     search.best
 }
 
-// The first farthest of the triples strictly between start and end; z is not measured.
-pub fn farthest_between(points: &[f64], start: usize, end: usize) -> Farthest
+// The first farthest of the triples strictly between start and end from the endless line; z is not measured.
+fn farthest_from_line(points: &[f64], start: usize, end: usize) -> Farthest
     requires { ⌜ (3 * start + 2 < length (now points)) × (3 * end + 2 < length (now points)) ⌝ }
     ensures { λ r. ⌜ r ≡ farthestIn lineSq (pointAt (now (points .entry))) start end ⌝ }
 {
@@ -225,6 +230,16 @@ pub fn farthest_between(points: &[f64], start: usize, end: usize) -> Farthest
         search = search.look(chord, point_at(points, i), i);
     }
     search.best
+}
+
+// The same by any distance, which is looked up once for the range and not for each point.
+pub fn farthest_between(ruler: Ruler, points: &[f64], start: usize, end: usize) -> Farthest
+    requires { ⌜ (3 * start + 2 < length (now points)) × (3 * end + 2 < length (now points)) ⌝ }
+    ensures { λ r. ⌜ r ≡ farthestIn (measureOf ruler) (pointAt (now (points .entry))) start end ⌝ }
+{
+    match ruler {
+        Ruler::Line => farthest_from_line(points, start, end),
+    }
 }
 
 // The first farthest of the commands strictly between start and end, by their ends.
@@ -255,16 +270,16 @@ fn mark_pairs(points: &[f64], limit: f64, lo: usize, hi: usize, keep: &mut [bool
 }
 
 // Sets the flag of each triple that is kept strictly between lo and hi.
-fn mark(points: &[f64], limit: f64, lo: usize, hi: usize, keep: &mut [bool])
+fn mark(ruler: Ruler, points: &[f64], limit: f64, lo: usize, hi: usize, keep: &mut [bool])
     requires { ⌜ ((limit ≺ +0) ≡ false) × ((lo ≤ hi) × (3 * hi + 2 < length (now points)) × (hi < length (now keep))) ⌝ }
-    ensures { λ _. ⌜ now (keep .exit) ≡ marked (keptIn lineSq limit (pointAt (now (points .entry))) lo hi) (now (keep .entry)) ⌝ }
+    ensures { λ _. ⌜ now (keep .exit) ≡ marked (keptIn (measureOf ruler) limit (pointAt (now (points .entry))) lo hi) (now (keep .entry)) ⌝ }
 {
-    let w = farthest_between(points, lo, hi);
+    let w = farthest_between(ruler, points, lo, hi);
     if w.cuts(limit) {
         let k = w.index;
-        mark(points, limit, lo, k, keep);
+        mark(ruler, points, limit, lo, k, keep);
         keep[k] = true;
-        mark(points, limit, k, hi, keep);
+        mark(ruler, points, limit, k, hi, keep);
     }
 }
 
@@ -386,22 +401,22 @@ fn thin_points(points: &[f64], n: usize, limit: f64, out: &mut [f64]) -> usize
     }
     let mut keep = [false; MOST_POINTS];
     keep[0] = true;
-    mark(points, limit, 0, n - 1, &mut keep);
+    mark(Ruler::Line, points, limit, 0, n - 1, &mut keep);
     keep[n - 1] = true;
     copy_points(points, n, &keep, out)
 }
 
 // The same in place.
-pub fn thin_in_place(points: &mut [f64], n: usize, limit: f64) -> usize
+pub fn thin_in_place(ruler: Ruler, points: &mut [f64], n: usize, limit: f64) -> usize
     requires { ⌜ ((limit ≺ +0) ≡ false) × ((n ≤ 2048) × (3 * n ≤ length (now points))) ⌝ }
-    ensures { λ r. ⌜ Copied triple (thinnedPoints lineSq limit (pointAt (now (points .entry))) n) (now (points .entry)) (now (points .exit)) r ⌝ }
+    ensures { λ r. ⌜ Copied triple (thinnedPoints (measureOf ruler) limit (pointAt (now (points .entry))) n) (now (points .entry)) (now (points .exit)) r ⌝ }
 {
     if n == 0 {
         return 0;
     }
     let mut keep = [false; MOST_POINTS];
     keep[0] = true;
-    mark(points, limit, 0, n - 1, &mut keep);
+    mark(ruler, points, limit, 0, n - 1, &mut keep);
     keep[n - 1] = true;
     close_up(points, n, &keep)
 }

@@ -32,14 +32,14 @@ add-put-noted : tie.Need-add-put-noted
 add-put-noted c = let a = c .before .before .before .before .before .before .before .before .before .before .before .before .before .before .before .before .before .before .before .before .before .before .args in
     let r = ends-room (a .c) (a .w) (a .chain .now) _ _ (c .before .before .before .before .before .before .before .before .before .before .before .before .before .before .before .before .before .before .before .before .before .before .pre .1) in
     let l = front-length (a .c) (a .w) (a .chain .now) _ _ ends (c .before .before .before .before .before .before .before .before .before .before .before .before .before .before .before .before .before .before .before .before .before .before .pre .1) in
-    let f = flushed-few (a .how) (a .tolerance) (c .before .before .before .before .before .before .before .before .before .before .before .before .before .before .before .before .before .before .before .before .before .before .pre .0) (underWay (a .w) (a .chain .now)) in
+    let f = flushed-few (a .how) (a .rule) (c .before .before .before .before .before .before .before .before .before .before .before .before .before .before .before .before .before .before .before .before .before .before .pre .0) (underWay (a .w) (a .chain .now)) in
     let n = count-noted _ _ _ _ _ _ _ _ _ (c .before .before .before .before .before .before .before .before .before .before .before .before .flush-by .ensures) in omega (arith, r, l, f, n)
 
 put-noted-requires : tie.Need-put-noted-requires
 put-noted-requires c κs = let a = c .before .before .before .before .before .before .before .before .before .before .before .before .before .before .before .before .before .before .before .before .before .before .args in
     let r = ends-room (a .c) (a .w) (a .chain .now) _ _ (c .before .before .before .before .before .before .before .before .before .before .before .before .before .before .before .before .before .before .before .before .before .before .pre .1) in
     let l = front-length (a .c) (a .w) (a .chain .now) _ _ ends (c .before .before .before .before .before .before .before .before .before .before .before .before .before .before .before .before .before .before .before .before .before .before .pre .1) in
-    let f = flushed-few (a .how) (a .tolerance) (c .before .before .before .before .before .before .before .before .before .before .before .before .before .before .before .before .before .before .before .before .before .before .pre .0) (underWay (a .w) (a .chain .now)) in
+    let f = flushed-few (a .how) (a .rule) (c .before .before .before .before .before .before .before .before .before .before .before .before .before .before .before .before .before .before .before .before .before .before .pre .0) (underWay (a .w) (a .chain .now)) in
     let n = count-noted _ _ _ _ _ _ _ _ _ (c .before .before .before .before .before .before .before .before .before .before .before .before .flush-by .ensures) in
     let k = c .before .before .before .before .before .before .before .before .before .before .before .before .flush-by .kept .1 .1 .1 in (omega (arith, r, l, f, n, k .0), omega (arith, r, l, f, n, k .1 .0))
 
@@ -50,20 +50,20 @@ put-point-requires : tie.Need-put-point-requires
 put-point-requires c κs = let a = c .before .before .before .before .before .before .before .before .before .before .before .before .before .before .before .before .before .before .before .before .before .before .before .before .before .before .before .before .before .before .before .args in
     let q = c .before .before .before .before .before .before .before .before .before .before .before .before .before .before .before .before .before .before .before .before .before .before .before .before .before .before .before .before .before .before .before .pre .1 in
     let b = q .buffer in
-    let l = length-refront (3 * a .w .points) (a .chain .now) (c .before .before .before .before .before .before .before .before .before .before .before .before .before .before .before .before .before .before .before .before .before .flush-by .last .1 .0) (q .inside) (c .before .before .before .before .before .before .before .before .before .before .before .before .before .before .before .before .before .before .before .before .before .flush-by .kept .1 .0) in omega (arith, b, l)
+    let l = length-refront (3 * a .w .points) (a .chain .now) (c .before .before .before .before .before .before .before .before .before .before .before .before .before .before .before .before .before .before .before .before .before .flush-by .last .1 .1 .0) (q .inside) (c .before .before .before .before .before .before .before .before .before .before .before .before .before .before .before .before .before .before .before .before .before .flush-by .kept .1 .1 .0) in omega (arith, b, l)
 
 add-t11 : tie.Need-add-t11
 add-t11 c = let a = c .before .before .before .before .before .before .before .before .before .before .before .before .before .before .before .before .before .before .before .before .before .before .before .before .before .before .before .before .before .before .before .before .before .before .before .args in
     let r = ends-room (a .c) (a .w) (a .chain .now) _ _ (c .before .before .before .before .before .before .before .before .before .before .before .before .before .before .before .before .before .before .before .before .before .before .before .before .before .before .before .before .before .before .before .before .before .before .before .pre .1) in
     let l = front-length (a .c) (a .w) (a .chain .now) _ _ ends (c .before .before .before .before .before .before .before .before .before .before .before .before .before .before .before .before .before .before .before .before .before .before .before .before .before .before .before .before .before .before .before .before .before .before .before .pre .1) in
-    let f = flushed-few (a .how) (a .tolerance) (c .before .before .before .before .before .before .before .before .before .before .before .before .before .before .before .before .before .before .before .before .before .before .before .before .before .before .before .before .before .before .before .before .before .before .before .pre .0) (underWay (a .w) (a .chain .now)) in
+    let f = flushed-few (a .how) (a .rule) (c .before .before .before .before .before .before .before .before .before .before .before .before .before .before .before .before .before .before .before .before .before .before .before .before .before .before .before .before .before .before .before .before .before .before .before .pre .0) (underWay (a .w) (a .chain .now)) in
     let n = count-noted _ _ _ _ _ _ _ _ _ (c .before .before .before .before .before .before .before .before .before .before .before .before .before .before .before .before .before .before .before .before .before .before .before .before .before .flush-by .ensures) in omega (arith, r, l, f, n)
 
 add-t29 : tie.Need-add-t29
 add-t29 c = let a = c .before .before .before .before .before .before .before .before .before .before .before .before .before .before .before .before .before .before .before .before .before .before .before .before .before .before .before .before .before .before .before .before .before .before .before .args in
     let r = ends-room (a .c) (a .w) (a .chain .now) _ _ (c .before .before .before .before .before .before .before .before .before .before .before .before .before .before .before .before .before .before .before .before .before .before .before .before .before .before .before .before .before .before .before .before .before .before .before .pre .1) in
     let l = front-length (a .c) (a .w) (a .chain .now) _ _ ends (c .before .before .before .before .before .before .before .before .before .before .before .before .before .before .before .before .before .before .before .before .before .before .before .before .before .before .before .before .before .before .before .before .before .before .before .pre .1) in
-    let f = flushed-few (a .how) (a .tolerance) (c .before .before .before .before .before .before .before .before .before .before .before .before .before .before .before .before .before .before .before .before .before .before .before .before .before .before .before .before .before .before .before .before .before .before .before .pre .0) (underWay (a .w) (a .chain .now)) in
+    let f = flushed-few (a .how) (a .rule) (c .before .before .before .before .before .before .before .before .before .before .before .before .before .before .before .before .before .before .before .before .before .before .before .before .before .before .before .before .before .before .before .before .before .before .before .pre .0) (underWay (a .w) (a .chain .now)) in
     let n = count-noted _ _ _ _ _ _ _ _ _ (c .before .before .before .before .before .before .before .before .before .before .before .before .before .before .before .before .before .before .before .before .before .before .before .before .before .flush-by .ensures) in omega (arith, r, l, f, n)
 
 same-length : tie.Need-same-length
@@ -81,8 +81,8 @@ same-length-4 c = search needs
 returns : tie.Need-returns
 returns c = let a = c .before .before .before .before .before .before .before .before .before .before .before .before .before .before .before .before .before .before .before .before .before .before .before .before .before .before .before .before .before .before .before .before .before .before .before .args in
     let b = c .before .before .before .before .before .before .before .before .before .before .before .before .before .before .before .before .before .before .before .before .before .before .before .before .before .before .before .before .before .before .before .before .before .before .before .pre .1 .buffer in
-    let t = c .before .before .before .before .before .before .before .before .before .before .before .before .before .before .before .before .before .before .before .before .before .before .before .before .before .flush-by .last .1 .0 in
-    stepped-ends (flushedBy (a .how) (a .tolerance)) (a .c) (a .w) (a .chain .now) (a .kinds .now) (a .nums .now) (a .steps .now) _ _ _ _ _ _ _ (t ++ drop (3 * a .w .points) (a .chain .now)) (length-refront (3 * a .w .points) (a .chain .now) t (c .before .before .before .before .before .before .before .before .before .before .before .before .before .before .before .before .before .before .before .before .before .before .before .before .before .before .before .before .before .before .before .before .before .before .before .pre .1 .inside) (c .before .before .before .before .before .before .before .before .before .before .before .before .before .before .before .before .before .before .before .before .before .before .before .before .before .flush-by .kept .1 .0)) (omega (arith, b)) (c .before .before .before .before .before .before .before .before .before .before .before .before .before .before .before .before .before .before .before .before .before .before .before .before .before .flush-by .ensures) (c .before .before .before .before .before .before .before .before .before .before .before .before .put-noted .ensures) _ _ _ (c .before .before .before .before .before .end-point .ensures) refl (c .before .before .before .put-point .ensures)
+    let t = c .before .before .before .before .before .before .before .before .before .before .before .before .before .before .before .before .before .before .before .before .before .before .before .before .before .flush-by .last .1 .1 .0 in
+    stepped-ends (flushedBy (a .how) (a .rule)) (a .c) (a .w) (a .chain .now) (a .kinds .now) (a .nums .now) (a .steps .now) _ _ _ _ _ _ _ (t ++ drop (3 * a .w .points) (a .chain .now)) (length-refront (3 * a .w .points) (a .chain .now) t (c .before .before .before .before .before .before .before .before .before .before .before .before .before .before .before .before .before .before .before .before .before .before .before .before .before .before .before .before .before .before .before .before .before .before .before .pre .1 .inside) (c .before .before .before .before .before .before .before .before .before .before .before .before .before .before .before .before .before .before .before .before .before .before .before .before .before .flush-by .kept .1 .1 .0)) (omega (arith, b)) (c .before .before .before .before .before .before .before .before .before .before .before .before .before .before .before .before .before .before .before .before .before .before .before .before .before .flush-by .ensures) (c .before .before .before .before .before .before .before .before .before .before .before .before .put-noted .ensures) _ _ _ (c .before .before .before .before .before .end-point .ensures) refl (c .before .before .before .put-point .ensures)
 
 pub end-chain-spec : {M : Type 1} → statement M
 end-chain-spec =

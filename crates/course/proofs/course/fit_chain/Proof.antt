@@ -8,7 +8,7 @@ use Rattle.course.proofs.course.fit_chain.Statement.{statement}
 use Rattle.course.proofs.course.fit_chain.Tie as tie
 
 returns : tie.Need-returns
-returns c = let a = c .before .before .before .before .before .args in none-noted _ (no-steps (a .tolerance) (a .chain .now) (c .if1 .taken)) (a .at) (a .kinds .now) (a .nums .now) (a .steps .now)
+returns c = let a = c .before .before .before .before .before .args in none-noted _ (no-steps (a .rule) (a .chain .now) (c .if1 .taken)) (a .at) (a .kinds .now) (a .nums .now) (a .steps .now)
 
 sub-fit-range : tie.Need-sub-fit-range
 sub-fit-range c = search needs

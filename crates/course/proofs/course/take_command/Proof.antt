@@ -21,7 +21,7 @@ enum-known-c c = search needs
 
 add-line-requires : tie.Need-add-line-requires
 add-line-requires c κs = let a = c .before .before .before .before .before .before .before .before .args in
-    let r = adds-room (a .c) (a .w) (a .chain .now) _ _ (triple (c .before .before .c .given .0 .0)) 1 (joinedBy (a .how) (a .tolerance) (a .w .last) (a .c)) (line-joins _ _ _ (a .how) _ (c .before .before .c .given .1)) refl (c .before .before .before .before .before .before .before .before .pre .1) in
+    let r = adds-room (a .c) (a .w) (a .chain .now) _ _ (triple (c .before .before .c .given .0 .0)) 1 (joinedBy (a .how) (a .rule .tolerance) (a .w .last) (a .c)) (line-joins _ _ _ (a .how) _ (c .before .before .c .given .1)) refl (c .before .before .before .before .before .before .before .before .pre .1) in
     let b = c .before .before .before .before .before .before .before .before .pre .1 .buffer in (omega (arith, r), omega (arith, r, b))
 
 enum-known-c-2 : tie.Need-enum-known-c-2
@@ -33,8 +33,8 @@ joins-beziers-requires c κs = search needs
 add-bezier-requires : tie.Need-add-bezier-requires
 add-bezier-requires c κs = let a = c .before .before .before .before .before .before .before .before .before .before .args in
     let g = c .before .before .before .before .c2 .given .0 in
-    let xs = paramSteps (g .0) (g .1 .0) (g .1 .1 .0) (a .w .last) (a .tolerance ⊗ quarter) in
-    let r = adds-room (a .c) (a .w) (a .chain .now) _ _ (flat stepEnd xs) (length xs) (joinedBy (a .how) (a .tolerance) (a .w .last) (a .c)) (bezier-joins _ _ _ (a .how) _ _ _ (c .before .before .before .before .c2 .given .1) (sym (c .before .before .joins-beziers .ensures) ∙ c .before .if1 .taken)) (ends-length xs) (c .before .before .before .before .before .before .before .before .before .before .pre .1) in (r .1, r .0, c .before .before .before .before .before .before .before .before .before .before .pre .1 .buffer)
+    let xs = paramSteps (g .0) (g .1 .0) (g .1 .1 .0) (a .w .last) (a .rule .tolerance ⊗ quarter) in
+    let r = adds-room (a .c) (a .w) (a .chain .now) _ _ (flat stepEnd xs) (length xs) (joinedBy (a .how) (a .rule .tolerance) (a .w .last) (a .c)) (bezier-joins _ _ _ (a .how) _ _ _ (c .before .before .before .before .c2 .given .1) (sym (c .before .before .joins-beziers .ensures) ∙ c .before .if1 .taken)) (ends-length xs) (c .before .before .before .before .before .before .before .before .before .before .pre .1) in (r .1, r .0, c .before .before .before .before .before .before .before .before .before .before .pre .1 .buffer)
 
 same-length : tie.Need-same-length
 same-length c = search needs
@@ -42,12 +42,12 @@ same-length c = search needs
 returns : tie.Need-returns
 returns c = let a = c .before .before .before .before .before .before .before .before .before .before .before .before .before .args in
     let g = c .before .before .before .before .before .before .before .c2 .given .0 in
-    let xs = paramSteps (g .0) (g .1 .0) (g .1 .1 .0) (a .w .last) (a .tolerance ⊗ quarter) in
-    let j = joinedBy (a .how) (a .tolerance) (a .w .last) (a .c) in
+    let xs = paramSteps (g .0) (g .1 .0) (g .1 .1 .0) (a .w .last) (a .rule .tolerance ⊗ quarter) in
+    let j = joinedBy (a .how) (a .rule .tolerance) (a .w .last) (a .c) in
     let e = bezier-joins _ _ _ (a .how) _ _ _ (c .before .before .before .before .before .before .before .c2 .given .1) (sym (c .before .before .before .before .before .joins-beziers .ensures) ∙ c .before .before .before .before .if1 .taken) in
     let r = adds-room (a .c) (a .w) (a .chain .now) _ _ (flat stepEnd xs) (length xs) j e (ends-length xs) (c .before .before .before .before .before .before .before .before .before .before .before .before .before .pre .1) in
     let b = c .before .before .before .before .before .before .before .before .before .before .before .before .before .pre .1 .buffer in
-    stepped-adds (flushedBy (a .how) (a .tolerance)) (a .c) (a .w) (a .chain .now) (a .kinds .now) (a .nums .now) (a .steps .now) (length xs) (flat stepEnd xs) j e (ends-length xs) (omega (arith, r, b)) (r .0) _ _ (g .0) (bezier-end (a .c) _ _ _ (c .before .before .before .before .before .before .before .c2 .given .1)) (c .before .before .add-bezier .ensures .0) (c .before .before .add-bezier .ensures .1)
+    stepped-adds (flushedBy (a .how) (a .rule)) (a .c) (a .w) (a .chain .now) (a .kinds .now) (a .nums .now) (a .steps .now) (length xs) (flat stepEnd xs) j e (ends-length xs) (omega (arith, r, b)) (r .0) _ _ (g .0) (bezier-end (a .c) _ _ _ (c .before .before .before .before .before .before .before .c2 .given .1)) (c .before .before .add-bezier .ensures .0) (c .before .before .add-bezier .ensures .1)
 
 end-chain-requires : tie.Need-end-chain-requires
 end-chain-requires c κs = let a = c .before .before .before .before .before .before .before .before .before .before .before .before .before .args in (c .before .before .before .before .before .before .before .before .before .before .before .before .before .pre .0, subst (λ (x : Command). Room ends x (a .w) (a .chain .now) (length (a .kinds .now)) (length (a .nums .now))) (c .before .before .before .before .before .before .before .c2 .given .1) (subst (λ (j : Join). Room j (a .c) (a .w) (a .chain .now) (length (a .kinds .now)) (length (a .nums .now))) (bezier-ends _ _ _ (a .how) _ _ _ (c .before .before .before .before .before .before .before .c2 .given .1) (sym (c .before .before .before .before .before .joins-beziers .ensures) ∙ c .before .before .before .before .if1 .left)) (c .before .before .before .before .before .before .before .before .before .before .before .before .before .pre .1)))
@@ -70,11 +70,11 @@ same-length-2 c = search needs
 returns-2 : tie.Need-returns-2
 returns-2 c = let a = c .before .before .before .before .before .before .before .before .before .before .before .args in
     let p = c .before .before .before .before .before .c .given .0 .0 in
-    let j = joinedBy (a .how) (a .tolerance) (a .w .last) (a .c) in
+    let j = joinedBy (a .how) (a .rule .tolerance) (a .w .last) (a .c) in
     let e = line-joins _ _ _ (a .how) _ (c .before .before .before .before .before .c .given .1) in
     let r = adds-room (a .c) (a .w) (a .chain .now) _ _ (triple p) 1 j e refl (c .before .before .before .before .before .before .before .before .before .before .before .pre .1) in
     let b = c .before .before .before .before .before .before .before .before .before .before .before .pre .1 .buffer in
-    stepped-adds (flushedBy (a .how) (a .tolerance)) (a .c) (a .w) (a .chain .now) (a .kinds .now) (a .nums .now) (a .steps .now) 1 (triple p) j e refl (omega (arith, r, b)) (r .0) _ _ p (line-end (a .c) p (c .before .before .before .before .before .c .given .1)) (c .before .before .add-line .ensures .0) (c .before .before .add-line .ensures .1)
+    stepped-adds (flushedBy (a .how) (a .rule)) (a .c) (a .w) (a .chain .now) (a .kinds .now) (a .nums .now) (a .steps .now) 1 (triple p) j e refl (omega (arith, r, b)) (r .0) _ _ p (line-end (a .c) p (c .before .before .before .before .before .c .given .1)) (c .before .before .add-line .ensures .0) (c .before .before .add-line .ensures .1)
 
 same-length-3 : tie.Need-same-length-3
 same-length-3 c = search needs
@@ -90,8 +90,8 @@ same-length-6 c = search needs
 
 returns-3 : tie.Need-returns-3
 returns-3 c = let a = c .before .before .before .before .before .before .before .before .before .before .before .before .before .before .before .before .before .before .before .before .before .before .args in
-    stepped-as (flushedBy (a .how) (a .tolerance)) _ _ (a .c) (a .w) _ (a .chain .now) _ (a .kinds .now) _ (a .nums .now) _ (a .steps .now) _ (bezier-ends _ _ _ (a .how) _ _ _ (c .before .before .before .before .before .before .before .before .before .before .before .before .before .before .before .before .c2 .given .1) (sym (c .before .before .before .before .before .before .before .before .before .before .before .before .before .before .joins-beziers .ensures) ∙ c .before .before .before .before .before .before .before .before .before .before .before .before .before .if1 .left))
-    (stepped-of (flushedBy (a .how) (a .tolerance)) ends (a .c) _ (a .w) _ (a .chain .now) _ (a .kinds .now) _ (a .nums .now) _ (a .steps .now) _ (c .before .before .before .before .before .before .before .before .before .before .before .before .before .before .before .before .c2 .given .1) (c .before .before .before .before .before .before .before .before .end-chain .ensures))
+    stepped-as (flushedBy (a .how) (a .rule)) _ _ (a .c) (a .w) _ (a .chain .now) _ (a .kinds .now) _ (a .nums .now) _ (a .steps .now) _ (bezier-ends _ _ _ (a .how) _ _ _ (c .before .before .before .before .before .before .before .before .before .before .before .before .before .before .before .before .c2 .given .1) (sym (c .before .before .before .before .before .before .before .before .before .before .before .before .before .before .joins-beziers .ensures) ∙ c .before .before .before .before .before .before .before .before .before .before .before .before .before .if1 .left))
+    (stepped-of (flushedBy (a .how) (a .rule)) ends (a .c) _ (a .w) _ (a .chain .now) _ (a .kinds .now) _ (a .nums .now) _ (a .steps .now) _ (c .before .before .before .before .before .before .before .before .before .before .before .before .before .before .before .before .c2 .given .1) (c .before .before .before .before .before .before .before .before .end-chain .ensures))
 
 same-length-7 : tie.Need-same-length-7
 same-length-7 c = search needs
@@ -107,7 +107,7 @@ same-length-10 c = search needs
 
 returns-4 : tie.Need-returns-4
 returns-4 c = let a = c .before .before .before .before .before .before .before .before .before .before .before .before .before .before .before .before .before .before .before .args in
-    stepped-as (flushedBy (a .how) (a .tolerance)) _ _ (a .c) (a .w) _ (a .chain .now) _ (a .kinds .now) _ (a .nums .now) _ (a .steps .now) _ (move-ends _ _ _ (a .how) _ (c .before .before .before .before .before .before .before .before .before .before .before .before .before .enum-told .given .1)) (c .before .before .before .before .before .before .before .before .end-chain2 .ensures)
+    stepped-as (flushedBy (a .how) (a .rule)) _ _ (a .c) (a .w) _ (a .chain .now) _ (a .kinds .now) _ (a .nums .now) _ (a .steps .now) _ (move-ends _ _ _ (a .how) _ (c .before .before .before .before .before .before .before .before .before .before .before .before .before .enum-told .given .1)) (c .before .before .before .before .before .before .before .before .end-chain2 .ensures)
 
 same-length-11 : tie.Need-same-length-11
 same-length-11 c = search needs
@@ -123,7 +123,7 @@ same-length-14 c = search needs
 
 returns-5 : tie.Need-returns-5
 returns-5 c = let a = c .before .before .before .before .before .before .before .before .before .before .before .before .before .before .before .before .before .before .before .args in
-    stepped-as (flushedBy (a .how) (a .tolerance)) _ _ (a .c) (a .w) _ (a .chain .now) _ (a .kinds .now) _ (a .nums .now) _ (a .steps .now) _ (arc-ends _ _ _ (a .how) _ _ _ (c .before .before .before .before .before .before .before .before .before .before .before .before .before .enum-told2 .given .1)) (c .before .before .before .before .before .before .before .before .end-chain3 .ensures)
+    stepped-as (flushedBy (a .how) (a .rule)) _ _ (a .c) (a .w) _ (a .chain .now) _ (a .kinds .now) _ (a .nums .now) _ (a .steps .now) _ (arc-ends _ _ _ (a .how) _ _ _ (c .before .before .before .before .before .before .before .before .before .before .before .before .before .enum-told2 .given .1)) (c .before .before .before .before .before .before .before .before .end-chain3 .ensures)
 
 pub take-command-spec : {M : Type 1} → statement M
 take-command-spec =

@@ -10,25 +10,25 @@ use Rattle.course.proofs.course.thin_chain.Statement.{statement}
 use Rattle.course.proofs.course.thin_chain.Tie as tie
 
 thin-in-place-requires : tie.Need-thin-in-place-requires
-thin-in-place-requires c κs = (square-not-negative (c .before .before .before .before .before .args .tolerance), omega (arith, c .before .before .before .before .before .pre))
+thin-in-place-requires c κs = (square-not-negative (c .before .before .before .before .before .before .args .rule .tolerance), omega (arith, c .before .before .before .before .before .before .pre))
 
 mul-put-lines : tie.Need-mul-put-lines
-mul-put-lines c = let a = c .before .before .before .before .before .before .before .before .args in
-    let f = kept-few (a .tolerance) (a .chain .now) in
-    let e = c .before .before .thin-in-place .ensures .count in omega (arith, c .before .before .before .before .before .before .before .before .pre)
+mul-put-lines c = let a = c .before .before .before .before .before .before .before .before .before .args in
+    let f = kept-few (a .rule) (a .chain .now) in
+    let e = c .before .before .thin-in-place .ensures .count in omega (arith, c .before .before .before .before .before .before .before .before .before .pre)
 
 slice-reshare-prefix-put-lines : tie.Need-slice-reshare-prefix-put-lines
-slice-reshare-prefix-put-lines c = let a = c .before .before .before .before .before .before .before .before .args in kept-fits (a .tolerance) (a .chain .now) _ _ _ (c .before .before .thin-in-place .ensures) (omega arith)
+slice-reshare-prefix-put-lines c = let a = c .before .before .before .before .before .before .before .before .before .args in kept-fits (a .rule) (a .chain .now) _ _ _ (c .before .before .thin-in-place .ensures) (omega arith)
 
 slice-aggregate-put-lines : tie.Need-slice-aggregate-put-lines
-slice-aggregate-put-lines c = let a = c .before .before .before .before .before .before .before .before .before .args in sym (kept-wide (a .tolerance) (a .chain .now) _ _ _ (c .before .before .before .thin-in-place .ensures) (omega arith))
+slice-aggregate-put-lines c = let a = c .before .before .before .before .before .before .before .before .before .before .args in sym (kept-wide (a .rule) (a .chain .now) _ _ _ (c .before .before .before .thin-in-place .ensures) (omega arith))
 
 put-lines-requires : tie.Need-put-lines-requires
-put-lines-requires c κs = let a = c .before .before .before .before .before .before .before .before .before .before .before .before .args in
-    let f = kept-few (a .tolerance) (a .chain .now) in
+put-lines-requires c κs = let a = c .before .before .before .before .before .before .before .before .before .before .before .before .before .args in
+    let f = kept-few (a .rule) (a .chain .now) in
     let e = c .before .before .before .before .before .before .thin-in-place .ensures .count in
-    let w = kept-wide (a .tolerance) (a .chain .now) _ _ _ (c .before .before .before .before .before .before .thin-in-place .ensures) (omega arith) in
-    let p = c .before .before .before .before .before .before .before .before .before .before .before .before .pre in (omega arith, omega (arith, p), omega (arith, p))
+    let w = kept-wide (a .rule) (a .chain .now) _ _ _ (c .before .before .before .before .before .before .thin-in-place .ensures) (omega arith) in
+    let p = c .before .before .before .before .before .before .before .before .before .before .before .before .before .pre in (omega arith, omega (arith, p), omega (arith, p))
 
 same-length : tie.Need-same-length
 same-length c = search needs
@@ -43,8 +43,8 @@ same-length-4 : tie.Need-same-length-4
 same-length-4 c = search needs
 
 returns : tie.Need-returns
-returns c = let a = c .before .before .before .before .before .before .before .before .before .before .before .before .before .before .before .before .before .before .before .args in
-    same-noted _ _ (a .at) _ (a .kinds .now) _ (a .nums .now) _ (a .steps .now) _ (thinned-lines (a .tolerance) (a .chain .now) _ _ _ (c .before .before .before .before .before .before .before .before .before .before .before .before .before .thin-in-place .ensures) (omega arith)) (c .before .before .before .before .before .before .put-lines .ensures)
+returns c = let a = c .before .before .before .before .before .before .before .before .before .before .before .before .before .before .before .before .before .before .before .before .args in
+    same-noted _ _ (a .at) _ (a .kinds .now) _ (a .nums .now) _ (a .steps .now) _ (thinned-lines (a .rule) (a .chain .now) _ _ _ (c .before .before .before .before .before .before .before .before .before .before .before .before .before .thin-in-place .ensures) (omega arith)) (c .before .before .before .before .before .before .put-lines .ensures)
 
 pub thin-chain-spec : {M : Type 1} → statement M
 thin-chain-spec =

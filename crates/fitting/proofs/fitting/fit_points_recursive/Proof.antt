@@ -5,7 +5,7 @@ use native.Mathlib.Omega.{arith}
 use lib.ListN.{length}
 use Rattle.geo.specs.Lent.{pointAt}
 use Rattle.geo.proofs.Outcomes.{commands-refused}
-use Rattle.simplify.specs.Measure.{lineSq}
+use Rattle.fitting.specs.Pieces.{pointsRule}
 use Rattle.fitting.specs.Calls.{fitCall}
 use Rattle.fitting.proofs.Fitted.{noted-fit}
 use Rattle.fitting.proofs.Writing.{commands-placed}
@@ -23,18 +23,21 @@ returns c = commands-refused _ _ (c .before .check-fit .ensures) _ _ _ (c .if1 .
 returns-2 : tie.Need-returns-2
 returns-2 c = let a = c .before .before .before .before .before .before .args in wrote-no-fit (a .points .now) (a .tolerance) (a .start) (a .end) (a .kinds .now) _ (a .nums .now) _ _ 0 (c .before .before .check-fit .ensures) (c .before .if1 .left) (c .if2 .taken) refl refl
 
+of-points-requires : tie.Need-of-points-requires
+of-points-requires c κs = search needs
+
 slice-aggregate-fit-range : tie.Need-slice-aggregate-fit-range
 slice-aggregate-fit-range c = search needs
 
 fit-range-requires : tie.Need-fit-range-requires
-fit-range-requires c κs = let a = c .before .before .before .before .before .before .before .before .before .args in
-    let r = fit-accepted (a .points .now) (a .tolerance) (a .start) (a .end) (length (a .kinds .now)) (length (a .nums .now)) _ (c .before .before .before .before .before .check-fit .ensures) (c .before .before .before .before .if1 .left) in
-    let l = c .before .before .before .if2 .left in
+fit-range-requires c κs = let a = c .before .before .before .before .before .before .before .before .before .before .args in
+    let r = fit-accepted (a .points .now) (a .tolerance) (a .start) (a .end) (length (a .kinds .now)) (length (a .nums .now)) _ (c .before .before .before .before .before .before .check-fit .ensures) (c .before .before .before .before .before .if1 .left) in
+    let l = c .before .before .before .before .if2 .left in
     let n = r .ends-inside (omega (arith, l)) in
     let f = r .few in
     let k = r .room-kinds in
     let m = r .room-numbers in
-    (r .above-zero, (omega (arith, l), omega arith, omega arith, omega arith, omega arith))
+    (rw (c .before .before .before .of-points .ensures) (r .above-zero), (omega (arith, l), omega arith, omega arith, omega arith, omega arith))
 
 same-length : tie.Need-same-length
 same-length c = search needs
@@ -43,9 +46,9 @@ same-length-2 : tie.Need-same-length-2
 same-length-2 c = search needs
 
 returns-3 : tie.Need-returns-3
-returns-3 c = let a = c .before .before .before .before .before .before .before .before .before .before .before .before .before .before .before .args in
-    let p = commands-placed _ _ 0 _ (a .kinds .now) _ (a .nums .now) _ _ _ (noted-fit lineSq (a .tolerance) (pointAt (a .points .now)) (a .start) (a .end)) (c .before .before .before .before .before .fit-range .ensures) in
-    wrote-fit (a .points .now) (a .tolerance) (a .start) (a .end) (a .kinds .now) _ (a .nums .now) _ _ _ (c .before .before .before .before .before .before .before .before .before .before .before .check-fit .ensures) (c .before .before .before .before .before .before .before .before .before .before .if1 .left) (omega (arith, c .before .before .before .before .before .before .before .before .before .if2 .left)) p
+returns-3 c = let a = c .before .before .before .before .before .before .before .before .before .before .before .before .before .before .before .before .args in
+    let p = commands-placed _ _ 0 _ (a .kinds .now) _ (a .nums .now) _ _ _ (noted-fit (pointsRule (a .tolerance)) (pointAt (a .points .now)) (a .start) (a .end)) (rw (c .before .before .before .before .before .before .before .before .before .of-points .ensures) at (c .before .before .before .before .before .fit-range .ensures)) in
+    wrote-fit (a .points .now) (a .tolerance) (a .start) (a .end) (a .kinds .now) _ (a .nums .now) _ _ _ (c .before .before .before .before .before .before .before .before .before .before .before .before .check-fit .ensures) (c .before .before .before .before .before .before .before .before .before .before .before .if1 .left) (omega (arith, c .before .before .before .before .before .before .before .before .before .before .if2 .left)) p
 
 pub fit-points-recursive-spec : {M : Type 1} → statement M
 fit-points-recursive-spec =
@@ -54,6 +57,7 @@ fit-points-recursive-spec =
     check-fit-requires
     returns
     returns-2
+    of-points-requires
     slice-aggregate-fit-range
     fit-range-requires
     same-length

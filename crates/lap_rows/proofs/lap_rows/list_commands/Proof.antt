@@ -1,6 +1,7 @@
 -- `lap_rows::lap_rows::list_commands` meets its contract: what was read into the arrays are the commands of the lap, and the rows are what their fit notes. Assumes nothing.
 use mathlib.Core.Path.{sym, ap}
 use native.Mathlib.Omega.{arith}
+use Rattle.fitting.specs.Pieces.{lapsRule}
 use Rattle.course.specs.Course.{lentCourse}
 use Rattle.listing.specs.Rows.{courseRows}
 use Rattle.listing.proofs.Noted.{rows-placed}
@@ -17,25 +18,28 @@ read-commands-requires c κs = search needs
 mul-m : tie.Need-mul-m
 mul-m c = search needs
 
+of-laps-requires : tie.Need-of-laps-requires
+of-laps-requires c κs = search needs
+
 slice-reshare-prefix-fit-course-with-steps : tie.Need-slice-reshare-prefix-fit-course-with-steps
 slice-reshare-prefix-fit-course-with-steps c = search needs
 
 slice-aggregate-fit-course-with-steps : tie.Need-slice-aggregate-fit-course-with-steps
-slice-aggregate-fit-course-with-steps c = let a = c .before .before .before .before .before .before .before .before .before .before .before .before .before .before .before .args in let p = c .before .before .before .before .before .before .before .before .before .before .before .before .before .before .before .pre in sym (long-kinds (a .s .now) (a .at) (a .n) _ _ _ _ (p .2) (p .3) (c .before .before .before .before .before .read-commands .ensures .0) (c .before .before .before .before .before .read-commands .ensures .1))
+slice-aggregate-fit-course-with-steps c = let a = c .before .before .before .before .before .before .before .before .before .before .before .before .before .before .before .before .args in let p = c .before .before .before .before .before .before .before .before .before .before .before .before .before .before .before .before .pre in sym (long-kinds (a .s .now) (a .at) (a .n) _ _ _ _ (p .2) (p .3) (c .before .before .before .before .before .before .read-commands .ensures .0) (c .before .before .before .before .before .before .read-commands .ensures .1))
 
 slice-reshare-prefix-fit-course-with-steps-2 :
     tie.Need-slice-reshare-prefix-fit-course-with-steps-2
 slice-reshare-prefix-fit-course-with-steps-2 c = search needs
 
 slice-aggregate-fit-course-with-steps-2 : tie.Need-slice-aggregate-fit-course-with-steps-2
-slice-aggregate-fit-course-with-steps-2 c = let a = c .before .before .before .before .before .before .before .before .before .before .before .before .before .before .before .before .args in let p = c .before .before .before .before .before .before .before .before .before .before .before .before .before .before .before .before .pre in sym (long-numbers (a .s .now) (a .at) (a .n) _ _ _ _ (p .2) (p .3) (c .before .before .before .before .before .before .read-commands .ensures .0) (c .before .before .before .before .before .before .read-commands .ensures .1))
+slice-aggregate-fit-course-with-steps-2 c = let a = c .before .before .before .before .before .before .before .before .before .before .before .before .before .before .before .before .before .args in let p = c .before .before .before .before .before .before .before .before .before .before .before .before .before .before .before .before .before .pre in sym (long-numbers (a .s .now) (a .at) (a .n) _ _ _ _ (p .2) (p .3) (c .before .before .before .before .before .before .before .read-commands .ensures .0) (c .before .before .before .before .before .before .before .read-commands .ensures .1))
 
 fit-course-with-steps-requires : tie.Need-fit-course-with-steps-requires
-fit-course-with-steps-requires c κs = let a = c .before .before .before .before .before .before .before .before .before .before .before .before .before .before .before .before .before .before .before .before .args in let p = c .before .before .before .before .before .before .before .before .before .before .before .before .before .before .before .before .before .before .before .before .pre in let r = c .before .before .before .before .before .before .before .before .before .before .read-commands .ensures in
+fit-course-with-steps-requires c κs = let a = c .before .before .before .before .before .before .before .before .before .before .before .before .before .before .before .before .before .before .before .before .before .args in let p = c .before .before .before .before .before .before .before .before .before .before .before .before .before .before .before .before .before .before .before .before .before .pre in let r = c .before .before .before .before .before .before .before .before .before .before .before .read-commands .ensures in
     let x = long-kinds (a .s .now) (a .at) (a .n) _ _ _ _ (p .2) (p .3) (r .0) (r .1) in
     let y = long-numbers (a .s .now) (a .at) (a .n) _ _ _ _ (p .2) (p .3) (r .0) (r .1) in
     let z = most-read (a .s .now) (a .at) (a .n) _ _ _ _ (p .2) (p .3) (r .0) (r .1) (a .tolerance) in
-    (p .0, (omega arith, omega (arith, p .4), omega (arith, p .5), omega (arith, p .6), p .7))
+    rw (c .before .before .before .before .before .before .of-laps .ensures) (p .0, (omega arith, omega (arith, p .4), omega (arith, p .5), omega (arith, p .6), p .7))
 
 same-length : tie.Need-same-length
 same-length c = search needs
@@ -57,8 +61,8 @@ same-length-6 c = search needs
 
 returns : tie.Need-returns
 unfolding lapRows
-returns c = let a = c .before .before .before .before .before .before .before .before .before .before .before .before .before .before .before .before .before .before .before .before .before .before .before .before .before .before .before .before .before .args in let p = c .before .before .before .before .before .before .before .before .before .before .before .before .before .before .before .before .before .before .before .before .before .before .before .before .before .before .before .before .before .pre in let r = c .before .before .before .before .before .before .before .before .before .before .before .before .before .before .before .before .before .before .before .read-commands .ensures in
-    placed-same _ _ _ _ _ _ _ (ap (courseRows (a .tolerance)) (read-back (a .s .now) (a .at) (a .n) _ _ _ _ (p .2) (p .3) (r .0) (r .1))) (rows-placed (a .tolerance) _ _ (a .out-kinds .now) _ (a .out-nums .now) _ (a .out-steps .now) _ (c .before .before .before .before .before .before .before .before .fit-course-with-steps .ensures))
+returns c = let a = c .before .before .before .before .before .before .before .before .before .before .before .before .before .before .before .before .before .before .before .before .before .before .before .before .before .before .before .before .before .before .args in let p = c .before .before .before .before .before .before .before .before .before .before .before .before .before .before .before .before .before .before .before .before .before .before .before .before .before .before .before .before .before .before .pre in let r = c .before .before .before .before .before .before .before .before .before .before .before .before .before .before .before .before .before .before .before .before .read-commands .ensures in
+    placed-same _ _ _ _ _ _ _ (ap (courseRows (lapsRule (a .tolerance))) (read-back (a .s .now) (a .at) (a .n) _ _ _ _ (p .2) (p .3) (r .0) (r .1))) (rows-placed (lapsRule (a .tolerance)) _ _ (a .out-kinds .now) _ (a .out-nums .now) _ (a .out-steps .now) _ (rw (c .before .before .before .before .before .before .before .before .before .before .before .before .before .before .before .of-laps .ensures) at (c .before .before .before .before .before .before .before .before .fit-course-with-steps .ensures)))
 
 pub list-commands-spec : {M : Type 1} → statement M
 list-commands-spec =
@@ -66,6 +70,7 @@ list-commands-spec =
     (tie.spec
     read-commands-requires
     mul-m
+    of-laps-requires
     slice-reshare-prefix-fit-course-with-steps
     slice-aggregate-fit-course-with-steps
     slice-reshare-prefix-fit-course-with-steps-2

@@ -1,79 +1,25 @@
--- `simplify::simplify::farthest_between` meets its contract. The invariant: the points left, searched from the best so far, end where the whole search ends, and the search is sound. The measure is how many are left. Assumes nothing.
-use Prim.Native.Nat.{_-_, _<_}
-use mathlib.Core.Path.{_≡_}
-use native.Mathlib.Omega.{arith}
+-- `simplify::simplify::farthest_between` meets its contract: what the search by each distance promises. Assumes nothing.
 use borrow.Author.Needs.{needs}
+use Prim.Native.Nat.{ℕ}
+use mathlib.Core.Path.{_≡_}
+use Rattle.geo.specs.declared.types.Point3D.{Point3D}
 use Rattle.geo.specs.Lent.{pointAt}
-use Rattle.simplify.specs.Measure.{lineSq}
-use Rattle.simplify.specs.Farthest.{farthestOf, farthestIn}
-use Rattle.simplify.specs.Search.{Sound}
-use Rattle.simplify.proofs.Scan.{scan-start, scan-turn, scan-done, measured}
-use Rattle.simplify.proofs.Search.{sound-start}
+use Rattle.simplify.specs.declared.simplify.Farthest.{Farthest}
+use Rattle.simplify.specs.declared.simplify.Ruler.{Ruler}
+use Rattle.simplify.specs.declared.simplify.Ruler.the-variants.{Line}
+use Rattle.simplify.specs.Measure.{lineSq, measureOf}
+use Rattle.simplify.specs.Farthest.{farthestIn}
 use Rattle.simplify.proofs.simplify.farthest_between.Statement.{statement}
 use Rattle.simplify.proofs.simplify.farthest_between.Tie as tie
 
-abbrev Inv-loop : tie.InvT-loop
-Inv-loop points start end chord search₀ i₀ search i = (start < i)
-    × (farthestOf (λ j. lineSq (pointAt points start) (pointAt points end) (pointAt points j)) (end - i) i (search .best) ≡ farthestIn lineSq (pointAt points) start end)
-    × Sound chord search
+by-line : (r : Ruler) (at : ℕ → Point3D) (lo hi : ℕ) (w : Farthest) → w ≡ farthestIn lineSq at lo hi → w ≡ farthestIn (measureOf r) at lo hi
+by-line Line at lo hi w e = e
 
-abbrev μ-loop : tie.MeasureT-loop
-μ-loop points start end chord search₀ i₀ search i = end - i
+farthest-from-line-requires : tie.Need-farthest-from-line-requires
+farthest-from-line-requires c κs = search needs
 
-point-at-requires : tie.Need-point-at-requires Inv-loop μ-loop
-point-at-requires c κs = omega arith
-
-point-at-requires-2 : tie.Need-point-at-requires-2 Inv-loop μ-loop
-point-at-requires-2 c κs = omega arith
-
-new-requires : tie.Need-new-requires Inv-loop μ-loop
-new-requires c κs = search needs
-
-new-requires-2 : tie.Need-new-requires-2 Inv-loop μ-loop
-new-requires-2 c κs = search needs
-
-add-i : tie.Need-add-i Inv-loop μ-loop
-add-i c = omega arith
-
-loop-holds : tie.Need-loop-holds Inv-loop μ-loop
-loop-holds c = let a = c .before .before .before .before .before .args in
-    (omega arith, scan-start lineSq (pointAt (a .points .now)) (a .start) (a .end) _ (c .new2 .ensures), sound-start _ (a .start) _ (c .new2 .ensures))
-
-point-at-requires-3 : tie.Need-point-at-requires-3 Inv-loop μ-loop
-point-at-requires-3 c κs = omega arith
-
-look-requires : tie.Need-look-requires Inv-loop μ-loop
-look-requires c κs = c .before .before .loop .inv .2
-
-add-i-2 : tie.Need-add-i-2 Inv-loop μ-loop
-add-i-2 c = omega arith
-
-loop-less : tie.Need-loop-less Inv-loop μ-loop
-loop-less c = omega arith
-
-loop-again : tie.Need-loop-again Inv-loop μ-loop
-loop-again c = let a = c .before .before .before .before .before .before .before .before .before .args in
-    let at = pointAt (a .points .now) in
-    (omega arith, scan-turn (λ j. lineSq (at (a .start)) (at (a .end)) (at j)) (a .end) _ _ _ _ _ (c .before .before .loop-test .taken) (measured (c .before .before .before .before .before .new .ensures) (c .before .before .before .before .before .before .before .point-at .ensures) (c .before .before .before .before .before .before .point-at2 .ensures) (c .before .point-at3 .ensures)) (c .look .ensures .0) (c .before .before .before .loop .inv .1), c .look .ensures .1)
-
-returns : tie.Need-returns Inv-loop μ-loop
-returns c = scan-done _ (c .before .before .before .before .before .before .before .before .args .end) _ _ _ (c .before .loop-test .left) (c .before .before .loop .inv .1)
+returns : tie.Need-returns
+returns c = let a = c .before .before .args in by-line (a .ruler) (pointAt (a .points .now)) (a .start) (a .end) _ (c .farthest-from-line .ensures)
 
 pub farthest-between-spec : {M : Type 1} → statement M
-farthest-between-spec =
-    tie.close
-    (tie.spec
-    Inv-loop
-    μ-loop
-    point-at-requires
-    point-at-requires-2
-    new-requires
-    new-requires-2
-    add-i
-    loop-holds
-    point-at-requires-3
-    look-requires
-    add-i-2
-    loop-less
-    loop-again
-    returns)
+farthest-between-spec = tie.close (tie.spec farthest-from-line-requires returns)

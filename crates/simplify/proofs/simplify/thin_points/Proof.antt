@@ -36,7 +36,7 @@ slice-aggregate-copy-points : tie.Need-slice-aggregate-copy-points
 slice-aggregate-copy-points c = search needs
 
 copy-points-requires : tie.Need-copy-points-requires
-copy-points-requires c κs = let e : length (c .before .before .before .mark .last .1 .1 .1 .1 .0) ≡ 2048 = c .before .before .before .mark .kept .1 .1 .1 .1 .0 ∙ length-set (replicate 2048 false) 0 true ∙ length-replicate 2048 false in
+copy-points-requires c κs = let e : length (c .before .before .before .mark .last .1 .1 .1 .1 .1 .0) ≡ 2048 = c .before .before .before .mark .kept .1 .1 .1 .1 .1 .0 ∙ length-set (replicate 2048 false) 0 true ∙ length-replicate 2048 false in
     simp length-set (omega (arith, e))
 
 same-length : tie.Need-same-length

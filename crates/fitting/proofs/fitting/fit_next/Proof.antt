@@ -1,0 +1,126 @@
+-- `fitting::fitting::fit_next` meets its contract: what is put or cut is the choice of the definition. Assumes nothing.
+use mathlib.Core.Path.{_≡_, refl, ap, _∙_}
+use native.Mathlib.Omega.{arith}
+use Rattle.geo.specs.declared.types.Point3D.{Point3D}
+use Rattle.geo.specs.declared.types.Command.the-variants.{Line}
+use Rattle.geo.specs.Lent.{pointAt}
+use Rattle.fitting.specs.Pieces.{line}
+use Rattle.fitting.specs.Commands.{shaped}
+use Rattle.fitting.proofs.Recursion.{farthest-inside}
+use Rattle.fitting.proofs.Ranges.{takes-line, takes-arc, takes-cut, looked-whole, looked-cut}
+use borrow.Author.Needs.{needs}
+use Rattle.fitting.proofs.fitting.fit_next.Statement.{statement}
+use Rattle.fitting.proofs.fitting.fit_next.Tie as tie
+
+line-command : (a b p : Point3D) → p ≡ b → Line p ≡ shaped a b line
+unfolding shaped
+line-command a b p e = ap Line e
+
+line-deviation-requires : tie.Need-line-deviation-requires
+line-deviation-requires c κs = search needs
+
+point-at-requires : tie.Need-point-at-requires
+point-at-requires c κs = search needs
+
+put-piece-requires : tie.Need-put-piece-requires
+put-piece-requires c κs = search needs
+
+same-length : tie.Need-same-length
+same-length c = search needs
+
+same-length-2 : tie.Need-same-length-2
+same-length-2 c = search needs
+
+same-length-3 : tie.Need-same-length-3
+same-length-3 c = search needs
+
+same-length-4 : tie.Need-same-length-4
+same-length-4 c = search needs
+
+returns : tie.Need-returns
+returns c = let a = c .before .before .before .before .before .before .before .before .before .before .before .before .before .before .before .before .before .before .before .before .before .args in
+    let w = a .w in
+    let at = pointAt (a .points .now) in
+    looked-whole (a .rule) at w _ (a .ends .now) _ (a .kinds .now) _ (a .nums .now) _ (a .steps .now) _ line _
+    (takes-line (a .rule) at (w .lo) (w .hi) _ (c .before .before .before .before .before .before .before .before .before .before .before .before .before .before .before .line-deviation .ensures) (c .before .before .before .before .before .before .before .before .before .before .before .if1 .taken)) (line-command _ _ _ (c .before .before .before .before .before .before .before .before .before .before .before .before .before .before .point-at .ensures)) refl (c .before .before .before .before .before .before .put-piece .ensures .0) (c .before .before .before .before .before .before .put-piece .ensures .1)
+
+try-rule-requires : tie.Need-try-rule-requires
+try-rule-requires c κs = let a = c .before .before .before .before .before .before .before .before .before .before .args in
+    let p = c .before .before .before .before .before .before .before .before .before .before .pre in
+    let i = farthest-inside (a .rule) (p .0) (pointAt (a .points .now)) (a .w .lo) (a .w .hi) _ (c .before .before .before .before .line-deviation .ensures) (c .if1 .left) in
+    (p .1 .0, p .1 .1, i .0, i .1, p .1 .2)
+
+enum-known-t : tie.Need-enum-known-t
+enum-known-t c = search needs
+
+point-at-requires-2 : tie.Need-point-at-requires-2
+point-at-requires-2 c κs = search needs
+
+arc-command-requires : tie.Need-arc-command-requires
+arc-command-requires c κs = search needs
+
+put-piece-requires-2 : tie.Need-put-piece-requires-2
+put-piece-requires-2 c κs = let p = c .before .before .before .before .before .before .before .before .before .before .before .before .before .before .before .before .before .before .before .before .pre .1 in (p .0, p .1, omega (arith, p .3), p .4, p .5)
+
+enum-told : tie.Need-enum-told
+enum-told c = search needs
+
+cut-requires : tie.Need-cut-requires
+cut-requires c κs = search needs
+
+same-length-5 : tie.Need-same-length-5
+same-length-5 c = search needs
+
+same-length-6 : tie.Need-same-length-6
+same-length-6 c = search needs
+
+same-length-7 : tie.Need-same-length-7
+same-length-7 c = search needs
+
+same-length-8 : tie.Need-same-length-8
+same-length-8 c = search needs
+
+returns-2 : tie.Need-returns-2
+returns-2 c = let a = c .before .before .before .before .before .before .before .before .before .before .before .before .before .before .before .before .before .before .before .before .before .before .before .before .before .before .before .args in
+    let w = a .w in
+    let at = pointAt (a .points .now) in
+    looked-whole (a .rule) at w _ (a .ends .now) _ (a .kinds .now) _ (a .nums .now) _ (a .steps .now) _ _ _
+    (takes-arc (a .rule) at (w .lo) (w .hi) _ (c .before .before .before .before .before .before .before .before .before .before .before .before .before .before .before .before .before .before .before .before .before .line-deviation .ensures) _ (c .before .before .before .before .before .before .before .before .before .before .before .before .before .before .before .before .try-rule .ensures) (c .before .before .before .before .before .before .before .before .before .before .before .before .before .before .before .before .before .if1 .left) _ _ (c .before .before .before .before .before .before .before .before .before .before .before .before .before .before .t .given .1))
+    (c .before .before .before .before .before .before .before .before .before .before .before .arc-command .ensures ∙ rw (c .before .before .before .before .before .before .before .before .before .before .before .before .point-at2 .ensures, c .before .before .before .before .before .before .before .before .before .before .before .before .before .before .before .before .before .before .before .before .point-at .ensures)) refl (c .before .before .before .before .before .before .put-piece2 .ensures .0) (c .before .before .before .before .before .before .put-piece2 .ensures .1)
+
+same-length-9 : tie.Need-same-length-9
+same-length-9 c = search needs
+
+returns-3 : tie.Need-returns-3
+returns-3 c = let a = c .before .before .before .before .before .before .before .before .before .before .before .before .before .before .before .before .before .args in
+    let w = a .w in
+    let at = pointAt (a .points .now) in
+    looked-cut (a .rule) at w _ (a .ends .now) _ (a .kinds .now) _ (a .nums .now) _ (a .steps .now) _ _
+    (takes-cut (a .rule) at (w .lo) (w .hi) _ (c .before .before .before .before .before .before .before .before .before .before .before .line-deviation .ensures) _ (c .before .before .before .before .before .before .try-rule .ensures) (c .before .before .before .before .before .before .before .if1 .left) (c .before .before .before .before .enum-told .given .1)) (c .before .before .cut .ensures .1) (c .before .before .cut .ensures .0) refl refl refl
+
+pub fit-next-spec : {M : Type 1} → statement M
+fit-next-spec =
+    tie.close
+    (tie.spec
+    line-deviation-requires
+    point-at-requires
+    put-piece-requires
+    same-length
+    same-length-2
+    same-length-3
+    same-length-4
+    returns
+    try-rule-requires
+    enum-known-t
+    point-at-requires-2
+    arc-command-requires
+    put-piece-requires-2
+    enum-told
+    cut-requires
+    same-length-5
+    same-length-6
+    same-length-7
+    same-length-8
+    returns-2
+    same-length-9
+    returns-3)
