@@ -91,11 +91,12 @@ uint32_t rt_replace_lap(
     double tolerance,
     uint8_t *out, size_t out_bytes, size_t *count);
 
-/* Fits points in space; *count is the commands. The first point is where the first command starts. */
+/* Fits points in space; *count is the commands. The first point is where the first command starts. *ranges is how many
+   ranges of points the fit looked at, for planning the battery: 0 below two points, else 2 * commands - 1. */
 uint32_t rt_fit_points_with_primitives(
     const double *points, size_t points_length,
     double tolerance,
-    uint8_t *kinds, size_t kinds_length, double *nums, size_t nums_length, size_t *count);
+    uint8_t *kinds, size_t kinds_length, double *nums, size_t nums_length, size_t *count, size_t *ranges);
 
 /* Fits a course: a list of commands, which needs no Move; *count is the commands. Arcs stay as they are. */
 uint32_t rt_fit_arcs(

@@ -14,7 +14,7 @@ static double points[3 * PZ_MOST_POINTS], planar[2 * PZ_MOST_POINTS], out_nums[9
 static uint8_t kinds[PZ_MOST_COMMANDS], out_kinds[PZ_MOST_POINTS];
 static double nums[9 * PZ_MOST_COMMANDS];
 static unsigned char file[PZ_MOST_FILE_BYTES], fitted[PZ_MOST_OUTPUT_BYTES], out[PZ_MOST_OUTPUT_BYTES];
-static size_t file_size, fitted_size, count;
+static size_t file_size, fitted_size, count, ranges;
 static uint32_t answer;
 
 /* A zigzag that grows, or falls: its farthest point is always the one beside an end, so each cut takes one point off. */
@@ -68,7 +68,7 @@ static void *thin_data(void *a)
 static void *fit_points(void *a)
 {
     answer = rt_fit_points_with_primitives(points, 3 * PZ_MOST_POINTS, 0.5,
-        out_kinds, PZ_MOST_POINTS, out_nums, 9 * PZ_MOST_POINTS, &count);
+        out_kinds, PZ_MOST_POINTS, out_nums, 9 * PZ_MOST_POINTS, &count, &ranges);
     return a;
 }
 

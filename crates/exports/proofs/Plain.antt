@@ -1,13 +1,19 @@
 -- The promises of an export, from what its outcome was. Assumes nothing.
 use Prim.Native.Nat.{ℕ}
-use mathlib.Core.Path.{_≡_, ap, _∙_}
-use mathlib.Core.List.{List}
+use mathlib.Core.Path.{_≡_, refl, sym, ap, _∙_}
+use mathlib.Core.List.{List, map}
+use native.Mathlib.Omega.{arith}
+use lib.ListN.{length}
 use lib.Seq.{sets}
 use lib.Ieee.{Float}
 use Rattle.geo.specs.declared.types.Answer.{Answer}
 use Rattle.geo.specs.declared.types.Command.{Command}
-use Rattle.geo.specs.Outcome.{Outcome, refused, gives, answer, Wrote}
+use Rattle.geo.specs.Outcome.{Outcome, refused, gives, answer, left, Wrote}
+use Rattle.geo.specs.Lent.{flat, kindOf, numbersOf}
 use Rattle.geo.specs.Commands.{WroteCommands}
+use Rattle.fitting.specs.declared.fitting.Primitives.{Primitives}
+use Rattle.fitting.specs.declared.fitting.Primitives.the-variants as fit
+use Rattle.fitting.specs.Calls.{primitivesAnswer}
 use Rattle.exports.specs.Plain.{numberOf, laidPlain, told, refusedBy, countOr, Gave, Told, Handed, Listed, ListedCommands}
 
 module _ {A : Type 0} (lay : A → List Float) (o : Outcome A) (out : List Float) where
@@ -43,3 +49,28 @@ listed-commands (refused n) ks ks′ ns ns′ a count count′ r w h =
     record { says = h .says ∙ ap refusedBy (w .says); counts = h .leaves ∙ ap (countOr count) (w .says); kinds = w .kinds; numbers = w .numbers }
 listed-commands (gives xs) ks ks′ ns ns′ a count count′ r w h =
     record { says = h .says ∙ ap refusedBy (w .says); counts = h .leaves ∙ ap (countOr count) (w .says); kinds = w .kinds; numbers = w .numbers }
+
+-- ---- a fit that tells its ranges too, p being what it answered
+module _ (o : Outcome (List Command)) (ranges : ℕ) (p : Primitives) (e : p ≡ primitivesAnswer o ranges) (ks ks′ : List ℕ) (ns ns′ : List Float) (is : ks′ ≡ left (map kindOf) ks o)
+    (are : ns′ ≡ left (flat numbersOf) ns o) (count looked : ℕ) where
+  pub listed-fit : (n k : ℕ) → p ≡ fit.Fitted n k → ListedCommands o ks ks′ ns ns′ count n 0 × Told (λ (_ : List Command). ranges) o looked k 0
+  unfolding primitivesAnswer numberOf told
+  listed-fit n k q = go o refl
+    where
+      go : (u : Outcome (List Command)) → o ≡ u → ListedCommands o ks ks′ ns ns′ count n 0 × Told (λ (_ : List Command). ranges) o looked k 0
+      go (refused m) h = let d : fit.Fitted n k ≡ fit.Refused m = sym q ∙ e ∙ ap (λ (v : Outcome (List Command)). primitivesAnswer v ranges) h in let z : _≡_ {A = ℕ} 0 1 = cc in absurd (omega arith)
+      go (gives xs) h =
+          let d : fit.Fitted n k ≡ fit.Fitted (length xs) ranges = sym q ∙ e ∙ ap (λ (v : Outcome (List Command)). primitivesAnswer v ranges) h in
+          let z : n ≡ length xs = cc in
+          let y : k ≡ ranges = cc in
+          (record { says = rw h; counts = rw h z; kinds = is; numbers = are }, record { says = rw h; leaves = rw h y })
+
+  pub listed-no-fit : (n : ℕ) → p ≡ fit.Refused n → ListedCommands o ks ks′ ns ns′ count count n × Told (λ (_ : List Command). ranges) o looked looked n
+  unfolding primitivesAnswer numberOf told
+  listed-no-fit n q = go o refl
+    where
+      go : (u : Outcome (List Command)) → o ≡ u → ListedCommands o ks ks′ ns ns′ count count n × Told (λ (_ : List Command). ranges) o looked looked n
+      go (refused m) h =
+          let d : fit.Refused n ≡ fit.Refused m = sym q ∙ e ∙ ap (λ (v : Outcome (List Command)). primitivesAnswer v ranges) h in
+          let z : n ≡ m = cc in (record { says = rw h z; counts = rw h; kinds = is; numbers = are }, record { says = rw h z; leaves = rw h })
+      go (gives xs) h = let d : fit.Refused n ≡ fit.Fitted (length xs) ranges = sym q ∙ e ∙ ap (λ (v : Outcome (List Command)). primitivesAnswer v ranges) h in let z : _≡_ {A = ℕ} 0 1 = cc in absurd (omega arith)

@@ -2,9 +2,10 @@
 use crate::counts::hand_on;
 use fitting::fitting::ArcDeviation;
 use fitting::fitting::LineDeviation;
+use fitting::fitting::Primitives;
 use geo::types::Point;
 ghost use lib.ListN.{length};
-ghost use Rattle.fitting.specs.Calls.{lineCall, arcCall, fitCall, primitivesCall};
+ghost use Rattle.fitting.specs.Calls.{lineCall, arcCall, fitCall, primitivesCall, examined};
 ghost use Rattle.exports.specs.Plain.{planePoint, Told, ListedCommands};
 
 // The greatest distance of a planePoint from the line through the points at start and end, and the first planePoint that has it.
@@ -69,7 +70,7 @@ pub extern "C" fn rt_fit_points_recursive(
     hand_on(a, count)
 }
 
-// Fits all points.
+// Fits all points, and tells how many ranges were examined.
 #[no_mangle]
 pub extern "C" fn rt_fit_points_with_primitives(
     points: &[f64],
@@ -77,9 +78,21 @@ pub extern "C" fn rt_fit_points_with_primitives(
     kinds: &mut [u8],
     nums: &mut [f64],
     count: &mut usize,
+    ranges: &mut usize,
 ) -> u32
-    ensures { λ r. ⌜ ListedCommands (primitivesCall (now (points .entry)) tolerance (length (now (kinds .entry))) (length (now (nums .entry)))) (now (kinds .entry)) (now (kinds .exit)) (now (nums .entry)) (now (nums .exit)) (now (count .entry)) (now (count .exit)) r ⌝ }
+    ensures commands { λ r. ⌜ ListedCommands (primitivesCall (now (points .entry)) tolerance (length (now (kinds .entry))) (length (now (nums .entry)))) (now (kinds .entry)) (now (kinds .exit)) (now (nums .entry)) (now (nums .exit)) (now (count .entry)) (now (count .exit)) r ⌝ }
+    ensures ranges { λ r. ⌜ Told (λ _. examined (now (points .entry)) tolerance) (primitivesCall (now (points .entry)) tolerance (length (now (kinds .entry))) (length (now (nums .entry)))) (now (ranges .entry)) (now (ranges .exit)) r ⌝ }
 {
     let a = fitting::fitting::fit_points_with_primitives(points, tolerance, kinds, nums);
-    hand_on(a, count)
+    match a {
+        Primitives::Fitted {
+            count: n,
+            ranges: looked,
+        } => {
+            *count = n;
+            *ranges = looked;
+            0
+        }
+        Primitives::Refused(n) => n,
+    }
 }

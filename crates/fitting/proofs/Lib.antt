@@ -6,3 +6,4 @@ pub mod Writing
 pub mod Ranges
 pub mod Accepted
 pub mod Chain
+pub mod Examined

@@ -16,7 +16,8 @@ use Rattle.circle.specs.Calls.{pointsRows}
 use Rattle.trial.specs.Deviation.{arcDeviation}
 use Rattle.fitting.specs.declared.fitting.LineDeviation as measured
 use Rattle.fitting.specs.declared.fitting.ArcDeviation as around
-use Rattle.fitting.specs.Pieces.{pointsRule, lineDeviation}
+use Rattle.fitting.specs.declared.fitting.Primitives as primitives
+use Rattle.fitting.specs.Pieces.{pointsRule, lineDeviation, rangesIn}
 use Rattle.fitting.specs.Commands.{fitIn}
 
 -- ---- get_polyline_line_deviation: both indices lie inside the points
@@ -58,3 +59,12 @@ fitCall s tol lo hi kinds numbers = unless (refusal (fitRows s tol lo hi kinds n
 -- ---- fit_points_with_primitives: all points, from the first to the last. Their last index is inside them, so row 7 refuses none
 abbrev pub primitivesCall : List Float → Float → ℕ → ℕ → Outcome (List Command)
 primitivesCall s tol kinds numbers = fitCall s tol 0 (length s / 3 - 1) kinds numbers
+
+-- It reports how many ranges it examined, counted by the fit's definition,
+abbrev pub examined : List Float → Float → ℕ
+examined s tol = rangesIn (pointsRule tol) (pointAt s) 0 (length s / 3 - 1)
+
+-- beside the count of commands.
+unfoldable pub primitivesAnswer : Outcome (List Command) → ℕ → primitives.Primitives
+primitivesAnswer (refused n) ranges = primitives.the-variants.Refused n
+primitivesAnswer (gives xs) ranges = primitives.the-variants.Fitted (length xs) ranges

@@ -4,3 +4,4 @@ pub mod Written
 pub mod Ranges
 pub mod Laws
 pub mod Calls
+pub mod Examined

@@ -20,13 +20,13 @@ use trial::trial::arc_deviation;
 use trial::trial::try_arcs;
 ghost use mathlib.Core.Path.{_≡_};
 ghost use mathlib.Core.Bool.{true, not, _&&_};
-ghost use mathlib.Core.List.{[], _∷_};
+ghost use mathlib.Core.List.{[], _∷_, map};
 ghost use Prim.Native.Nat.{_+_, _-_, _*_, _/_, _<_, _≤_};
 ghost use lib.ListN.{length, set};
 ghost use lib.Dec.{ltb};
 ghost use Rattle.floats.specs.Ops.{_≺_, +0};
-ghost use Rattle.geo.specs.Lent.{pointAt};
-ghost use Rattle.geo.specs.Outcome.{refusal};
+ghost use Rattle.geo.specs.Lent.{pointAt, flat, kindOf, numbersOf};
+ghost use Rattle.geo.specs.Outcome.{refusal, left};
 ghost use Rattle.geo.specs.Commands.{WroteCommands};
 ghost use Rattle.simplify.specs.Measure.{measureOf};
 ghost use Rattle.fitting.specs.Pieces.{pointsRule, lapsRule, counted, lineDeviation, arc};
@@ -34,7 +34,7 @@ ghost use Rattle.fitting.specs.Commands.{normalOf, shaped};
 ghost use Rattle.fitting.specs.Written.{noted, notedIn, chainNoted, NotedPlaced};
 ghost use Rattle.fitting.specs.Ranges.{nextFrom, Looked};
 ghost use Rattle.trial.specs.Trial.{tryArcs};
-ghost use Rattle.fitting.specs.Calls.{lineRows, lineCall, lineAnswer, arcRows, arcCall, arcAnswer, fitRows, fitCall, primitivesCall};
+ghost use Rattle.fitting.specs.Calls.{lineRows, lineCall, lineAnswer, arcRows, arcCall, arcAnswer, fitRows, fitCall, primitivesCall, examined, primitivesAnswer};
 
 // By which rule a range is judged: which distance of a point counts, whether arcs are tried, and the tolerance.
 pub struct Rule {
@@ -76,6 +76,12 @@ pub enum LineDeviation {
 // What get_polyline_arc_deviation answers.
 pub enum ArcDeviation {
     Is(f64),
+    Refused(u32),
+}
+
+// What fit_points_with_primitives answers: how many commands it wrote, and how many ranges it examined.
+pub enum Primitives {
+    Fitted { count: usize, ranges: usize },
     Refused(u32),
 }
 
@@ -450,15 +456,35 @@ pub fn fit_points_recursive(
     Answer::Written(fit_range(rule, points, start, end, kinds, nums, &mut [], 0))
 }
 
-// Fits primitives to all points.
+// How many ranges a fit of n pieces examined: each piece is one, and each cut one more.
+fn ranges_of(n: usize) -> usize
+    requires { ⌜ n ≤ 2048 ⌝ }
+    ensures { λ r. ⌜ r ≡ 2 * n - 1 ⌝ }
+{
+    if n == 0 {
+        return n;
+    }
+    2 * n - 1
+}
+
+// Fits primitives to all points, and tells how many ranges it examined.
 pub fn fit_points_with_primitives(
     points: &[f64],
     tolerance: f64,
     kinds: &mut [u8],
     nums: &mut [f64],
-) -> Answer
-    ensures { λ r. ⌜ WroteCommands (primitivesCall (now (points .entry)) tolerance (length (now (kinds .entry))) (length (now (nums .entry)))) (now (kinds .entry)) (now (kinds .exit)) (now (nums .entry)) (now (nums .exit)) r ⌝ }
+) -> Primitives
+    ensures says { λ r. ⌜ r ≡ primitivesAnswer (primitivesCall (now (points .entry)) tolerance (length (now (kinds .entry))) (length (now (nums .entry)))) (examined (now (points .entry)) tolerance) ⌝ }
+    ensures kinds { λ _. ⌜ now (kinds .exit) ≡ left (map kindOf) (now (kinds .entry)) (primitivesCall (now (points .entry)) tolerance (length (now (kinds .entry))) (length (now (nums .entry)))) ⌝ }
+    ensures numbers { λ _. ⌜ now (nums .exit) ≡ left (flat numbersOf) (now (nums .entry)) (primitivesCall (now (points .entry)) tolerance (length (now (kinds .entry))) (length (now (nums .entry)))) ⌝ }
 {
     let last = steps_between(1, points.len() / 3);
-    fit_points_recursive(points, tolerance, 0, last, kinds, nums)
+    let a = fit_points_recursive(points, tolerance, 0, last, kinds, nums);
+    match a {
+        Answer::Written(n) => Primitives::Fitted {
+            count: n,
+            ranges: ranges_of(n),
+        },
+        Answer::Refused(n) => Primitives::Refused(n),
+    }
 }

@@ -39,7 +39,7 @@ pub fn call(
         17 => crate::circles::get_polyline_line_deviation(numbers, h.first, h.second, out),
         18 => crate::circles::get_polyline_arc_deviation(numbers, out),
         19 => fitting::fitting::fit_points_recursive(numbers, t, h.first, h.second, bytes, out),
-        20 => fitting::fitting::fit_points_with_primitives(numbers, t, bytes, out),
+        20 => crate::fits::fit_points_with_primitives(numbers, t, h.second, bytes, out),
         21 => course::course::fit_arcs(kinds, numbers, t, bytes, out),
         22 => course::course::optimize_path_from_array(kinds, numbers, t, h.first == 1, bytes, out),
         23 => lap_fit::fit::fit_file(recorded, t, bytes),

@@ -4,6 +4,7 @@
 mod calls;
 mod circles;
 mod curves;
+mod fits;
 mod layout;
 
 use crate::layout::BEFORE;

@@ -28,7 +28,7 @@ fn primitives(list: &[f64], tolerance: f64, out: &mut Output) -> usize {
     let (points, n) = (list.as_ptr(), list.len());
     // SAFETY: the length is that of the list
     out.count(|k, ks, x, xs, count| unsafe {
-        rt_fit_points_with_primitives(points, n, tolerance, k, ks, x, xs, count)
+        rt_fit_points_with_primitives(points, n, tolerance, k, ks, x, xs, count, &mut 0)
     })
 }
 

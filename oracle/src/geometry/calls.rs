@@ -237,6 +237,7 @@ unsafe extern "C" {
         nums: *mut f64,
         room_nums: usize,
         count: *mut usize,
+        ranges: *mut usize,
     ) -> u32;
 
     pub fn rt_fit_arcs(

@@ -103,6 +103,10 @@ pub fn judged(mut call: Compared, stands: Stands, rooms: Rooms) -> Judged {
         left[0] = Lent::room(rooms.numbers).written(&call.proved.lent[0].words()[..9 * written]);
         left[1] = left[1].written(&[count]);
         left[2] = Lent::byte_room(rooms.kinds, &kinds);
+        // the ranges are twice the pieces less one, whatever the pieces are
+        if let Some(ranges) = left.get_mut(4) {
+            *ranges = ranges.written(&[(2 * count).saturating_sub(1)]);
+        }
     }
     Judged { call, stands: Some(stands), open }
 }
@@ -223,16 +227,22 @@ pub fn primitives_of(list: &[f64], tolerance: f64, rooms: Rooms) -> Judged {
     let points = triples(list);
     let last = points.len().saturating_sub(1);
     let mut where_it_stands = Stands::UNTRIED;
-    let compared = call_of("fit_points_with_primitives", list, tolerance, [0, last], rooms).compare(
+    let mut call = call_of("fit_points_with_primitives", list, tolerance, [0, last], rooms);
+    call.lent.push(Lent::count());
+    let compared = call.compare(
         |lent| unsafe {
             let (nums, count, kinds) = (lent[0].as_mut_ptr(), lent[1].as_mut_ptr(), lent[2].as_mut_ptr());
             let (points, n) = (lent[3].as_mut_ptr::<f64>(), list.len());
-            rt_fit_points_with_primitives(points, n, tolerance, kinds, rooms.kinds, nums, rooms.numbers, count)
+            let ranges = lent[4].as_mut_ptr();
+            rt_fit_points_with_primitives(points, n, tolerance, kinds, rooms.kinds, nums, rooms.numbers, count, ranges)
         },
         |before| {
             let commands = fitting::fit_points_with_primitives(&points, tolerance);
             where_it_stands = stands(&points, tolerance, 0, last, &commands);
-            written_commands(before, rooms, &commands)
+            let mut left = written_commands(before, rooms, &commands);
+            // counted on the Rust's way, once for each range with a step that its recursion enters
+            left[4] = before[4].written(&[Walk::over(&points, tolerance, 0, last).ranges as u64]);
+            left
         },
     );
     judged(compared, where_it_stands, rooms)

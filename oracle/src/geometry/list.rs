@@ -6,7 +6,7 @@
 //! | 0 | the function: its place in `NAMES` |
 //! | 1 | the pattern of the tolerance, of a Bezier's parameter or of its resolution; 0 where there is none |
 //! | 2 | the start of a range, the step count, the depth, the lap; 1 where a tolerance is given, or arcs are fitted |
-//! | 3 | the end of a range |
+//! | 3 | the end of a range; of `fit_points_with_primitives` the ranges examined |
 //! | 4 | how many numbers are lent |
 //! | 5 | how many kinds |
 //! | 6 | how many bytes of a recorded file |
@@ -84,6 +84,7 @@ fn file(words: &[u64]) -> Vec<u8> {
 fn wholes(call: &Compared) -> [u64; 2] {
     match (call.function, argument(call, &WHOLES)) {
         ("linearize_bezier_segment", _) => [argument(call, &VALUES).len() as u64, 0],
+        ("fit_points_with_primitives", _) => [0, call.given.lent[4].words()[0]],
         (_, [start, end]) => [*start, *end],
         (_, words) => [first(words), 0],
     }

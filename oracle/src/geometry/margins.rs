@@ -54,6 +54,8 @@ pub struct Walk<'a> {
     pub commands: Vec<Command>,
     /// How many steps of the points each command covers.
     pub steps: Vec<usize>,
+    /// How many ranges with a step were entered.
+    pub ranges: usize,
     pub margins: Margins,
     /// Which of `MARGINS` did not hold in some trial.
     pub missed: [bool; 5],
@@ -135,6 +137,7 @@ impl<'a> Walk<'a> {
             tolerance,
             commands: Vec::new(),
             steps: Vec::new(),
+            ranges: 0,
             margins: Margins::Untried,
             missed: [false; 5],
         };
@@ -200,6 +203,7 @@ impl<'a> Walk<'a> {
         if start >= end {
             return;
         }
+        self.ranges += 1;
         let (deviation, split) = fitting::get_polyline_line_deviation(self.points, start, end);
         if deviation < self.tolerance {
             self.commands.push(Command::Line { end: self.points[end] });
