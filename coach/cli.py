@@ -74,6 +74,8 @@ COMMANDS = {
                 ("workout", "tolerance", "counts"), ("reading", "fit", "limits", "to", "force")),
     "sheet": (commands.print_sheet, "a sheet to count strides on", (), ("to", "force")),
     "advise": (commands.advise, "which tolerance to take, from the receiver's noise", ("workout",), ("reading", "to", "force")),
+    "live": (commands.live, "play a recording as the watch draws it: where each end of a straight came out, and how late",
+             ("workout", "tolerance"), ("reading", "to", "force")),
     "replace": (commands.replace, "put another recording in the place of a lap, and fit it",
                 ("lap", "new_lap", "tolerance", "workout", "fitted", "new_workout", "new_fitted"), ("reading", "force")),
     "text": (commands.text, "a lap file's commands as text", ("file",), ("to", "force")),

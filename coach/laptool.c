@@ -1,6 +1,8 @@
 /* Lap files through the proved functions:
      laptool [--force] fit TOLERANCE RECORDED FITTED
      laptool [--force] replace RECORDED FITTED LAP NEW_LAP TOLERANCE OUT      (NEW_LAP: a lap file of one lap)
+     laptool live TOLERANCE      (standard input: lines 'x y z'; standard output: a line for each end, 'call x y z', the calls
+                                  counted from 1, with the close behind the last line)
    '-' stands for standard input, once, and for standard output. The output is written beside its place and renamed when it
    is whole; one that is there is replaced only with --force, and one that is also an input never. A refusal ends the tool
    with its number, 1 to 9, and writes nothing; what is no refusal ends it with 20. */
@@ -196,6 +198,36 @@ static int replace(char **words, int force)
     return refused ? (int)refused : write_file(words[5], force, out, count);
 }
 
+static void print_end(size_t call, const double end[3], size_t handed)
+{
+    if (handed) {
+        printf("%zu %.17g %.17g %.17g\n", call, end[0], end[1], end[2]);
+    }
+}
+
+/* Plays the points of standard input through the live thinner. */
+static int live(char **words)
+{
+    static pz_live thinner;
+    char line[256];
+    double point[3], end[3];
+    size_t call = 0, handed;
+    uint32_t refused = pz_live_start(&thinner, number(words[0]));
+    while (!refused && fgets(line, sizeof line, stdin)) {
+        if (sscanf(line, "%lf %lf %lf", &point[0], &point[1], &point[2]) != 3) {
+            fail("is no point", line);
+        }
+        refused = pz_live_feed(&thinner, point, end, &handed);
+        call++;
+        print_end(call, end, refused ? 0 : handed);
+    }
+    if (!refused) {
+        refused = pz_live_close(&thinner, end, &handed);
+        print_end(call + 1, end, refused ? 0 : handed);
+    }
+    return fflush(stdout) ? fail(strerror(errno), "standard output") : (int)refused;
+}
+
 int main(int argc, char **argv)
 {
     int force = argc > 1 && !strcmp(argv[1], "--force");
@@ -206,7 +238,11 @@ int main(int argc, char **argv)
     if (argc == 8 && !strcmp(argv[1], "replace")) {
         return replace(argv + 2, force);
     }
+    if (argc == 3 && !strcmp(argv[1], "live")) {
+        return live(argv + 2);
+    }
     fprintf(stderr, "laptool [--force] fit TOLERANCE RECORDED FITTED\n"
-        "laptool [--force] replace RECORDED FITTED LAP NEW_LAP TOLERANCE OUT\n");
+        "laptool [--force] replace RECORDED FITTED LAP NEW_LAP TOLERANCE OUT\n"
+        "laptool live TOLERANCE\n");
     return OTHER;
 }
