@@ -1,7 +1,7 @@
--- The live thinner: its state, and what a point fed and a close make of it (document 02, §2). Definitions only.
-use Prim.Native.Nat.{ℕ, _+_, _-_, _*_}
+-- The live thinner: its state, and what a point fed, a close and a new tolerance make of it (document 02, §2 and §12). Definitions only.
+use Prim.Native.Nat.{ℕ, zero, suc, _+_, _-_, _*_}
 use mathlib.Core.Bool.{Bool, true, false, _&&_, _||_}
-use mathlib.Core.List.{List, [], _∷_}
+use mathlib.Core.List.{List, [], _∷_, _++_}
 use lib.ListN.{replicate}
 use lib.Seq.{sets}
 use lib.Dec.{ltb}
@@ -59,3 +59,26 @@ shut s =
       state = record { tolerance = s .tolerance; points = s .points; count = s .count; closed = true };
       ends = if ltb (s .count) 2 then [] else slot s (s .count - 1) ∷ [];
     }
+
+-- ---- a new tolerance
+-- the n points `at` from index i on, fed in order
+unfoldable pub feedAgain : (ℕ → Point3D) → ℕ → ℕ → Live → Next
+feedAgain at zero i s = record { state = s; ends = [] }
+feedAgain at (suc n) i s =
+    record {
+      state = feedAgain at n (i + 1) (push s (at i) .state) .state;
+      ends = push s (at i) .ends ++ feedAgain at n (i + 1) (push s (at i) .state) .ends;
+    }
+
+-- how many points are left where all but the anchor are forgotten
+unfoldable pub anchored : ℕ → ℕ
+anchored zero = 0
+anchored (suc n) = 1
+
+-- all but the anchor forgotten, and the tolerance t from here on
+unfoldable pub forgotten : Live → Float → Live
+forgotten s t = record { tolerance = t; points = s .points; count = anchored (s .count); closed = s .closed }
+
+-- the held points fed again from the anchor, in order, under the tolerance t
+unfoldable pub retuned : Live → Float → Next
+retuned s t = feedAgain (slot s) (s .count - 1) 1 (forgotten s t)

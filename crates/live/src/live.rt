@@ -5,20 +5,25 @@ use geo::domain::is_tolerance;
 use geo::domain::point3_in;
 use geo::lent::point_at;
 use geo::lent::put_point;
+use geo::types::Answer;
 use geo::types::Point3D;
 use simplify::simplify::farthest_between;
 ghost use mathlib.Core.Path.{_≡_};
 ghost use mathlib.Core.Bool.{_||_};
-ghost use Prim.Native.Nat.{_-_, _<_, _≤_};
+ghost use Prim.Native.Nat.{_+_, _*_, _-_, _<_, _≤_};
+ghost use lib.ListN.{length};
+ghost use lib.Seq.{sets};
 ghost use lib.Dec.{ltb};
 ghost use Rattle.floats.specs.Ops.{_≺_};
 ghost use Rattle.floats.specs.Root.{rootOf};
+ghost use Rattle.geo.specs.Lent.{flat, triple};
 ghost use Rattle.geo.specs.Outcome.{refusal};
 ghost use Rattle.simplify.specs.Measure.{lineSq};
 ghost use Rattle.fitting.specs.Pieces.{lineDeviation};
 ghost use Rattle.live.specs.declared.live.End.the-variants.{At};
-ghost use Rattle.live.specs.Thinner.{slot, started, behind, cutting, push};
-ghost use Rattle.live.specs.Calls.{feed, close, startRows, stateRows, liveCall, given, fedAnswer};
+ghost use Rattle.live.specs.Thinner.{slot, started, behind, cutting, push, forgotten};
+ghost use Rattle.live.specs.Calls.{feed, retune, close, startRows, stateRows, liveRows, liveCall, given, fedAnswer, Tuned};
+ghost use Rattle.live.specs.Replay.{endsIn, Replays};
 
 // The first `count` slots hold points, three numbers each: the anchor, and the points held after it. What later slots hold does
 // not matter, but it is checked as all numbers of a state are.
@@ -38,6 +43,12 @@ pub enum End {
 
 pub struct Fed {
     pub end: End,
+    pub state: Live,
+}
+
+// What a new tolerance comes to.
+pub struct Retuned {
+    pub answer: Answer,
     pub state: Live,
 }
 
@@ -61,6 +72,9 @@ impl Live {
 
     // Three numbers a slot.
     pub const NUMBERS: usize = 195;
+
+    // "Its most is 63 ends."
+    pub const MOST: usize = 63;
 
     fn new(tolerance: f64) -> Self
         ensures { λ r. ⌜ r ≡ started tolerance ⌝ }
@@ -159,9 +173,9 @@ impl Live {
         self.cut(p)
     }
 
-    // Why the state is refused, or 0; `inside` says that a call's own numbers are in the domain.
-    fn refuse(self, inside: bool) -> u32
-        ensures { λ r. ⌜ r ≡ refusal (stateRows self inside) ⌝ }
+    // Why the state is refused, or 0; `inside` and `tuned` say that a call's own numbers and its own tolerance are in the domain.
+    fn refuse(self, inside: bool, tuned: bool) -> u32
+        ensures { λ r. ⌜ r ≡ refusal (stateRows self inside tuned) ⌝ }
     {
         if self.count > Live::SLOTS {
             return 2;
@@ -175,6 +189,9 @@ impl Live {
         if !is_tolerance(self.tolerance) {
             return 6;
         }
+        if !tuned {
+            return 6;
+        }
         if self.closed {
             return 10;
         }
@@ -185,7 +202,7 @@ impl Live {
     pub fn feed(self, p: Point3D) -> Fed
         ensures { λ r. ⌜ r ≡ fedAnswer self (liveCall self (feed p)) ⌝ }
     {
-        let n = self.refuse(point3_in(p));
+        let n = self.refuse(point3_in(p), true);
         if n != 0 {
             return Fed {
                 end: End::Refused(n),
@@ -199,7 +216,7 @@ impl Live {
     pub fn close(self) -> Fed
         ensures { λ r. ⌜ r ≡ fedAnswer self (liveCall self close) ⌝ }
     {
-        let n = self.refuse(true);
+        let n = self.refuse(true, true);
         if n != 0 {
             return Fed {
                 end: End::Refused(n),
@@ -224,5 +241,97 @@ impl Live {
             end: End::At(end),
             state,
         }
+    }
+
+    // All but the anchor forgotten, and a new tolerance.
+    fn forget(self, tolerance: f64) -> Self
+        ensures { λ r. ⌜ r ≡ forgotten self tolerance ⌝ }
+    {
+        let points = self.points;
+        let count = if self.count == 0 { 0 } else { 1 };
+        Self {
+            tolerance,
+            points,
+            count,
+            closed: self.closed,
+        }
+    }
+
+    // Feeds the held points again from the anchor, and writes the ends.
+    fn replay(self, tolerance: f64, out: &mut [f64]) -> Replayed
+        requires { ⌜ (self .count ≤ 65) × (189 ≤ length (now out)) ⌝ }
+        ensures { λ r. ⌜ Replays self tolerance (now (out .entry)) (now (out .exit)) r ⌝ }
+    {
+        let n = self.count;
+        let points = self.points;
+        let mut state = self.forget(tolerance);
+        let mut count = 0;
+        let mut i = 1;
+        while i < n {
+            let fed = state.push(point_at(&points, i));
+            let end = fed.end;
+            count = put_end(out, count, end);
+            let next = fed.state;
+            state = next;
+            i += 1;
+        }
+        Replayed { count, state }
+    }
+
+    // Why a new tolerance is refused, or 0.
+    fn refuse_retune(self, tolerance: f64, room: usize) -> u32
+        ensures { λ r. ⌜ r ≡ refusal (liveRows self (retune tolerance room)) ⌝ }
+    {
+        if room % 3 != 0 {
+            return 1;
+        }
+        let n = self.refuse(true, is_tolerance(tolerance));
+        if n != 0 {
+            return n;
+        }
+        if room / 3 < Live::MOST {
+            return 9;
+        }
+        0
+    }
+
+    // Sets a new tolerance, and writes the ends that the held points come to under it.
+    pub fn retune(self, tolerance: f64, out: &mut [f64]) -> Retuned
+        ensures { λ r. ⌜ Tuned self (liveCall self (retune tolerance (length (now (out .entry))))) (now (out .entry)) (now (out .exit)) r ⌝ }
+    {
+        let n = self.refuse_retune(tolerance, out.len());
+        if n != 0 {
+            return Retuned {
+                answer: Answer::Refused(n),
+                state: self,
+            };
+        }
+        let r = self.replay(tolerance, out);
+        let state = r.state;
+        Retuned {
+            answer: Answer::Written(r.count),
+            state,
+        }
+    }
+}
+
+// What the held points come to when they are fed again: how many ends were written, and the state.
+struct Replayed {
+    count: usize,
+    state: Live,
+}
+
+// Writes an end, if there is one, behind k others, and answers how many there are then.
+fn put_end(out: &mut [f64], k: usize, end: End) -> usize
+    requires { ⌜ 3 * (k + length (endsIn end)) ≤ length (now out) ⌝ }
+    ensures { λ r. ⌜ (r ≡ k + length (endsIn end)) × (now (out .exit) ≡ sets (now (out .entry)) (3 * k) (flat triple (endsIn end))) ⌝ }
+{
+    match end {
+        End::At(p) => {
+            put_point(out, 3 * k, p);
+            k + 1
+        }
+        End::Nothing => k,
+        End::Refused(_) => k,
     }
 }

@@ -1,12 +1,12 @@
 -- What a state holds in a run: the slots are the last points fed, the anchor first, and the line from the anchor to the last one passed. A point fed keeps
--- this. Assumes nothing.
+-- this, and so do the held points fed again under a new tolerance. Assumes nothing.
 use Prim.Native.Nat.{ℕ, zero, suc, _+_, _-_, _≤_, _<_}
 use mathlib.Core.Path.{_≡_, refl, sym, ap, _∙_, subst}
 use mathlib.Core.Logic.{⊎-elim}
 use mathlib.Core.Bool.{Bool, true, false, _||_}
-use mathlib.Core.List.{[], _∷_, map}
+use mathlib.Core.List.{List, [], _∷_, map, map-append}
 use native.Mathlib.Omega.{arith}
-use native.Mathlib.Nat.{eq-or-lt-of-le, add-zero}
+use native.Mathlib.Nat.{eq-or-lt-of-le, eq-zero-or-pos, add-zero}
 use borrow.Author.Tests.{ltb-true, ltb-false}
 use lib.ListN.{length}
 use lib.Dec.{ltb}
@@ -20,13 +20,13 @@ use Rattle.geo.specs.Domain.{point3In}
 use Rattle.simplify.specs.Measure.{lineSq}
 use Rattle.fitting.specs.Pieces.{lineDeviation}
 use Rattle.live.specs.declared.live.Live.{Live}
-use Rattle.live.specs.Thinner.{Next, slotCount, slot, put, behind, cutting, goesOn, push}
-use Rattle.live_runs.specs.Run.{endUnder}
+use Rattle.live.specs.Thinner.{Next, slotCount, slot, put, behind, cutting, goesOn, push, feedAgain, anchored, forgotten, retuned}
+use Rattle.live_runs.specs.Run.{LineEnd, endUnder}
 use Rattle.live_runs.specs.Drawn.{Gap}
 use Rattle.live.proofs.Counts.{goes-room, or-right}
 use Rattle.live_runs.proofs.Near.{each-below}
 use Rattle.live_runs.proofs.Slots.{put-length, put-same, put-other}
-use Rattle.live_runs.proofs.Places.{Chain, chain-none, chain-one}
+use Rattle.live_runs.proofs.Places.{Chain, chain-none, chain-one, chain-append}
 
 -- after n points `at` the state s has its anchor at place a
 pub record Holds (at : ℕ → Point3D) (n : ℕ) (s : Live) (a : ℕ) : Type 0 where
@@ -47,11 +47,11 @@ pub record Moved (at : ℕ → Point3D) (n a : ℕ) (t : Float) (closed : Bool) 
   pub shut : r .state .closed ≡ closed
 
 -- ---- one point fed
-push-held : (s : Live) (p : Point3D) → (ltb (s .count) 2 || goesOn s p) ≡ true → push s p ≡ record { state = behind s p; ends = [] }
+pub push-held : (s : Live) (p : Point3D) → (ltb (s .count) 2 || goesOn s p) ≡ true → push s p ≡ record { state = behind s p; ends = [] }
 unfolding push
 push-held s p h = rw h
 
-push-cut : (s : Live) (p : Point3D) → (ltb (s .count) 2 || goesOn s p) ≡ false → push s p ≡ record { state = cutting s p; ends = slot s (s .count - 1) ∷ [] }
+pub push-cut : (s : Live) (p : Point3D) → (ltb (s .count) 2 || goesOn s p) ≡ false → push s p ≡ record { state = cutting s p; ends = slot s (s .count - 1) ∷ [] }
 unfolding push
 push-cut s p h = rw h
 
@@ -154,3 +154,73 @@ module _ (at : ℕ → Point3D) (n : ℕ) (s : Live) (a : ℕ) (i : Holds at n s
       (λ h. let l = ltb-false (s .count) 2 (or-false (ltb (s .count) 2) (goesOn s p) h) in
       rw (push-cut s p h) (record { reach = n - 1; chain = chain-one at a (n - 1) _ (last-gap at n s a i t z l); holds = cut-on l; under = z; shut = refl }))
       (either (ltb (s .count) 2 || goesOn s p))
+
+-- ---- several points fed
+pub replayed : (at : ℕ → Point3D) (from : ℕ → Point3D) (m i n : ℕ) (s : Live) (a : ℕ) (t : Float) → Holds at n s a → s .tolerance ≡ t
+    → ((j : ℕ) → j < m → from (i + j) ≡ at (n + j)) → ((j : ℕ) → j < n + m → point3In (at j) ≡ true) → Moved at (n + m) a t (s .closed) (feedAgain from m i s)
+unfolding feedAgain
+replayed at from zero i n s a t h z f d =
+    let e : n + 0 ≡ n = omega arith in
+    record { reach = a; chain = chain-none at a; holds = rw e h; under = z; shut = refl }
+replayed at from (suc m) i n s a t h z f d =
+    let p = from i in
+    let e₀ : at n ≡ p = ap at (sym (add-zero n)) ∙ sym (f 0 (omega arith)) ∙ ap from (add-zero i) in
+    let u = pushed at n s a h p e₀ (subst (λ (x : Point3D). point3In x ≡ true) e₀ (d n (omega arith))) t z in
+    let v = replayed at from m (i + 1) (n + 1) (push s p .state) (u .reach) t (u .holds) (u .under) (λ j l. further j l) (λ j l. d j (omega arith)) in
+    let e : n + suc m ≡ n + 1 + m = omega arith in
+    rw e (record {
+      reach = v .reach;
+      chain = subst (λ (l : List LineEnd). Chain at a l (v .reach)) (sym (map-append (endUnder t) (push s p .ends) (feedAgain from m (i + 1) (push s p .state) .ends)))
+          (chain-append at a (u .reach) (v .reach) _ _ (u .chain) (v .chain));
+      holds = v .holds;
+      under = v .under;
+      shut = v .shut ∙ u .shut;
+    })
+  where
+    further : (j : ℕ) → j < m → from (i + 1 + j) ≡ at (n + 1 + j)
+    further j l =
+        let x : i + 1 + j ≡ i + suc j = omega arith in
+        let y : n + suc j ≡ n + 1 + j = omega arith in
+        ap from x ∙ f (suc j) (omega arith) ∙ ap at y
+
+-- ---- a new tolerance
+module _ (at : ℕ → Point3D) (n : ℕ) (s : Live) (a : ℕ) (i : Holds at n s a) (t : Float) where
+  forgotten-none : s .count ≡ 0 → Holds at n (forgotten s t) a
+  unfolding forgotten anchored slot
+  forgotten-none e =
+      rw e (record {
+        long = i .long;
+        few = omega arith;
+        fill = omega (arith, i .fill);
+        some = λ z. i .some e;
+        slots = λ j l. absurd (omega arith);
+        domain = i .domain;
+        near = λ j l k. absurd (omega (arith, i .fill));
+      })
+
+  forgotten-some : 0 < s .count → Holds at (a + 1) (forgotten s t) a
+  unfolding forgotten anchored slot
+  forgotten-some h =
+      let e : s .count ≡ suc (s .count - 1) = omega arith in
+      rw e (record {
+        long = i .long;
+        few = omega arith;
+        fill = refl;
+        some = λ z. absurd (omega (arith, z));
+        slots = λ j l. i .slots j (omega arith);
+        domain = λ j l. i .domain j (omega (arith, i .fill));
+        near = λ j l k. absurd (omega arith);
+      })
+
+  pub retuned-moves : Moved at n a t (s .closed) (retuned s t)
+  unfolding retuned forgotten slot
+  retuned-moves =
+      ⊎-elim
+      (λ e. let z : n + (s .count - 1) ≡ n = omega arith in
+      subst (λ (k : ℕ). Moved at k a t (s .closed) (feedAgain (slot s) (s .count - 1) 1 (forgotten s t))) z
+      (replayed at (slot s) (s .count - 1) 1 n (forgotten s t) a t (forgotten-none e) refl (λ j l. absurd (omega arith)) (λ j l. i .domain j (omega arith))))
+      (λ h. let z : a + 1 + (s .count - 1) ≡ n = omega (arith, i .fill) in
+      subst (λ (k : ℕ). Moved at k a t (s .closed) (feedAgain (slot s) (s .count - 1) 1 (forgotten s t))) z
+      (replayed at (slot s) (s .count - 1) 1 (a + 1) (forgotten s t) a t (forgotten-some h) refl
+      (λ j l. i .slots (1 + j) (omega arith) ∙ ap at (let y : a + (1 + j) ≡ a + 1 + j = omega arith in y)) (λ j l. i .domain j (omega arith))))
+      (eq-zero-or-pos (s .count))

@@ -1,6 +1,6 @@
--- What every run hands out.
+-- The theorems of the live thinner: what every run hands out, with new tolerances in it or without, and how many ends a new tolerance hands out at most.
 -- Each call of a run moves its state and its chain of ends on; after the close all calls are refused. Assumes nothing.
-use Prim.Native.Nat.{ℕ, suc, _+_, _-_, _≤_, _<_}
+use Prim.Native.Nat.{ℕ, suc, _+_, _-_, _/_, _≤_, _<_}
 use mathlib.Core.Path.{_≡_, refl, sym, ap, _∙_, subst}
 use mathlib.Core.Logic.{⊎-elim}
 use mathlib.Core.Bool.{Bool, true, false, not, _&&_, _||_}
@@ -18,14 +18,14 @@ use Rattle.geo.specs.declared.types.Point3D.{Point3D}
 use Rattle.geo.specs.Lent.{origin}
 use Rattle.geo.specs.Domain.{coordinate, numbersIn, point3In, tolerance}
 use Rattle.geo.specs.Outcome.{Row, row, refusal}
-use Rattle.geo.proofs.Rows.{row-passed, row-fails, unless-refused, unless-gives}
+use Rattle.geo.proofs.Rows.{row-passed, row-fails, refusal-front, unless-refused, unless-gives}
 use Rattle.live.specs.declared.live.Live.{Live}
-use Rattle.live.specs.Thinner.{Next, slotCount, slot, started, behind, cutting, goesOn, push, shut}
-use Rattle.live.specs.Calls.{Event, feed, close, stateRows, liveRows, nextOf, liveCall}
+use Rattle.live.specs.Thinner.{Next, slotCount, slot, started, behind, cutting, goesOn, push, shut, retuned}
+use Rattle.live.specs.Calls.{Event, feed, retune, close, mostEnds, stateRows, liveRows, nextOf, liveCall}
 use Rattle.live_runs.specs.Run.{LineEnd, endUnder, Ran, fedBy, callThen, runFrom, run, fedAt}
-use Rattle.live_runs.specs.Drawn.{lastOf, Drawn, RunsAreDrawn, BelowTheTolerance, RefusedLeftOut}
+use Rattle.live_runs.specs.Drawn.{lastOf, Drawn, Untuned, RunsAreDrawn, BelowTheTolerance, RefusedLeftOut}
 use Rattle.live_runs.proofs.Places.{Chain, chain-none, chain-one, chain-append, gaps-fed, gaps-ascend, gaps-none, gaps-below, AllUnder}
-use Rattle.live_runs.proofs.Holds.{Holds, Moved, last-gap, pushed}
+use Rattle.live_runs.proofs.Holds.{Holds, Moved, last-gap, pushed, retuned-moves}
 
 -- ---- what the rows of an accepted call say
 -- a closed thinner refuses all
@@ -34,14 +34,17 @@ unfolding refusal
 some-row n true rs h = omega arith
 some-row n false rs h = h
 
-state-refuses : (s : Live) (inside : Bool) → s .closed ≡ true → 0 < refusal (stateRows s inside)
+state-refuses : (s : Live) (inside tuned : Bool) → s .closed ≡ true → 0 < refusal (stateRows s inside tuned)
 unfolding stateRows
-state-refuses s inside h = some-row 1 _ _ (some-row 4 _ _ (some-row 5 _ _ (rw (row-fails 10 (s .closed) [] h) (omega arith))))
+state-refuses s inside tuned h = some-row 1 _ _ (some-row 4 _ _ (some-row 5 _ _ (rw (row-fails 10 (s .closed) [] h) (omega arith))))
 
 closed-refuses : (s : Live) (e : Event) → s .closed ≡ true → 0 < refusal (liveRows s e)
 unfolding liveRows
-closed-refuses s (feed p) h = state-refuses s (point3In p) h
-closed-refuses s close h = state-refuses s true h
+closed-refuses s (feed p) h = state-refuses s (point3In p) true h
+closed-refuses s (retune t n) h =
+    let l = state-refuses s true (tolerance t) h in
+    some-row 0 _ _ (let e = refusal-front (stateRows s true (tolerance t)) (row 9 (ltb (n / 3) mostEnds) ∷ []) l in omega arith)
+closed-refuses s close h = state-refuses s true true h
 
 -- an accepted point is in the domain
 pub feed-domain : (s : Live) (p : Point3D) → refusal (liveRows s (feed p)) ≡ 0 → point3In p ≡ true
@@ -138,6 +141,9 @@ module _ (at : ℕ → Point3D) where
       moved-on (n + 1) a (s .tolerance) (push s p)
       (subst (λ (b : Bool). Moved at (n + 1) a (s .tolerance) b (push s p)) o
       (pushed at n s a h p (ap at (sym (add-zero n)) ∙ sym (f 0 (omega arith))) (feed-domain s p z) (s .tolerance) refl))
+  called s (retune t m) n a h o z f =
+      let e : n + 0 ≡ n = omega arith in
+      rw e (moved-on n a t (retuned s t) (subst (λ (b : Bool). Moved at n a t b (retuned s t)) o (retuned-moves at n s a h t)))
   called s close n a h o z f = let e : n + 0 ≡ n = omega arith in rw e (shut-on n a s h)
 
   -- ---- a run
@@ -230,7 +236,7 @@ runs-are-drawn t es =
     let r = runFrom es (started t) in
     drawn r (went (fedAt r) es (started t) 0 0 (start-holds (fedAt r) t) (unfold started in refl) (unfold fedAt in λ j l. ap (λ (k : ℕ). getD (r .fed) k origin) (sym (zero-add j))))
 
--- ---- the tolerance in force
+-- ---- runs without a new tolerance
 under-append : (t : Float) (hs gs : List LineEnd) → AllUnder t hs → AllUnder t gs → AllUnder t (hs ++ gs)
 under-append t [] gs p q = q
 under-append t (h ∷ hs) gs p q = (p .0, under-append t hs gs (p .1) q)
@@ -243,23 +249,24 @@ pub push-under : (s : Live) (p : Point3D) → push s p .state .tolerance ≡ s .
 unfolding push behind cutting
 push-under s p = ⊎-elim (λ h. rw h refl) (λ h. rw h refl) (either (ltb (s .count) 2 || goesOn s p))
 
-under-step : (t : Float) (es : List Event) (s : Live) (e : Event) → nextOf s e .state .tolerance ≡ t → s .tolerance ≡ t
+untuned-step : (t : Float) (es : List Event) (s : Live) (e : Event) → nextOf s e .state .tolerance ≡ t → s .tolerance ≡ t
     → ((u : Live) → u .tolerance ≡ t → AllUnder t (runFrom es u .ends)) → AllUnder t (runFrom (e ∷ es) s .ends)
-under-step t es s e z o f =
+untuned-step t es s e z o f =
     ⊎-elim
     (λ q. rw (accepted-step es s e q)
     (under-append t (map (endUnder (nextOf s e .state .tolerance)) (nextOf s e .ends)) (runFrom es (nextOf s e .state) .ends) (subst (λ (x : Float). AllUnder t (map (endUnder x) (nextOf s e .ends))) (sym z) (under-map t (nextOf s e .ends))) (f (nextOf s e .state) z)))
     (λ q. rw (refused-step es s e q) (f s o)) (eq-zero-or-pos (refusal (liveRows s e)))
 
-under-from : (t : Float) (es : List Event) (s : Live) → s .tolerance ≡ t → AllUnder t (runFrom es s .ends)
-under-from t [] s z = unfold runFrom in tt
-under-from t (feed p ∷ es) s z = under-step t es s (feed p) (unfold nextOf in (push-under s p ∙ z)) z (under-from t es)
-under-from t (close ∷ es) s z = under-step t es s close (unfold nextOf shut in z) z (under-from t es)
+untuned-from : (t : Float) (es : List Event) (s : Live) → Untuned es → s .tolerance ≡ t → AllUnder t (runFrom es s .ends)
+untuned-from t [] s n z = unfold runFrom in tt
+untuned-from t (feed p ∷ es) s n z = untuned-step t es s (feed p) (unfold nextOf in (push-under s p ∙ z)) z (λ u. untuned-from t es u n)
+untuned-from t (retune x m ∷ es) s n z = absurd n
+untuned-from t (close ∷ es) s n z = untuned-step t es s close (unfold nextOf shut in z) z (λ u. untuned-from t es u n)
 
 pub below-the-tolerance : BelowTheTolerance
 unfolding run
-below-the-tolerance t es d =
-    gaps-below (fedAt (run t es)) t 0 (run t es .ends) (d .places) (d .gaps) (under-from t es (started t) (unfold started in refl))
+below-the-tolerance t es n d =
+    gaps-below (fedAt (run t es)) t 0 (run t es .ends) (d .places) (d .gaps) (untuned-from t es (started t) n (unfold started in refl))
 
 -- ---- refused calls
 -- of a run that goes on after es, only the last state of es and what es fed and handed out count

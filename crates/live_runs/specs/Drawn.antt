@@ -1,5 +1,5 @@
--- What is shown of every run of the live thinner (document 02, §2), as propositions. Definitions only; proofs/Runs.antt and Way.antt show that they hold.
-use Prim.Native.Nat.{ℕ, _+_, _-_, _≤_, _<_}
+-- What is shown of every run of the live thinner (document 02, §2 and §12), as propositions. Definitions only; proofs/Runs.antt, Way.antt, Coarser.antt and Zigzag.antt show that they hold.
+use Prim.Native.Nat.{ℕ, _+_, _-_, _*_, _≤_, _<_}
 use mathlib.Core.Path.{_≡_}
 use mathlib.Core.Bool.{true, false}
 use mathlib.Core.List.{List, [], _∷_, _++_, map}
@@ -12,8 +12,9 @@ use Rattle.geo.specs.Domain.{point3In, tolerance}
 use Rattle.geo.specs.Outcome.{refused, gives}
 use Rattle.simplify.specs.Measure.{lineSq}
 use Rattle.simplify.specs.Words.{Ascending}
-use Rattle.live.specs.Thinner.{push}
-use Rattle.live.specs.Calls.{Event, feed, close, liveCall}
+use Rattle.live.specs.declared.live.Live.{Live}
+use Rattle.live.specs.Thinner.{Next, push}
+use Rattle.live.specs.Calls.{Event, feed, retune, close, liveCall}
 use Rattle.live_runs.specs.Run.{LineEnd, Ran, run, fedAt}
 
 -- the last of a, xs ..
@@ -46,7 +47,7 @@ Gaps at a [] (k ∷ ks) = ⊥
 Gaps at a (h ∷ hs) [] = ⊥
 Gaps at a (h ∷ hs) (k ∷ ks) = Gap at a k h × Gaps at k hs ks
 
--- what §2 says of a whole run; the first point fed, at place 0, counts as an end
+-- what §2 says of a whole run, and §12 of one with new tolerances in it; the first point fed, at place 0, counts as an end
 pub record Drawn (r : Ran) : Type 0 where
   -- where the ends stand among the fed points
   pub places : List ℕ
@@ -58,16 +59,23 @@ pub record Drawn (r : Ran) : Type 0 where
   pub last-included : r .last .closed ≡ true → 2 ≤ length (r .fed) → lastOf 0 places ≡ length (r .fed) - 1
   pub none-of-few : length (r .fed) < 2 → r .ends ≡ []
 
--- THE RUN. Of every run from a start, whatever its calls are, refused ones among them, and whatever its tolerance: the ends are fed points in order, the last
+-- THE RUN. Of every run from a start, whatever its calls are, refused ones among them, and whatever its tolerances: the ends are fed points in order, the last
 -- included after a close; between two neighbours, the first fed point counting as an end, each point is below the tolerance in force when the later one was
 -- handed out; no end comes later than 64 points after the end before it; a run of no or one point hands out none.
 abbrev pub RunsAreDrawn : Type 0
 RunsAreDrawn = (t : Float) (es : List Event) → Drawn (run t es)
 
--- §2's SENTENCE: the tolerance in force is that of the start, so that each point between two neighbouring ends, the first point fed counting as one, is below the
+-- no call sets a new tolerance
+abbrev pub Untuned : List Event → Type 0
+Untuned [] = Unit
+Untuned (feed p ∷ es) = Untuned es
+Untuned (retune t n ∷ es) = ⊥
+Untuned (close ∷ es) = Untuned es
+
+-- §2's SENTENCE, the case of the run without a new tolerance: each point between two neighbouring ends, the first point fed counting as one, is below the
 -- tolerance of the start from their line.
 abbrev pub BelowTheTolerance : Type 0
-BelowTheTolerance = (t : Float) (es : List Event) (d : Drawn (run t es)) → Pairs (NearLine (fedAt (run t es)) t) 0 (d .places)
+BelowTheTolerance = (t : Float) (es : List Event) → Untuned es → (d : Drawn (run t es)) → Pairs (NearLine (fedAt (run t es)) t) 0 (d .places)
 
 -- REFUSED CALLS. A call that is refused in the middle of a run changes nothing: the run without it feeds the same points, hands out the same ends and has the
 -- same last state.
@@ -86,3 +94,22 @@ pub record TenAfterClose (t : Float) (es : List Event) : Type 0 where
 
 abbrev pub ClosedForGood : Type 0
 ClosedForGood = (t : Float) (es : List Event) → tolerance t ≡ true → run t es .last .closed ≡ true → TenAfterClose t es
+
+-- ---- a new tolerance
+-- THE MOST. It hands out at most 63 ends, of every state that it accepts, one that no run reaches too;
+abbrev pub AtMost63 : Type 0
+AtMost63 = (s : Live) (t : Float) (room : ℕ) (r : Next) → liveCall s (retune t room) ≡ gives r → length (r .ends) ≤ 63
+
+-- and 63 can come out, in a run.
+pub record SixtyThree : Type 0 where
+  pub coarse : Float
+  pub calls : List Event
+  pub finer : Float
+  pub next : Next
+  pub accepted : liveCall (run coarse calls .last) (retune finer (3 * 63)) ≡ gives next
+  pub ends : length (next .ends) ≡ 63
+
+-- COARSER. Where the new tolerance is not below the old one, a run hands out nothing and keeps its points.
+abbrev pub CoarserKeeps : Type 0
+CoarserKeeps = (t : Float) (es : List Event) (u : Float) (room : ℕ) (r : Next) → liveCall (run t es .last) (retune u room) ≡ gives r → (u ≺ run t es .last .tolerance) ≡ false
+    → (r .ends ≡ []) × (r .state ≡ record { tolerance = u; points = run t es .last .points; count = run t es .last .count; closed = run t es .last .closed })

@@ -8,7 +8,7 @@ use Rattle.geo.specs.Lent.{origin}
 use Rattle.geo.specs.Outcome.{Outcome, refused, gives}
 use Rattle.live.specs.declared.live.Live.{Live}
 use Rattle.live.specs.Thinner.{Next, started}
-use Rattle.live.specs.Calls.{Event, feed, close, liveCall}
+use Rattle.live.specs.Calls.{Event, feed, retune, close, liveCall}
 
 -- an end that was handed out, and the tolerance in force then
 pub record LineEnd : Type 0 where
@@ -27,6 +27,7 @@ pub record Ran : Type 0 where
 -- the points that an accepted call feeds
 unfoldable pub fedBy : Event → List Point3D
 fedBy (feed p) = p ∷ []
+fedBy (retune t n) = []
 fedBy close = []
 
 -- a call in front of the rest of a run: a refused call leaves the state, feeds nothing and hands out nothing

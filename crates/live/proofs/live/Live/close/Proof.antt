@@ -18,7 +18,7 @@ unfolding liveRows nextOf
 returns-2 c = answer-given (c .before .before .before .before .before .args .self) close _ (c .before .before .before .before .refuse .ensures) _ (c .before .before .before .if1 .left) (shut-none (c .before .before .before .before .before .args .self) (c .if2 .taken))
 
 last-requires : tie.Need-last-requires
-last-requires c κs = let l = few-accepted _ _ _ (c .before .before .before .before .refuse .ensures) (c .before .before .before .if1 .left) in (omega (arith, c .if2 .left), l)
+last-requires c κs = let l = few-accepted _ _ _ _ (c .before .before .before .before .refuse .ensures) (c .before .before .before .if1 .left) in (omega (arith, c .if2 .left), l)
 
 returns-3 : tie.Need-returns-3
 unfolding liveRows nextOf
