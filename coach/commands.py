@@ -115,7 +115,7 @@ def advise(files, words):
 
 def live(files, words):
     workout = recording(files, words.workout, words)
-    files.save((words.to, live_text(workout, words.tolerance, label(words.workout)).encode()))
+    files.save((words.to, live_text(workout, words.tolerance, words.change, label(words.workout)).encode()))
 
 
 def replace(files, words):

@@ -42,10 +42,10 @@ def replaced_bytes(recorded, fitted, lap, new_lap, tolerance, name):
         return laptool(["replace", "-", second, lap, third, tolerance, "-"], recorded, recorded, name)
 
 
-def live_ends(tolerance, places, name):
-    """The ends that the live thinner hands out of these places: for each the call that handed it out, counted from 0, the close
-    being behind the last place, and where it is."""
-    lines = "".join(" ".join(map(repr, map(float, place))) + "\n" for place in places)
+def live_ends(tolerance, calls, name):
+    """The ends that the live thinner hands out: a call is a place that is fed, or one number, a new tolerance. For each end the call
+    that handed it out, counted from 0, the close being behind the last one, and where it is."""
+    lines = "".join(" ".join(map(repr, map(float, call))) + "\n" for call in calls)
     written, refused = run(["live", tolerance], lines.encode())
     if refused:
         raise Refused(refused, name)

@@ -129,6 +129,7 @@ uint32_t rt_simplify_data(
    PZ_TOO_MANY (count above 65), PZ_BAD_NUMBER (any of the 195 numbers, or the point's), PZ_BAD_TOLERANCE, PZ_CLOSED. */
 #define PZ_LIVE_SLOTS 65u
 #define PZ_LIVE_NUMBERS 195u
+#define PZ_LIVE_MOST_ENDS 63u
 
 typedef struct {
     double tolerance;
@@ -152,6 +153,14 @@ uint32_t rt_live_close(
     double tolerance, const double *points, size_t count, uint32_t *closed,
     double *end, size_t *handed);
 
+/* Sets a new tolerance, finer or coarser: the held points are fed again from the anchor under it, and the ends that this hands out go
+   to `out`, three numbers each, and their count to *handed; ends handed out before stand. Refusals: PZ_NOT_WHOLE (out not whole
+   points), PZ_TOO_MANY, PZ_BAD_NUMBER, PZ_BAD_TOLERANCE (either tolerance), PZ_CLOSED, PZ_NO_ROOM (out below 63 points, whatever is
+   held). */
+uint32_t rt_live_retune(
+    double finer, double *tolerance, double *points, size_t *count, uint32_t closed,
+    double *out, size_t out_length, size_t *handed);
+
 static inline uint32_t pz_live_start(pz_live *s, double tolerance)
 {
     return rt_live_start(tolerance, &s->tolerance, s->points, &s->count, &s->closed);
@@ -160,6 +169,11 @@ static inline uint32_t pz_live_start(pz_live *s, double tolerance)
 static inline uint32_t pz_live_feed(pz_live *s, const double point[3], double end[3], size_t *handed)
 {
     return rt_live_feed(s->tolerance, s->points, &s->count, s->closed, point, end, handed);
+}
+
+static inline uint32_t pz_live_retune(pz_live *s, double finer, double *out, size_t out_length, size_t *handed)
+{
+    return rt_live_retune(finer, &s->tolerance, s->points, &s->count, s->closed, out, out_length, handed);
 }
 
 static inline uint32_t pz_live_close(pz_live *s, double end[3], size_t *handed)

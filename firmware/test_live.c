@@ -118,12 +118,42 @@ static void test_refusals(void)
     refuses(&bad, 0, 1, PZ_CLOSED, "for a close, too");
 }
 
+/* To and fro between two points: all are held at 1000, and 63 ends come out at 1. */
+static void test_retune(void)
+{
+    watch w;
+    double out[3 * PZ_LIVE_MOST_ENDS + 3];
+    set_up(&w);
+    pz_live_start(&w.live, 1000);
+    for (int i = 0; i < 65; i++) {
+        feed(&w, 0, i % 2 ? 3 : 0, i);
+    }
+    watch before = w;
+    memset(out, 0xA5, sizeof out);
+    double marks[3 * PZ_LIVE_MOST_ENDS + 3];
+    memcpy(marks, out, sizeof out);
+    check(pz_live_retune(&w.live, 1, out, 190, &w.handed) == PZ_NOT_WHOLE, "an output that is not whole points");
+    check(pz_live_retune(&w.live, 1, out, 186, &w.handed) == PZ_NO_ROOM, "room for 62 ends");
+    check(pz_live_retune(&w.live, 0, out, 186, &w.handed) == PZ_BAD_TOLERANCE, "the new tolerance comes before the room");
+    w.live.closed = 1;
+    check(pz_live_retune(&w.live, 1, out, 186, &w.handed) == PZ_CLOSED, "the close comes before the room");
+    check(pz_live_retune(&w.live, 0, out, 189, &w.handed) == PZ_BAD_TOLERANCE, "and after the tolerance");
+    w.live.closed = 0;
+    check(!memcmp(&w, &before, sizeof w) && !memcmp(out, marks, sizeof out), "refusals leave all");
+    check(pz_live_retune(&w.live, 1, out, 192, &w.handed) == PZ_DONE && w.handed == 63, "63 ends come out");
+    check(out[0] == 0 && out[1] == 3 && out[2] == 1 && out[188] == 63 && w.live.count == 2, "the held points in order");
+    check(!memcmp(out + 189, marks + 189, 3 * sizeof *out) && w.live.tolerance == 1, "and no more is written");
+    check(pz_live_retune(&w.live, 1000, out, 189, &w.handed) == PZ_DONE && w.handed == 0, "a coarser one hands out none");
+    check(marks_whole(&w), "only the state and the ends are written");
+}
+
 int main(void)
 {
     test_run();
     test_short();
     test_full();
     test_refusals();
+    test_retune();
     printf("live thinner: %d checks, %d wrong\n", checks, failures);
     return failures != 0;
 }

@@ -25,6 +25,21 @@ class Live(Case):
         rows, _ = self.ends(self.put("bend.txt", BEND), 1000)
         self.assertEqual([row[2] for row in rows], ["6"])
 
+    def test_finer_in_mid_run(self):
+        place = self.put("bend.txt", BEND)
+        rows, _ = self.ends(place, 1000, "--change", "4.5:1")
+        # the corner comes out late, when the display is turned finer, which is after the fifth position
+        self.assertEqual([row[:5] for row in rows], [["1", "1", "3", "2.00", "4.00"], ["1", "2", "6", "5.00", "5.00"]])
+        self.assertEqual(rows[0][-1], "2")
+        coarser = self.ends(place, 1, "--change", "4.5:1000")[0]
+        self.assertEqual([row[2] for row in coarser], ["3", "6"])
+
+    def test_bad_changes_are_told(self):
+        place = self.put("bend.txt", BEND)
+        self.told(3, "no lap is run at 99 s", "live", place, 1, "--change", "99:2")
+        self.told(16, "the tolerance must be", "live", place, 1, "--change", "4:0")
+        self.told(2, "invalid change value", "live", place, 1, "--change", "4")
+
     def test_sample(self):
         rows, _ = self.ends(WORKOUT, 1)
         for row in rows:

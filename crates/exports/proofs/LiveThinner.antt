@@ -11,16 +11,19 @@ use lib.Ieee.{Float}
 use Rattle.floats.proofs.Order.{either}
 use Rattle.geo.specs.declared.types.Point3D.{Point3D}
 use Rattle.geo.specs.Lent.{flat, triple}
-use Rattle.geo.specs.Outcome.{refusal, Outcome, refused, gives, unless}
+use Rattle.geo.specs.declared.types.Answer.the-variants as Answer·
+use Rattle.geo.specs.Outcome.{refusal, Outcome, refused, gives, unless, left}
+use Rattle.geo.specs.Outcome as Outcome·
 use Rattle.geo.proofs.Rows.{unless-refused, unless-gives, unless-given}
 use Rattle.live.specs.declared.live.Live.{Live}
 use Rattle.live.specs.declared.live.End.the-variants.{At, Nothing, Refused}
 use Rattle.live.specs.declared.live.Fed.{Fed}
+use Rattle.live.specs.declared.live.Retuned.{Retuned}
 use Rattle.live.specs.Thinner.{Next, shut, started}
-use Rattle.live.specs.Calls.{feed, close, startRows, liveRows, nextOf, liveCall, endFor, given, fedAnswer}
+use Rattle.live.specs.Calls.{feed, close, startRows, liveRows, nextOf, liveCall, endFor, given, fedAnswer, endsGiven, stateAfter, Tuned}
 use Rattle.live.proofs.Counts.{push-most}
 use Rattle.exports.specs.Plain.{numberOf, laidPlain, told}
-use Rattle.exports.specs.LiveState.{flagOf, startCall, endNumbers, endCount, Began, Kept, Ended, Shut}
+use Rattle.exports.specs.LiveState.{flagOf, startCall, endNumbers, endCount, Began, Kept, Retold, Ended, Shut}
 
 -- ---- a start
 module _ (t : Float) (n : ℕ) (s : Live) (e : (n ≡ refusal (startRows t)) × (s ≡ started t)) (t₀ : Float) (ps : List Float) (k f : ℕ) where
@@ -164,3 +167,28 @@ module _ (s : Live) (r : Fed) (a : r ≡ fedAnswer s (liveCall s close)) (f : �
 
   pub shut-refused : (k : ℕ) → r .end ≡ Refused k → Shut shutting (s .points) (s .count) f f k × Ended shutting out out h h k
   shut-refused k e = let z = refused-by s shutting one-shut r a k e in (not-shut shutting k z (s .points) (s .count) f, not-ended shutting k z out h)
+
+-- ---- a new tolerance
+module _ (s : Live) (o : Outcome Next) (out out′ : List Float) (r : Retuned) (w : Tuned s o out out′ r) (t : Float) (ps : List Float) (n h : ℕ) where
+  pub retold : (k : ℕ) → r .answer ≡ Answer·.Written k → Kept o ps (r .state .points) n (r .state .count) 0 × Retold o t (r .state .tolerance) out out′ h k 0
+  unfolding numberOf told endCount endsGiven Outcome·.answer stateAfter
+  retold k e = go o (w .wrote .says) (w .wrote .leaves) (w .state)
+    where
+      go : (o : Outcome Next) → r .answer ≡ Outcome·.answer (endsGiven o) → out′ ≡ left (flat triple) out (endsGiven o) → r .state ≡ stateAfter s o
+          → Kept o ps (r .state .points) n (r .state .count) 0 × Retold o t (r .state .tolerance) out out′ h k 0
+      go (refused m) a l z = absurd (let y : _≡_ {A = ℕ} 0 1 = cc in omega arith)
+      go (gives m) a l z =
+          let c : k ≡ length (m .ends) = cc in (
+            record { says = refl; points = ap (λ (x : Live). x .points) z; count = ap (λ (x : Live). x .count) z },
+            record { says = refl; tolerance = ap (λ (x : Live). x .tolerance) z; numbers = l; count = c },
+          )
+
+  pub not-retold : (k : ℕ) → r .answer ≡ Answer·.Refused k → Kept o ps ps n n k × Retold o t t out out′ h h k
+  unfolding numberOf told endsGiven Outcome·.answer
+  not-retold k e = go o (w .wrote .says) (w .wrote .leaves)
+    where
+      go : (o : Outcome Next) → r .answer ≡ Outcome·.answer (endsGiven o) → out′ ≡ left (flat triple) out (endsGiven o) → Kept o ps ps n n k × Retold o t t out out′ h h k
+      go (refused m) a l =
+          let c : k ≡ m = cc in
+          (record { says = c; points = refl; count = refl }, record { says = c; tolerance = refl; numbers = l; count = refl })
+      go (gives m) a l = absurd (let y : _≡_ {A = ℕ} 0 1 = cc in omega arith)

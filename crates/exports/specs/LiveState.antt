@@ -8,10 +8,10 @@ use lib.Dec.{eqb}
 use lib.Ieee.{Float}
 use Rattle.geo.specs.declared.types.Point3D.{Point3D}
 use Rattle.geo.specs.Lent.{flat, triple, pointAt}
-use Rattle.geo.specs.Outcome.{refusal, Outcome, unless}
+use Rattle.geo.specs.Outcome.{refusal, Outcome, unless, left}
 use Rattle.live.specs.declared.live.Live.{Live}
 use Rattle.live.specs.Thinner.{Next, started}
-use Rattle.live.specs.Calls.{startRows}
+use Rattle.live.specs.Calls.{startRows, endsGiven}
 use Rattle.exports.specs.Plain.{numberOf, laidPlain, told}
 
 -- a point lent as three numbers
@@ -51,6 +51,13 @@ pub record Kept (o : Outcome Next) (ps ps′ : List Float) (n n′ r : ℕ) : Ty
   pub says : r ≡ numberOf o
   pub points : ps′ ≡ told (λ a. a .state .points) ps o
   pub count : n′ ≡ told (λ a. a .state .count) n o
+
+-- a new tolerance is written beside them, and the ends at the front of the output
+pub record Retold (o : Outcome Next) (t t′ : Float) (out out′ : List Float) (h h′ r : ℕ) : Type 0 where
+  pub says : r ≡ numberOf o
+  pub tolerance : t′ ≡ told (λ a. a .state .tolerance) t o
+  pub numbers : out′ ≡ left (flat triple) out (endsGiven o)
+  pub count : h′ ≡ told endCount h o
 
 -- a close writes the flag; the slots and the count are those of the state before
 pub record Shut (o : Outcome Next) (ps : List Float) (n flag flag′ r : ℕ) : Type 0 where

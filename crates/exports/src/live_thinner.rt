@@ -2,10 +2,12 @@
 // which the thinner is closed where it is not 0. Between two calls nothing is kept but what is lent.
 use geo::lent::point_at;
 use geo::lent::put_point;
+use geo::types::Answer;
 use live::live::End;
 use live::live::Live;
-ghost use Rattle.live.specs.Calls.{feed, close, liveCall};
-ghost use Rattle.exports.specs.LiveState.{pointOf, lentState, startCall, Began, Kept, Ended, Shut};
+ghost use lib.ListN.{length};
+ghost use Rattle.live.specs.Calls.{feed, retune, close, liveCall};
+ghost use Rattle.exports.specs.LiveState.{pointOf, lentState, startCall, Began, Kept, Retold, Ended, Shut};
 
 // Starts a thinner: all of its state is written.
 #[no_mangle]
@@ -110,5 +112,42 @@ pub extern "C" fn rt_live_close(
             0
         }
         End::Refused(n) => n,
+    }
+}
+
+// Sets a new tolerance: the ends that the held points come to under it go to `out`, and how many there are to `handed`.
+#[no_mangle]
+pub extern "C" fn rt_live_retune(
+    finer: f64,
+    tolerance: &mut f64,
+    points: &mut [f64; Live::NUMBERS],
+    count: &mut usize,
+    closed: u32,
+    out: &mut [f64],
+    handed: &mut usize,
+) -> u32
+    ensures state { λ r. ⌜ Kept (liveCall (lentState (now (tolerance .entry)) (now (points .entry)) (now (count .entry)) closed) (retune finer (length (now (out .entry))))) (now (points .entry)) (now (points .exit)) (now (count .entry)) (now (count .exit)) r ⌝ }
+    ensures ends { λ r. ⌜ Retold (liveCall (lentState (now (tolerance .entry)) (now (points .entry)) (now (count .entry)) closed) (retune finer (length (now (out .entry))))) (now (tolerance .entry)) (now (tolerance .exit)) (now (out .entry)) (now (out .exit)) (now (handed .entry)) (now (handed .exit)) r ⌝ }
+{
+    let ps = *points;
+    let state = Live {
+        tolerance: *tolerance,
+        points: ps,
+        count: *count,
+        closed: closed != 0,
+    };
+    let tuned = state.retune(finer, out);
+    let next = tuned.state;
+    let a = tuned.answer;
+    match a {
+        Answer::Written(n) => {
+            *handed = n;
+            *tolerance = next.tolerance;
+            let qs = next.points;
+            *points = qs;
+            *count = next.count;
+            0
+        }
+        Answer::Refused(n) => n,
     }
 }

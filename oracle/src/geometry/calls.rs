@@ -266,6 +266,17 @@ unsafe extern "C" {
         handed: *mut usize,
     ) -> u32;
 
+    pub fn rt_live_retune(
+        finer: f64,
+        tolerance: *mut f64,
+        points: *mut f64,
+        count: *mut usize,
+        closed: u32,
+        out: *mut f64,
+        room: usize,
+        handed: *mut usize,
+    ) -> u32;
+
     pub fn rt_fit_arcs(
         kinds: *const u8,
         count_kinds: usize,

@@ -27,7 +27,7 @@ use super::lent::Purpose;
 use super::{list_bezier, list_course, list_fit, list_laps, list_live, list_simplify};
 use std::io::{Result, Write};
 
-const NAMES: [&str; 28] = [
+const NAMES: [&str; 29] = [
     "get_midpoint_3d",
     "get_bezier_point_at",
     "split_bezier",
@@ -56,6 +56,7 @@ const NAMES: [&str; 28] = [
     "live_start",
     "live_feed",
     "live_close",
+    "live_retune",
 ];
 
 const VALUES: [&str; 4] = ["t", "tolerance_sq", "resolution", "tolerance"];

@@ -1,7 +1,7 @@
-//! The live thinner beside a plain model of document 02's words (§2) over the given Rust's deviation: whole runs, each call
-//! given the last one's state, and single calls on states that no run reaches.
+//! The live thinner beside a plain model of document 02's words (§2, §12) over the given Rust's deviation: whole runs, each
+//! call given the last one's state, and single calls on states that no run reaches.
 use super::bezier::triple;
-use super::calls::{rt_live_close, rt_live_feed, rt_live_start};
+use super::calls::{rt_live_close, rt_live_feed, rt_live_retune, rt_live_start};
 use super::draw::Draw;
 use super::frame::{Call, Compared, Function, Outcome};
 use super::lent::{Lent, patterns};
@@ -10,11 +10,14 @@ use super::table::{self, Row};
 use raygeo::geo::algo::fitting::get_polyline_line_deviation;
 use raygeo::geo::types::Point3D;
 
-pub const FUNCTIONS: [Function; 4] = [live_run, live_start, live_feed, live_close];
+pub const FUNCTIONS: [Function; 5] = [live_run, live_start, live_feed, live_close, live_retune];
 
 /// "an anchor and up to 64 points after it", three numbers each
 pub const SLOTS: usize = 65;
 pub const NUMBERS: usize = 3 * SLOTS;
+
+/// "Its most is 63 ends."
+pub const MOST: usize = 63;
 
 pub type Triple = [f64; 3];
 
@@ -75,6 +78,27 @@ impl State {
         self.put(self.count, p);
         self.count += 1;
         None
+    }
+
+    /// "After the close it gives 10, checked after 6 and before 9."
+    pub fn retune_refusal(&self, finer: f64, room: usize) -> u32 {
+        first(&[
+            table::not_whole(room, 3),
+            (2, self.count > SLOTS),
+            table::outside(table::coordinates(&self.points)),
+            table::bad_tolerance(table::tolerance(self.tolerance) && table::tolerance(finer)),
+            (10, self.closed != 0),
+            table::no_room(room, 3 * MOST),
+        ])
+    }
+
+    /// "the held points are fed again from the anchor under the new tolerance, in order, and may hand out several ends": each with
+    /// its slot.
+    pub fn retune(&mut self, finer: f64) -> Vec<(usize, Triple)> {
+        let held: Vec<Triple> = (0..self.count).map(|i| self.slot(i)).collect();
+        self.tolerance = finer;
+        self.count = self.count.min(1);
+        (1..held.len()).filter_map(|i| self.feed(held[i]).map(|end| (i - 1, end))).collect()
     }
 
     /// "A close hands out the last point fed. A run of no or one point hands out none."
@@ -153,6 +177,31 @@ pub fn close_of(s: &State) -> Compared {
     )
 }
 
+pub fn retune_of(s: &State, finer: f64, room: usize) -> Compared {
+    let mut lent = lent_state(s);
+    lent[3] = Lent::room(room);
+    lent.push(Lent::room(0).written(&patterns(&[s.tolerance])));
+    let mut own = arguments(s, &[finer]);
+    own.push(("room", vec![room as u64]));
+    let call = Call { function: "live_retune", arguments: own, refusal: s.retune_refusal(finer, room), lent };
+    call.compare(
+        |lent| {
+            let (points, count, out) = (lent[0].as_mut_ptr(), lent[1].as_mut_ptr(), lent[3].as_mut_ptr());
+            let (handed, tolerance) = (lent[4].as_mut_ptr(), lent[5].as_mut_ptr());
+            unsafe { rt_live_retune(finer, tolerance, points, count, s.closed, out, room, handed) }
+        },
+        |before| {
+            let mut next = s.clone();
+            let ends = next.retune(finer);
+            let mut after = lent_state(&next);
+            after[3] = before[3].written(&ends.iter().flat_map(|end| patterns(&end.1)).collect::<Vec<u64>>());
+            after[4] = before[4].written(&[ends.len() as u64]);
+            after.push(before[5].written(&patterns(&[finer])));
+            after
+        },
+    )
+}
+
 pub fn start_of(tolerance: f64) -> Compared {
     let mut lent = lent_state(&State::new(0.0));
     (lent[0], lent[4]) = (Lent::room(NUMBERS), Lent::room(1));
@@ -224,15 +273,44 @@ fn live_close(draw: &mut Draw) -> Compared {
     close_of(&forged(draw).0)
 }
 
+/// A new tolerance: finer, coarser, the same, outside the domain.
+pub fn another(draw: &mut Draw, tolerance: f64) -> f64 {
+    match draw.below(4) {
+        0 => draw.edge(&[(1_000.0, "retuned: to the coarsest"), (0.001, "retuned: to the finest")]),
+        1 if table::tolerance(tolerance) => {
+            draw.label("retuned: by half or twice");
+            tolerance * draw.of(&[0.5, 1.0, 2.0])
+        }
+        _ => draw.tolerance(),
+    }
+}
+
+pub fn room_for_ends(draw: &mut Draw) -> usize {
+    match draw.below(12) {
+        0 => draw.labelled("room for 62 ends", 3 * MOST - 3),
+        1 => draw.labelled("room not whole", 3 * MOST + 1),
+        2 => draw.labelled("no room", 0),
+        3 => draw.labelled("more room", 4 * MOST),
+        _ => 3 * MOST,
+    }
+}
+
+fn live_retune(draw: &mut Draw) -> Compared {
+    let (s, _) = forged(draw);
+    let finer = another(draw, s.tolerance);
+    retune_of(&s, finer, room_for_ends(draw))
+}
+
 // ---- whole runs
 
 #[derive(Clone, Copy)]
 enum Event {
     Feed(Triple),
+    Retune(f64, usize),
     Close,
 }
 
-fn events(draw: &mut Draw, list: &[f64]) -> Vec<Event> {
+fn events(draw: &mut Draw, list: &[f64], tolerance: f64) -> Vec<Event> {
     let mut all: Vec<Event> = list.chunks(3).map(|p| Event::Feed([p[0], p[1], p[2]])).collect();
     if !all.is_empty() && draw.one_in(10) {
         draw.label("a close in the middle");
@@ -243,12 +321,19 @@ fn events(draw: &mut Draw, list: &[f64]) -> Vec<Event> {
         let place = draw.below(all.len() + 1);
         all.insert(place, Event::Feed([draw.of(&[f64::NAN, 1e7, f64::INFINITY]), 0.0, 0.0]));
     }
+    if draw.flag() {
+        for _ in 0..1 + draw.below(4) {
+            draw.label("a new tolerance");
+            let place = draw.below(all.len() + 1);
+            all.insert(place, Event::Retune(another(draw, tolerance), room_for_ends(draw)));
+        }
+    }
     if !draw.one_in(8) {
         all.push(Event::Close);
     }
     if draw.one_in(8) {
         draw.label("calls after the close");
-        all.extend([Event::Feed([1.0, 2.0, 3.0]), Event::Close]);
+        all.extend([Event::Feed([1.0, 2.0, 3.0]), Event::Retune(1.0, 3 * MOST), Event::Retune(1.0, 0), Event::Close]);
     }
     all
 }
@@ -278,27 +363,47 @@ impl Trace {
     }
 }
 
+/// The first words that a call answers, and those of the ends and of the state.
+fn answered(words: &mut Vec<u64>, refused: u32, ends: &[f64], s: &State) {
+    words.extend([refused as u64, (ends.len() / 3) as u64]);
+    words.extend(patterns(ends));
+    words.extend(patterns(&s.points));
+    words.extend([s.count as u64, (s.closed != 0) as u64, s.tolerance.to_bits()]);
+}
+
+impl State {
+    fn refuses(&self, event: &Event) -> u32 {
+        match event {
+            Event::Feed(p) => self.refusal(p),
+            Event::Retune(finer, room) => self.retune_refusal(*finer, *room),
+            Event::Close => self.refusal(&[]),
+        }
+    }
+
+    /// The ends of an accepted call, each with its place among the points fed.
+    fn made(&mut self, event: &Event, fed: &mut Vec<Point3D>) -> Vec<(usize, Triple)> {
+        let (last, anchor) = (fed.len().saturating_sub(1), fed.len() - self.count);
+        match event {
+            Event::Feed(p) => {
+                fed.push(triple(p, 0));
+                self.feed(*p).map(|end| (last, end)).into_iter().collect()
+            }
+            Event::Retune(finer, _) => {
+                self.retune(*finer).into_iter().map(|(slot, end)| (anchor + slot, end)).collect()
+            }
+            Event::Close => self.close().map(|end| (last, end)).into_iter().collect(),
+        }
+    }
+}
+
 /// What the model answers to each call, as words.
 fn modelled(tolerance: f64, events: &[Event]) -> Vec<u64> {
     let (mut s, mut trace, mut words) = (State::new(tolerance), Trace::default(), Vec::new());
     for event in events {
-        let refused = s.refusal(if let Event::Feed(p) = event { p } else { &[] });
-        let mut end = None;
-        if refused == 0 {
-            let last = trace.fed.len().saturating_sub(1);
-            end = match event {
-                Event::Feed(p) => {
-                    trace.fed.push(triple(p, 0));
-                    s.feed(*p)
-                }
-                Event::Close => s.close(),
-            };
-            trace.places.extend(end.map(|_| (last, s.tolerance)));
-        }
-        words.extend([refused as u64, end.is_some() as u64]);
-        words.extend(end.map_or(vec![], |p| patterns(&p)));
-        words.extend(patterns(&s.points));
-        words.extend([s.count as u64, (s.closed != 0) as u64]);
+        let refused = s.refuses(event);
+        let ends = if refused == 0 { s.made(event, &mut trace.fed) } else { vec![] };
+        trace.places.extend(ends.iter().map(|end| (end.0, s.tolerance)));
+        answered(&mut words, refused, &ends.iter().flat_map(|end| end.1).collect::<Vec<f64>>(), &s);
     }
     words.push(trace.holds(s.closed != 0) as u64);
     words
@@ -309,21 +414,21 @@ fn proved(tolerance: f64, events: &[Event]) -> Vec<u64> {
     let (mut s, mut words) = (State::new(f64::NAN), Vec::new());
     s.points.fill(f64::NAN);
     unsafe { rt_live_start(tolerance, &mut s.tolerance, s.points.as_mut_ptr(), &mut s.count, &mut s.closed) };
+    let mut out = vec![0.0; 4 * MOST];
     for event in events {
-        let (mut end, mut handed) = ([0.0; 3], 0);
-        let points = s.points.as_mut_ptr();
+        let (mut handed, points, end) = (0, s.points.as_mut_ptr(), out.as_mut_ptr());
         let refused = match event {
             Event::Feed(p) => unsafe {
-                rt_live_feed(s.tolerance, points, &mut s.count, s.closed, p.as_ptr(), end.as_mut_ptr(), &mut handed)
+                rt_live_feed(s.tolerance, points, &mut s.count, s.closed, p.as_ptr(), end, &mut handed)
+            },
+            Event::Retune(finer, room) => unsafe {
+                rt_live_retune(*finer, &mut s.tolerance, points, &mut s.count, s.closed, end, *room, &mut handed)
             },
             Event::Close => unsafe {
-                rt_live_close(s.tolerance, points, s.count, &mut s.closed, end.as_mut_ptr(), &mut handed)
+                rt_live_close(s.tolerance, points, s.count, &mut s.closed, end, &mut handed)
             },
         };
-        words.extend([refused as u64, handed as u64]);
-        words.extend(patterns(&end[..3 * handed]));
-        words.extend(patterns(&s.points));
-        words.extend([s.count as u64, (s.closed != 0) as u64]);
+        answered(&mut words, refused, &out[..3 * handed], &s);
     }
     words.push(1);
     words
@@ -332,6 +437,7 @@ fn proved(tolerance: f64, events: &[Event]) -> Vec<u64> {
 fn words_of(event: &Event) -> Vec<u64> {
     match event {
         Event::Feed(p) => [vec![0], patterns(p)].concat(),
+        Event::Retune(finer, room) => vec![2, finer.to_bits(), *room as u64],
         Event::Close => vec![1],
     }
 }
@@ -349,7 +455,7 @@ fn live_run(draw: &mut Draw) -> Compared {
         0 => draw.labelled("tolerance coarse", 1_000) as f64,
         _ => Some(tolerance_for(draw, &list, 3)).filter(|t| table::tolerance(*t)).unwrap_or(1.0),
     };
-    let events = events(draw, &list);
+    let events = events(draw, &list, tolerance);
     Compared {
         function: "live run",
         arguments: vec![
