@@ -32,6 +32,12 @@ def listed(word):
     return [part for part in word.replace(",", " ").split() if part]
 
 
+def change(word):
+    """A time and the tolerance from then on."""
+    time, _, tolerance = word.partition(":")
+    return float(time), float(tolerance)
+
+
 def columns(word):
     """Names of columns; '-' skips one."""
     names = word.split(",")
@@ -74,6 +80,8 @@ COMMANDS = {
                 ("workout", "tolerance", "counts"), ("reading", "fit", "limits", "to", "force")),
     "sheet": (commands.print_sheet, "a sheet to count strides on", (), ("to", "force")),
     "advise": (commands.advise, "which tolerance to take, from the receiver's noise", ("workout",), ("reading", "to", "force")),
+    "live": (commands.live, "play a recording as the watch draws it: where each end of a straight came out, and how late",
+             ("workout", "tolerance"), ("reading", "to", "force")),
     "replace": (commands.replace, "put another recording in the place of a lap, and fit it",
                 ("lap", "new_lap", "tolerance", "workout", "fitted", "new_workout", "new_fitted"), ("reading", "force")),
     "text": (commands.text, "a lap file's commands as text", ("file",), ("to", "force")),
@@ -109,6 +117,9 @@ def special(name, parser):
         parser.add_argument("--far", type=float, default=3.0, help="by how many percent a stride may change (default %(default)s)")
     if name == "advise":
         parser.add_argument("--tolerances", type=numbers(1, 40), metavar="LIST", help="the tolerances to try, with commas")
+    if name == "live":
+        parser.add_argument("--change", type=change, action="append", default=[], metavar="TIME:TOLERANCE",
+                            help="a new tolerance at a time of the workout, in its lap from then on; may be given several times")
     if name == "gpx":
         parser.add_argument("--workout", help="the recording, for times and the place on the earth")
         parser.add_argument("--origin", type=numbers(2, 3), metavar="LAT,LON", help="where (0, 0) is on the earth")

@@ -9,6 +9,7 @@ from fitting import check_fit, count, fit_line, fitted_pieces
 from geometry import strokes_of
 from gpx import gpx_text
 from lapfile import BEZIER, commands_of, file_of
+from live import live_text
 from page import page_of
 from picture import picture_of, svg_of
 from pieces import lap_pieces
@@ -110,6 +111,11 @@ def print_sheet(files, words):
 def advise(files, words):
     workout = recording(files, words.workout, words)
     files.save((words.to, advice_text(workout, words.tolerances or TRIED, words.workout).encode()))
+
+
+def live(files, words):
+    workout = recording(files, words.workout, words)
+    files.save((words.to, live_text(workout, words.tolerance, words.change, label(words.workout)).encode()))
 
 
 def replace(files, words):

@@ -1,6 +1,8 @@
 /* Lap files through the proved functions:
      laptool [--force] fit TOLERANCE RECORDED FITTED
      laptool [--force] replace RECORDED FITTED LAP NEW_LAP TOLERANCE OUT      (NEW_LAP: a lap file of one lap)
+     laptool live TOLERANCE      (standard input: lines 'x y z', or 'tolerance' alone for a new one; standard output: a line for
+                                  each end, 'call x y z', the calls counted from 1, with the close behind the last line)
    '-' stands for standard input, once, and for standard output. The output is written beside its place and renamed when it
    is whole; one that is there is replaced only with --force, and one that is also an input never. A refusal ends the tool
    with its number, 1 to 9, and writes nothing; what is no refusal ends it with 20. */
@@ -196,6 +198,41 @@ static int replace(char **words, int force)
     return refused ? (int)refused : write_file(words[5], force, out, count);
 }
 
+static void print_ends(size_t call, const double *ends, size_t handed)
+{
+    for (size_t i = 0; i < handed; i++, ends += 3) {
+        printf("%zu %.17g %.17g %.17g\n", call, ends[0], ends[1], ends[2]);
+    }
+}
+
+/* Plays the points and the new tolerances of standard input through the live thinner. */
+static int live(char **words)
+{
+    static pz_live thinner;
+    static double ends[3 * PZ_LIVE_MOST_ENDS];
+    char line[256];
+    double found[3];
+    size_t call = 0, handed = 0;
+    uint32_t refused = pz_live_start(&thinner, number(words[0]));
+    while (!refused && fgets(line, sizeof line, stdin)) {
+        int numbers = sscanf(line, "%lf %lf %lf", &found[0], &found[1], &found[2]);
+        if (numbers == 3) {
+            refused = pz_live_feed(&thinner, found, ends, &handed);
+        } else if (numbers == 1) {
+            refused = pz_live_retune(&thinner, found[0], ends, sizeof ends / sizeof *ends, &handed);
+        } else {
+            fail("is no point and no tolerance", line);
+        }
+        call++;
+        print_ends(call, ends, refused ? 0 : handed);
+    }
+    if (!refused) {
+        refused = pz_live_close(&thinner, ends, &handed);
+        print_ends(call + 1, ends, refused ? 0 : handed);
+    }
+    return fflush(stdout) ? fail(strerror(errno), "standard output") : (int)refused;
+}
+
 int main(int argc, char **argv)
 {
     int force = argc > 1 && !strcmp(argv[1], "--force");
@@ -206,7 +243,11 @@ int main(int argc, char **argv)
     if (argc == 8 && !strcmp(argv[1], "replace")) {
         return replace(argv + 2, force);
     }
+    if (argc == 3 && !strcmp(argv[1], "live")) {
+        return live(argv + 2);
+    }
     fprintf(stderr, "laptool [--force] fit TOLERANCE RECORDED FITTED\n"
-        "laptool [--force] replace RECORDED FITTED LAP NEW_LAP TOLERANCE OUT\n");
+        "laptool [--force] replace RECORDED FITTED LAP NEW_LAP TOLERANCE OUT\n"
+        "laptool live TOLERANCE\n");
     return OTHER;
 }

@@ -9,17 +9,23 @@ from trouble import NotBuilt, Refused, Trouble
 TOOL = Path(__file__).resolve().parent.parent / "target" / "coach" / "laptool"
 
 
-def laptool(words, data, recorded, name):
-    """What the tool writes. A refusal, which ends it with 1 to 9, is told with its place in the recorded file."""
+def run(words, data):
+    """What the tool writes, and the number of a refusal, which ends it with 1 to 9, or 0."""
     if not TOOL.exists():
         raise NotBuilt("the tool is not built yet: run coach/build first")
     done = subprocess.run([str(TOOL), *map(str, words)], input=data, capture_output=True, check=False)
-    if 1 <= done.returncode <= 9:
-        where = fault(bodies_of(recorded, name), done.returncode) if done.returncode in (4, 5) else ""
-        raise Refused(done.returncode, name + where if where else "")
-    if done.returncode:
+    if done.returncode > 9 or done.returncode < 0:
         raise Trouble(done.stderr.decode(errors="replace").strip() or f"laptool ended with {done.returncode}")
-    return done.stdout
+    return done.stdout, done.returncode
+
+
+def laptool(words, data, recorded, name):
+    """What the tool writes. A refusal is told with its place in the recorded file."""
+    written, refused = run(words, data)
+    if refused:
+        where = fault(bodies_of(recorded, name), refused) if refused in (4, 5) else ""
+        raise Refused(refused, name + where if where else "")
+    return written
 
 
 def fitted_bytes(tolerance, recorded, name):
@@ -34,3 +40,14 @@ def replaced_bytes(recorded, fitted, lap, new_lap, tolerance, name):
         second.write_bytes(fitted)
         third.write_bytes(new_lap)
         return laptool(["replace", "-", second, lap, third, tolerance, "-"], recorded, recorded, name)
+
+
+def live_ends(tolerance, calls, name):
+    """The ends that the live thinner hands out: a call is a place that is fed, or one number, a new tolerance. For each end the call
+    that handed it out, counted from 0, the close being behind the last one, and where it is."""
+    lines = "".join(" ".join(map(repr, map(float, call))) + "\n" for call in calls)
+    written, refused = run(["live", tolerance], lines.encode())
+    if refused:
+        raise Refused(refused, name)
+    ends = (line.split() for line in written.decode().splitlines())
+    return [(int(call) - 1, tuple(map(float, place))) for call, *place in ends]

@@ -53,6 +53,7 @@ extern "C" {
 #define PZ_NO_SUCH 7u       /* lap 0, or above the file's lap count */
 #define PZ_TOO_MUCH 8u      /* the most of a course or a replacement is above 800 */
 #define PZ_NO_ROOM 9u       /* the lent output holds less than the most */
+#define PZ_CLOSED 10u       /* a call on a live thinner that was closed */
 
 /* Kinds of a command. */
 #define PZ_MOVE 0u
@@ -121,6 +122,65 @@ uint32_t rt_simplify_data(
     const uint8_t *kinds, size_t kinds_length, const double *nums, size_t nums_length,
     double tolerance,
     uint8_t *out_kinds, size_t out_kinds_length, double *out_nums, size_t out_nums_length, size_t *count);
+
+/* THE LIVE THINNER draws a lap while it is run: it is fed one point a time and hands out the ends of Lines as they are settled.
+   Its state is the caller's: the slots hold `count` points, the anchor first and then up to 64 points held after it; `closed` is
+   0 while it runs, and any other value says that it was closed. A call takes constant memory and measures at most 63 points.
+   Any contents are allowed. Refusals, in the order in which they are checked, with the state left as it was:
+   PZ_TOO_MANY (count above 65), PZ_BAD_NUMBER (any of the 195 numbers, or the point's), PZ_BAD_TOLERANCE, PZ_CLOSED. */
+#define PZ_LIVE_SLOTS 65u
+#define PZ_LIVE_NUMBERS 195u
+#define PZ_LIVE_MOST_ENDS 63u
+
+typedef struct {
+    double tolerance;
+    double points[PZ_LIVE_NUMBERS];
+    size_t count;
+    uint32_t closed;
+} pz_live;
+
+/* Starts a thinner: writes the whole state, with no point fed. PZ_BAD_TOLERANCE alone. */
+uint32_t rt_live_start(double tolerance, double *kept, double *points, size_t *count, uint32_t *closed);
+
+/* Feeds a point, three numbers. Where the line from the anchor to it is at or above the tolerance from a point between, or 64 points
+   are held already, the previous point is handed out: *handed is 1 and `end` has its three numbers; else *handed is 0 and `end`
+   stays. */
+uint32_t rt_live_feed(
+    double tolerance, double *points, size_t *count, uint32_t closed,
+    const double *point, double *end, size_t *handed);
+
+/* Closes the thinner: the last point fed is handed out, save where it is the only one; *closed is 1 then. */
+uint32_t rt_live_close(
+    double tolerance, const double *points, size_t count, uint32_t *closed,
+    double *end, size_t *handed);
+
+/* Sets a new tolerance, finer or coarser: the held points are fed again from the anchor under it, and the ends that this hands out go
+   to `out`, three numbers each, and their count to *handed; ends handed out before stand. Refusals: PZ_NOT_WHOLE (out not whole
+   points), PZ_TOO_MANY, PZ_BAD_NUMBER, PZ_BAD_TOLERANCE (either tolerance), PZ_CLOSED, PZ_NO_ROOM (out below 63 points, whatever is
+   held). */
+uint32_t rt_live_retune(
+    double finer, double *tolerance, double *points, size_t *count, uint32_t closed,
+    double *out, size_t out_length, size_t *handed);
+
+static inline uint32_t pz_live_start(pz_live *s, double tolerance)
+{
+    return rt_live_start(tolerance, &s->tolerance, s->points, &s->count, &s->closed);
+}
+
+static inline uint32_t pz_live_feed(pz_live *s, const double point[3], double end[3], size_t *handed)
+{
+    return rt_live_feed(s->tolerance, s->points, &s->count, s->closed, point, end, handed);
+}
+
+static inline uint32_t pz_live_retune(pz_live *s, double finer, double *out, size_t out_length, size_t *handed)
+{
+    return rt_live_retune(finer, &s->tolerance, s->points, &s->count, s->closed, out, out_length, handed);
+}
+
+static inline uint32_t pz_live_close(pz_live *s, double end[3], size_t *handed)
+{
+    return rt_live_close(s->tolerance, s->points, s->count, &s->closed, end, handed);
+}
 
 #ifdef __cplusplus
 }

@@ -1,3 +1,4 @@
 pub mod Answers
 pub mod Plain
 pub mod Runs
+pub mod LiveThinner

@@ -10,6 +10,7 @@ pub mod counts;
 pub mod courses;
 pub mod fits;
 pub mod lap_files;
+pub mod live_thinner;
 pub mod numbers;
 pub mod points;
 pub mod simplifies;

@@ -52,6 +52,10 @@ pub fn call(
             t,
             bytes,
         ),
+        25 => crate::thinner::start(t, out),
+        26 => crate::thinner::feed(t, numbers, h.first, h.second, out),
+        27 => crate::thinner::close(t, numbers, h.first, h.second, out),
+        28 => crate::thinner::retune(t, numbers, h.first, h.second, out),
         _ => Answer::Refused(DAMAGED),
     }
 }

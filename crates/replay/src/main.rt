@@ -1,11 +1,12 @@
-// Replays recorded calls of every geometric function and of both functions of lap files, and compares each with what the
-// given Rust answered. Standard input has the records, up to 1,000,000 of them, made by `oracle/run geometry list 4930 1`.
+// Replays recorded calls of every geometric function, of both functions of lap files and of the live thinner, and compares each with what the
+// given Rust answered. Standard input has the records, up to 1,000,000 of them, made by `oracle/run geometry list 5130 1`.
 // The program prints how many were compared, and how many differ; a damaged one differs and ends the run.
 mod calls;
 mod circles;
 mod curves;
 mod fits;
 mod layout;
+mod thinner;
 
 use crate::layout::BEFORE;
 use crate::layout::BEFORE_BYTE;

@@ -240,6 +240,44 @@ unsafe extern "C" {
         ranges: *mut usize,
     ) -> u32;
 
+    pub fn rt_live_start(
+        tolerance: f64,
+        kept: *mut f64,
+        points: *mut f64,
+        count: *mut usize,
+        closed: *mut u32,
+    ) -> u32;
+
+    pub fn rt_live_feed(
+        tolerance: f64,
+        points: *mut f64,
+        count: *mut usize,
+        closed: u32,
+        point: *const f64,
+        end: *mut f64,
+        handed: *mut usize,
+    ) -> u32;
+
+    pub fn rt_live_close(
+        tolerance: f64,
+        points: *const f64,
+        count: usize,
+        closed: *mut u32,
+        end: *mut f64,
+        handed: *mut usize,
+    ) -> u32;
+
+    pub fn rt_live_retune(
+        finer: f64,
+        tolerance: *mut f64,
+        points: *mut f64,
+        count: *mut usize,
+        closed: u32,
+        out: *mut f64,
+        room: usize,
+        handed: *mut usize,
+    ) -> u32;
+
     pub fn rt_fit_arcs(
         kinds: *const u8,
         count_kinds: usize,

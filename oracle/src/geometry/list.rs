@@ -5,8 +5,8 @@
 //! |---|---|
 //! | 0 | the function: its place in `NAMES` |
 //! | 1 | the pattern of the tolerance, of a Bezier's parameter or of its resolution; 0 where there is none |
-//! | 2 | the start of a range, the step count, the depth, the lap; 1 where a tolerance is given, or arcs are fitted |
-//! | 3 | the end of a range; of `fit_points_with_primitives` the ranges examined |
+//! | 2 | the start of a range, the step count, the depth, the lap, a live thinner's count; 1 where a tolerance is given, or arcs are fitted |
+//! | 3 | the end of a range, a live thinner's flag; of `fit_points_with_primitives` the ranges examined |
 //! | 4 | how many numbers are lent |
 //! | 5 | how many kinds |
 //! | 6 | how many bytes of a recorded file |
@@ -24,10 +24,10 @@
 use super::frame::Compared;
 use super::laps::first_bytes;
 use super::lent::Purpose;
-use super::{list_bezier, list_course, list_fit, list_laps, list_simplify};
+use super::{list_bezier, list_course, list_fit, list_laps, list_live, list_simplify};
 use std::io::{Result, Write};
 
-const NAMES: [&str; 25] = [
+const NAMES: [&str; 29] = [
     "get_midpoint_3d",
     "get_bezier_point_at",
     "split_bezier",
@@ -53,6 +53,10 @@ const NAMES: [&str; 25] = [
     "optimize_path_from_array",
     "fit_file",
     "replace_lap",
+    "live_start",
+    "live_feed",
+    "live_close",
+    "live_retune",
 ];
 
 const VALUES: [&str; 4] = ["t", "tolerance_sq", "resolution", "tolerance"];
@@ -137,12 +141,13 @@ pub fn filled(mut records: Vec<Record>, count: usize, mut drawn: impl FnMut(usiz
 type Layer = fn(usize, u64) -> Vec<Record>;
 
 /// The layers, each with its share of a list.
-const LAYERS: [(usize, Layer); 5] = [
+const LAYERS: [(usize, Layer); 6] = [
     (200, list_bezier::records),
     (100, list_simplify::records),
     (100, list_fit::records),
     (60, list_course::records),
     (33, list_laps::records),
+    (20, list_live::records),
 ];
 
 /// Writes `count` records, layer by layer, each from the seed.

@@ -1,0 +1,5 @@
+pub mod Counts
+pub mod Pushing
+pub mod Answers
+pub mod Replaying
+pub mod Tuned

@@ -1,0 +1,3 @@
+pub mod Thinner
+pub mod Calls
+pub mod Replay
