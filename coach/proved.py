@@ -4,17 +4,17 @@ import tempfile
 from pathlib import Path
 
 from lapfile import fault, bodies_of
-from trouble import NotBuilt, Refused, Trouble
+from trouble import REFUSALS, NotBuilt, Refused, Trouble
 
 TOOL = Path(__file__).resolve().parent.parent / "target" / "coach" / "laptool"
 
 
 def laptool(words, data, recorded, name):
-    """What the tool writes. A refusal, which ends it with 1 to 9, is told with its place in the recorded file."""
+    """What the tool writes. A refusal, which ends it with its number, is told with its place in the recorded file."""
     if not TOOL.exists():
         raise NotBuilt("the tool is not built yet: run coach/build first")
     done = subprocess.run([str(TOOL), *map(str, words)], input=data, capture_output=True, check=False)
-    if 1 <= done.returncode <= 9:
+    if done.returncode in REFUSALS:
         where = fault(bodies_of(recorded, name), done.returncode) if done.returncode in (4, 5) else ""
         raise Refused(done.returncode, name + where if where else "")
     if done.returncode:
@@ -25,6 +25,16 @@ def laptool(words, data, recorded, name):
 def fitted_bytes(tolerance, recorded, name):
     """The fit of a recorded lap file."""
     return laptool(["fit", tolerance, "-", "-"], recorded, recorded, name)
+
+
+def lines_bytes(tolerance, fitted, name):
+    """The fitted file with every Arc as Lines."""
+    try:
+        return laptool(["lines", tolerance, "-", "-"], fitted, fitted, name)
+    except Refused:
+        raise
+    except Trouble as trouble:
+        raise Trouble(str(trouble).replace("laptool: -", name)) from None
 
 
 def replaced_bytes(recorded, fitted, lap, new_lap, tolerance, name):

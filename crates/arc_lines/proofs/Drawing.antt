@@ -13,14 +13,18 @@ use Rattle.geo.specs.declared.types.Point.{Point}
 use Rattle.geo.specs.declared.types.Point3D.{Point3D}
 use Rattle.geo.specs.declared.types.Command.{Command}
 use Rattle.geo.specs.declared.types.Command.the-variants.{Line}
+use Rattle.geo.specs.Lent.{pointAt}
+use Rattle.geo.specs.Outcome.{refusal, gives}
+use Rattle.geo.proofs.Rows.{unless-given}
 use Rattle.trial.specs.Traversal.{offsetOf, dot2}
 use Rattle.flatten.specs.Parts.{mostHalvings, centreOf, lengthBy, quarterTurn, onward, turnsBefore, ArcPart, halved, quartered, partsBetween, partsOf}
 use Rattle.flatten.specs.Lines.{heightAfter, endAfter, lineAfter, numbered, linesOf, drawn}
+use Rattle.flatten.specs.Calls.{flattenRows, flattenCall}
 use Rattle.flatten.proofs.Parts.{turns-few, quartered-some, quartered-few}
 use Rattle.flatten.proofs.Lines.{numbered-length}
-use Rattle.arc_lines.specs.Laws.{Chained, RestDrawn, TurnDrawn, TurnsDrawn, lineTo, Drawing}
+use Rattle.arc_lines.specs.Laws.{Chained, TurnDrawn, TurnsDrawn, lineTo, Drawing}
 use Rattle.arc_lines.proofs.Halving.{chained-both, quarter-drawn}
-use Rattle.arc_lines.proofs.Quarters.{Sided, no-turn, sided-turned, one-turn}
+use Rattle.arc_lines.proofs.Quarters.{turns-before-end}
 
 -- ---- parts
 module _ (clockwise : Bool) (r limit : Float) where
@@ -32,20 +36,18 @@ module _ (clockwise : Bool) (r limit : Float) where
       let v = quarterTurn clockwise u in
       chained-both u v w (halved r limit mostHalvings u v) (quartered clockwise r limit k v w) (quarter-drawn r limit u v .chained) (quartered-chained k v w)
 
-  -- Quarter turns are taken while they fall strictly before the end, and each part is finished.
-  pub quartered-turns : (k : ℕ) (u w : Point) → Sided clockwise u w → turnsBefore clockwise u w ≡ k → TurnsDrawn clockwise r limit k u w (quartered clockwise r limit k u w)
+  -- Each quarter turn, and the rest, is drawn as a quarter is.
+  pub quartered-turns : (k : ℕ) (u w : Point) → TurnsDrawn clockwise r limit k u w (quartered clockwise r limit k u w)
   unfolding quartered
-  quartered-turns zero u w s e = record { within = no-turn clockwise u w e; drawn = quarter-drawn r limit u w }
-  quartered-turns (suc k) u w s e =
+  quartered-turns zero u w = quarter-drawn r limit u w
+  quartered-turns (suc k) u w =
       let v = quarterTurn clockwise u in
-      let t = one-turn clockwise u w k s e in
       record {
-        before = t .0;
         front = halved r limit mostHalvings u v;
         rest = quartered clockwise r limit k v w;
         joined = refl;
         drawn = quarter-drawn r limit u v;
-        others = quartered-turns k v w (sided-turned clockwise u w s) (t .1);
+        others = quartered-turns k v w;
       }
 
 -- ---- Lines
@@ -86,10 +88,10 @@ last-of m a b [] c h = absurd (omega arith)
 last-of m a b (p ∷ ps) c h = last-line m a b p ps c
 
 -- ---- all together
--- The Lines of an Arc whose first and last vector are not both across and along of zero.
-pub drawn-right : (a b o d : Point3D) (tol : Float) → Sided (d .z ≺ +0) (offsetOf (centreOf a o) a) (offsetOf (centreOf a o) b) → Drawing a b o d tol (drawn a b o d tol)
+-- The Lines of every Arc are such a drawing.
+pub drawn-right : (a b o d : Point3D) (tol : Float) → Drawing a b o d tol (drawn a b o d tol)
 unfolding drawn partsOf partsBetween
-drawn-right a b o d tol s =
+drawn-right a b o d tol =
     let m = centreOf a o in
     let u = offsetOf m a in
     let w = offsetOf m b in
@@ -104,7 +106,8 @@ drawn-right a b o d tol s =
       parts = ps;
       turns = k;
       few-turns = t;
-      turned = quartered-turns clockwise (lengthBy u) (tol ⊗ quarter) k u w s refl;
+      before = λ s. turns-before-end clockwise k u w s refl;
+      turned = quartered-turns clockwise (lengthBy u) (tol ⊗ quarter) k u w;
       chained = quartered-chained clockwise (lengthBy u) (tol ⊗ quarter) k u w;
       counted = l;
       some = omega arith;
@@ -113,3 +116,13 @@ drawn-right a b o d tol s =
       each = λ i c p h. subst (λ (n : ℕ). getD (linesOf m a b ps) i c ≡ lineTo m a b n (i + 1) (getD ps i p .to)) (sym l) (each-line m a b ps i c p (omega arith));
       last = λ c. subst (λ (n : ℕ). getD (linesOf m a b ps) (n - 1) c ≡ Line b) (sym l) (last-of m a b ps c q);
     }
+
+-- The Lines that every accepted call gives are such a drawing of the command's Arc, from the start a on.
+pub call-right : (kind : ℕ) (s : List Float) (a : Point3D) (tol : Float) (kinds numbers : ℕ) (cs : List Command) → flattenCall kind s a tol kinds numbers ≡ gives cs
+    → Drawing a (pointAt s 0) (pointAt s 1) (pointAt s 2) tol cs
+unfolding flattenCall
+call-right kind s a tol kinds numbers cs e =
+    let b = pointAt s 0 in
+    let o = pointAt s 1 in
+    let d = pointAt s 2 in
+    subst (λ (xs : List Command). Drawing a b o d tol xs) (unless-given (refusal (flattenRows kind s a tol kinds numbers)) (drawn a b o d tol) cs e .1) (drawn-right a b o d tol)

@@ -12,7 +12,7 @@ use Rattle.geo.specs.declared.types.Point.{Point}
 use Rattle.geo.specs.Vector.{dot, perpDot}
 use Rattle.trial.specs.Traversal.{cross2, dot2}
 use Rattle.flatten.specs.Parts.{quarterTurn, onward, turnsBy, turnsBefore}
-use Rattle.arc_lines.specs.Laws.{inQuarter}
+use Rattle.arc_lines.specs.Laws.{inQuarter, TurnsBefore, Sided}
 use Rattle.arc_lines.proofs.Signs.{Opposite, Alike, neg-opposite, opposite-turned, add-opposite, add-turned, mul-neg, alike-same, twice-opposite}
 
 -- ---- one quarter turn
@@ -99,22 +99,17 @@ both-false x y true true p q = clash (sym (lt-asym x y p) ∙ q)
 both-false x y true false p q = refl
 both-false x y false b p q = refl
 
-module _ (clockwise : Bool) (u w : Point) where
-  -- the cross or the dot of the two vectors, as it comes out, is not zero
-  abbrev pub Sided : Type 0
-  Sided = someSide (+0 ≺ onward clockwise u w) (onward clockwise u w ≺ +0) (+0 ≺ dot2 u w) (dot2 u w ≺ +0) ≡ true
+no-turn : (clockwise : Bool) (u w : Point) → turnsBefore clockwise u w ≡ 0 → inQuarter clockwise u w ≡ true
+unfolding turnsBefore turnsBy inQuarter
+no-turn clockwise u w e = none-by (+0 ≺ onward clockwise u w) (onward clockwise u w ≺ +0) (+0 ≺ dot2 u w) (dot2 u w ≺ +0) e
 
-  pub no-turn : turnsBefore clockwise u w ≡ 0 → inQuarter clockwise u w ≡ true
-  unfolding turnsBefore turnsBy inQuarter
-  no-turn e = none-by (+0 ≺ onward clockwise u w) (onward clockwise u w ≺ +0) (+0 ≺ dot2 u w) (dot2 u w ≺ +0) e
-
-pub sided-turned : (clockwise : Bool) (u w : Point) → Sided clockwise u w → Sided clockwise (quarterTurn clockwise u) w
+sided-turned : (clockwise : Bool) (u w : Point) → Sided clockwise u w → Sided clockwise (quarterTurn clockwise u) w
 sided-turned clockwise u w s =
     let o = cross-turned clockwise u w in
     let a = dot-turned clockwise u w in
     rw (o .above, o .under, a .above, a .under) (some-turned (+0 ≺ onward clockwise u w) (onward clockwise u w ≺ +0) (+0 ≺ dot2 u w) (dot2 u w ≺ +0) s)
 
-pub one-turn : (clockwise : Bool) (u w : Point) (k : ℕ) → Sided clockwise u w → turnsBefore clockwise u w ≡ suc k
+one-turn : (clockwise : Bool) (u w : Point) (k : ℕ) → Sided clockwise u w → turnsBefore clockwise u w ≡ suc k
     → (inQuarter clockwise u w ≡ false) × (turnsBefore clockwise (quarterTurn clockwise u) w ≡ k)
 unfolding turnsBefore turnsBy inQuarter
 one-turn clockwise u w k s e =
@@ -124,3 +119,10 @@ one-turn clockwise u w k s e =
     let a = dot-turned clockwise u w in
     let l = less-by k (+0 ≺ c) (c ≺ +0) (+0 ≺ d) (d ≺ +0) s (both-false +0 c (+0 ≺ c) (c ≺ +0) refl refl) (both-false +0 d (+0 ≺ d) (d ≺ +0) refl refl) e in
     (l .beyond, rw (o .above, o .under, a .above, a .under) (l .less))
+
+-- Each quarter turn that is taken falls strictly before the end, and one more would not.
+pub turns-before-end : (clockwise : Bool) (k : ℕ) (u w : Point) → Sided clockwise u w → turnsBefore clockwise u w ≡ k → TurnsBefore clockwise k u w
+turns-before-end clockwise zero u w s e = no-turn clockwise u w e
+turns-before-end clockwise (suc k) u w s e =
+    let t = one-turn clockwise u w k s e in
+    (t .0, turns-before-end clockwise k (quarterTurn clockwise u) w (sided-turned clockwise u w s) (t .1))

@@ -2,7 +2,7 @@
 use Prim.Native.Nat.{ℕ, zero, suc, _+_, _-_, _*_, _≤_, _<_}
 use mathlib.Core.Path.{_≡_}
 use mathlib.Core.Logic.{_⊎_}
-use mathlib.Core.Bool.{Bool, true, false, not, _&&_}
+use mathlib.Core.Bool.{Bool, true, false, not, _&&_, _||_}
 use mathlib.Core.List.{List, [], _∷_, _++_}
 use lib.ListN.{length, getD}
 use lib.IntN.{pos}
@@ -52,28 +52,31 @@ pub record QuarterDrawn (r limit : Float) (u w : Point) (ps : List ArcPart) : Ty
   pub few : length ps ≤ 1024
 
 -- ---- quarter turns
--- The end w lies beyond v, in the arc's direction, by a quarter turn or less: so the quarter turn of v does not fall strictly before it.
-unfoldable pub inQuarter : Bool → Point → Point → Bool
-inQuarter clockwise v w = (+0 ≺ onward clockwise v w) && not (dot2 v w ≺ +0)
-
--- The last of the quarter turns was taken: the end lies within one more.
-pub record RestDrawn (clockwise : Bool) (r limit : Float) (u w : Point) (ps : List ArcPart) : Type 0 where
-  pub within : inQuarter clockwise u w ≡ true
-  pub drawn : QuarterDrawn r limit u w ps
-
--- One quarter turn is taken from u, which falls strictly before the end; its parts come first, and then those of the rest.
+-- The first quarter turn's parts, and behind them those of the rest.
 pub record TurnDrawn (Rest : Point → Point → List ArcPart → Type 0) (clockwise : Bool) (r limit : Float) (u w : Point) (ps : List ArcPart) : Type 0 where
-  pub before : inQuarter clockwise u w ≡ false
   pub front : List ArcPart
   pub rest : List ArcPart
   pub joined : ps ≡ front ++ rest
   pub drawn : QuarterDrawn r limit u (quarterTurn clockwise u) front
   pub others : Rest (quarterTurn clockwise u) w rest
 
--- So many quarter turns are taken from u on while they fall strictly before the end w, and one more would not.
+-- So many exact quarter turns from u on, and then the rest up to w, each drawn as a quarter is.
 abbrev pub TurnsDrawn : Bool → Float → Float → ℕ → Point → Point → List ArcPart → Type 0
-TurnsDrawn clockwise r limit zero u w ps = RestDrawn clockwise r limit u w ps
+TurnsDrawn clockwise r limit zero u w ps = QuarterDrawn r limit u w ps
 TurnsDrawn clockwise r limit (suc k) u w ps = TurnDrawn (TurnsDrawn clockwise r limit k) clockwise r limit u w ps
+
+-- The end w lies beyond v, in the arc's direction, by a quarter turn or less: so the quarter turn of v does not fall strictly before it.
+unfoldable pub inQuarter : Bool → Point → Point → Bool
+inQuarter clockwise v w = (+0 ≺ onward clockwise v w) && not (dot2 v w ≺ +0)
+
+-- Of so many quarter turns from u on each falls strictly before the end w, and one more would not.
+abbrev pub TurnsBefore : Bool → ℕ → Point → Point → Type 0
+TurnsBefore clockwise zero u w = inQuarter clockwise u w ≡ true
+TurnsBefore clockwise (suc k) u w = (inQuarter clockwise u w ≡ false) × TurnsBefore clockwise k (quarterTurn clockwise u) w
+
+-- The cross or the dot of the first and the last vector, as it comes out, lies above or below zero.
+abbrev pub Sided : Bool → Point → Point → Type 0
+Sided clockwise u w = ((+0 ≺ onward clockwise u w) || ((onward clockwise u w ≺ +0) || ((+0 ≺ dot2 u w) || (dot2 u w ≺ +0)))) ≡ true
 
 -- ---- the Lines
 -- The i-th of n Lines, counted from 1, where i is below n: it ends at the centre plus the vector at which the i-th part ends, and its z is z0 + (z1 − z0) × (i/n).
@@ -85,8 +88,9 @@ lineTo m a b n i v =
 pub record Drawing (a b o d : Point3D) (tol : Float) (cs : List Command) : Type 0 where
   pub parts : List ArcPart
   pub turns : ℕ
-  -- at most three quarter turns, taken while they fall strictly before the end; each part met the test or the tenth halving
+  -- at most three exact quarter turns, while they fall strictly before the end; each part met the test or the tenth halving
   pub few-turns : turns ≤ 3
+  pub before : Sided (d .z ≺ +0) (offsetOf (centreOf a o) a) (offsetOf (centreOf a o) b) → TurnsBefore (d .z ≺ +0) turns (offsetOf (centreOf a o) a) (offsetOf (centreOf a o) b)
   pub turned : TurnsDrawn (d .z ≺ +0) (lengthBy (offsetOf (centreOf a o) a)) (tol ⊗ quarter) turns (offsetOf (centreOf a o) a) (offsetOf (centreOf a o) b) parts
   -- order: from the first vector to the last
   pub chained : Chained (offsetOf (centreOf a o) a) parts (offsetOf (centreOf a o) b)

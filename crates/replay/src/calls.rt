@@ -52,6 +52,7 @@ pub fn call(
             t,
             bytes,
         ),
+        29 => crate::drawings::flatten_arc(kinds, numbers, t, bytes, out),
         _ => Answer::Refused(DAMAGED),
     }
 }

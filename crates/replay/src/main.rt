@@ -1,9 +1,10 @@
 // Replays recorded calls of every geometric function and of both functions of lap files, and compares each with what the
-// given Rust answered. Standard input has the records, up to 1,000,000 of them, made by `oracle/run geometry list 4930 1`.
+// given Rust answered. Standard input has the records, up to 1,000,000 of them, made by `oracle/run geometry list 5030 1`.
 // The program prints how many were compared, and how many differ; a damaged one differs and ends the run.
 mod calls;
 mod circles;
 mod curves;
+mod drawings;
 mod layout;
 
 use crate::layout::BEFORE;
@@ -101,7 +102,7 @@ enum Found {
 
 // Reads what stands behind a head, and replays the record.
 fn replay_body(h: Head, body: &mut [u8]) -> Found
-    requires { ⌜ Whole h × (474400 ≤ length (now body)) ⌝ }
+    requires { ⌜ Whole h × (618400 ≤ length (now body)) ⌝ }
 {
     let size = body_size(h);
     if io::read_full(STDIN_FILENO, &mut body[0..size]) < size {
@@ -115,7 +116,7 @@ fn replay_body(h: Head, body: &mut [u8]) -> Found
 
 // Reads the next record and replays it.
 fn replay_one(body: &mut [u8]) -> Found
-    requires { ⌜ 474400 ≤ length (now body) ⌝ }
+    requires { ⌜ 618400 ≤ length (now body) ⌝ }
 {
     let mut head = [0; HEAD_SIZE];
     let n = io::read_full(STDIN_FILENO, &mut head);
@@ -133,8 +134,8 @@ fn replay_one(body: &mut [u8]) -> Found
 }
 
 // Room for what stands behind a head. The promise gives only the length, which lending the array asks.
-fn body_buffer() -> [u8; 474400]
-    ensures { λ r. ⌜ 474400 ≡ length r ⌝ }
+fn body_buffer() -> [u8; 618400]
+    ensures { λ r. ⌜ 618400 ≡ length r ⌝ }
 {
     [0; BODY_SIZE]
 }

@@ -3,7 +3,7 @@
 //!
 //! | word | what |
 //! |---|---|
-//! | 0 | the function: its place in `NAMES` |
+//! | 0 | the function: its place in `NAMES`, or its number in `REQUESTED` |
 //! | 1 | the pattern of the tolerance, of a Bezier's parameter or of its resolution; 0 where there is none |
 //! | 2 | the start of a range, the step count, the depth, the lap; 1 where a tolerance is given, or arcs are fitted |
 //! | 3 | the end of a range |
@@ -19,12 +19,14 @@
 //! | 13 | how many bytes |
 //! | then | the numbers that are lent, eight bytes each; the kinds and both files; the numbers and the bytes that are written |
 //!
+//! An Arc that is drawn by Lines stands as one kind, its nine numbers, and then its start.
+//!
 //! A centre or a circle stands among the numbers where it stands among the arguments: before the points of an arc, behind those
 //! of a chord.
 use super::frame::Compared;
 use super::laps::first_bytes;
 use super::lent::Purpose;
-use super::{list_bezier, list_course, list_fit, list_laps, list_simplify};
+use super::{list_bezier, list_course, list_fit, list_flatten, list_laps, list_simplify};
 use std::io::{Result, Write};
 
 const NAMES: [&str; 25] = [
@@ -54,6 +56,16 @@ const NAMES: [&str; 25] = [
     "fit_file",
     "replace_lap",
 ];
+
+/// The functions of document 02's requests, by number.
+const REQUESTED: [(u64, &str); 1] = [(29, "flatten_arc")];
+
+/// The number of a function.
+fn function_number(name: &str) -> u64 {
+    let carried = NAMES.iter().position(|carried| *carried == name).map(|place| place as u64);
+    let requested = || REQUESTED.iter().find(|(_, requested)| *requested == name).map(|(number, _)| *number);
+    carried.or_else(requested).expect("a function with a number")
+}
 
 const VALUES: [&str; 4] = ["t", "tolerance_sq", "resolution", "tolerance"];
 const WHOLES: [&str; 5] = ["steps", "depth", "range", "lap", "use_fit_arcs"];
@@ -90,7 +102,6 @@ fn wholes(call: &Compared) -> [u64; 2] {
 }
 
 pub fn record(call: &Compared) -> Record {
-    let function = NAMES.iter().position(|name| *name == call.function).expect("a function with a place");
     let numbers: Vec<u64> =
         call.arguments.iter().filter(|(name, _)| NUMBERS.contains(name)).flat_map(|(_, words)| words.clone()).collect();
     let kinds = argument(call, &["kinds"]);
@@ -100,7 +111,7 @@ pub fn record(call: &Compared) -> Record {
     let stored = call.lent(Purpose::Kinds).map_or(vec![], |lent| first_bytes(lent, call.count() as usize));
     let [start, end] = wholes(call);
     let head = [
-        function as u64,
+        function_number(call.function),
         first(argument(call, &VALUES)),
         start,
         end,
@@ -136,12 +147,13 @@ pub fn filled(mut records: Vec<Record>, count: usize, mut drawn: impl FnMut(usiz
 type Layer = fn(usize, u64) -> Vec<Record>;
 
 /// The layers, each with its share of a list.
-const LAYERS: [(usize, Layer); 5] = [
+const LAYERS: [(usize, Layer); 6] = [
     (200, list_bezier::records),
     (100, list_simplify::records),
     (100, list_fit::records),
     (60, list_course::records),
     (33, list_laps::records),
+    (10, list_flatten::records),
 ];
 
 /// Writes `count` records, layer by layer, each from the seed.
