@@ -87,16 +87,13 @@ pub turns-few : (c d : Float) → turnsBy c d ≤ 3
 unfolding turnsBy
 turns-few c d = turns-at (+0 ≺ c) (d ≺ +0) (c ≺ +0) (+0 ≺ d)
 
-module _ (clockwise : Bool) (tol : Float) (m : Point) (a b : Point3D) where
-  pub parts-some : 1 ≤ length (partsOf clockwise tol m a b)
-  unfolding partsOf partsBetween
-  parts-some = quartered-some _ _ clockwise (turnsBefore clockwise (offsetOf m a) (offsetOf m b)) _ _
+-- at most four quarters of 1,024
+pub between-few : (clockwise : Bool) (tol : Float) (u w : Point) → length (partsBetween clockwise tol u w) ≤ 4096
+unfolding partsBetween turnsBefore
+between-few clockwise tol u w =
+    let k = turnsBefore clockwise u w in
+    let p = quartered-few (lengthBy u) (tol ⊗ quarter) clockwise k u w in let q = turns-few (onward clockwise u w) (dot2 u w) in omega arith
 
-  -- at most four quarters of 1,024
-  pub parts-few : length (partsOf clockwise tol m a b) ≤ 4096
-  unfolding partsOf partsBetween turnsBefore
-  parts-few =
-      let u = offsetOf m a in
-      let w = offsetOf m b in
-      let k = turnsBefore clockwise u w in
-      let p = quartered-few (lengthBy u) (tol ⊗ quarter) clockwise k u w in let q = turns-few (onward clockwise u w) (dot2 u w) in omega arith
+pub parts-few : (clockwise : Bool) (tol : Float) (m : Point) (a b : Point3D) → length (partsOf clockwise tol m a b) ≤ 4096
+unfolding partsOf
+parts-few clockwise tol m a b = between-few clockwise tol (offsetOf m a) (offsetOf m b)

@@ -99,7 +99,8 @@ unfolding drawn linesOf
 drawn-few a b o d tol =
     let m = centreOf a o in
     let ps = partsOf (d .z ≺ +0) tol m a b in
-    let l = numbered-length (lineAfter m a b (length ps)) 1 ps in let f = parts-few (d .z ≺ +0) tol m a b in omega arith
+    let f = parts-few (d .z ≺ +0) tol m a b in
+    let l = numbered-length (lineAfter m a b (length ps)) 1 ps in omega arith
 
 -- what it answers and leaves
 pub wrote-arc : (kind : ℕ) (s : List Float) (a b o d : Point3D) (tol : Float) (ks ks′ : List ℕ) (ns ns′ : List Float) (r k : ℕ)
