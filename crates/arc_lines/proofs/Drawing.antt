@@ -24,7 +24,8 @@ use Rattle.flatten.proofs.Parts.{turns-few, quartered-some, quartered-few}
 use Rattle.flatten.proofs.Lines.{numbered-length}
 use Rattle.arc_lines.specs.Laws.{Chained, TurnDrawn, TurnsDrawn, lineTo, Drawing}
 use Rattle.arc_lines.proofs.Halving.{chained-both, quarter-drawn}
-use Rattle.arc_lines.proofs.Quarters.{turns-before-end}
+use Rattle.arc_lines.proofs.Quarters.{Sided, turns-before-end}
+use Rattle.arc_lines.proofs.Accepted.{call-drawable, vectors-sided}
 
 -- ---- parts
 module _ (clockwise : Bool) (r limit : Float) where
@@ -88,10 +89,10 @@ last-of m a b [] c h = absurd (omega arith)
 last-of m a b (p ∷ ps) c h = last-line m a b p ps c
 
 -- ---- all together
--- The Lines of every Arc are such a drawing.
-pub drawn-right : (a b o d : Point3D) (tol : Float) → Drawing a b o d tol (drawn a b o d tol)
+-- The Lines of an Arc whose first and last vector are beside each other are such a drawing.
+drawn-right : (a b o d : Point3D) (tol : Float) → Sided (d .z ≺ +0) (offsetOf (centreOf a o) a) (offsetOf (centreOf a o) b) → Drawing a b o d tol (drawn a b o d tol)
 unfolding drawn partsOf partsBetween
-drawn-right a b o d tol =
+drawn-right a b o d tol s =
     let m = centreOf a o in
     let u = offsetOf m a in
     let w = offsetOf m b in
@@ -106,7 +107,7 @@ drawn-right a b o d tol =
       parts = ps;
       turns = k;
       few-turns = t;
-      before = λ s. turns-before-end clockwise k u w s refl;
+      before = turns-before-end clockwise k u w s refl;
       turned = quartered-turns clockwise (lengthBy u) (tol ⊗ quarter) k u w;
       chained = quartered-chained clockwise (lengthBy u) (tol ⊗ quarter) k u w;
       counted = l;
@@ -125,4 +126,5 @@ call-right kind s a tol kinds numbers cs e =
     let b = pointAt s 0 in
     let o = pointAt s 1 in
     let d = pointAt s 2 in
-    subst (λ (xs : List Command). Drawing a b o d tol xs) (unless-given (refusal (flattenRows kind s a tol kinds numbers)) (drawn a b o d tol) cs e .1) (drawn-right a b o d tol)
+    subst (λ (xs : List Command). Drawing a b o d tol xs) (unless-given (refusal (flattenRows kind s a tol kinds numbers)) (drawn a b o d tol) cs e .1)
+    (drawn-right a b o d tol (vectors-sided a b o (call-drawable kind s a tol kinds numbers cs e) (d .z ≺ +0)))

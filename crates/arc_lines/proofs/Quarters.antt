@@ -12,7 +12,7 @@ use Rattle.geo.specs.declared.types.Point.{Point}
 use Rattle.geo.specs.Vector.{dot, perpDot}
 use Rattle.trial.specs.Traversal.{cross2, dot2}
 use Rattle.flatten.specs.Parts.{quarterTurn, onward, turnsBy, turnsBefore}
-use Rattle.arc_lines.specs.Laws.{inQuarter, TurnsBefore, Sided}
+use Rattle.arc_lines.specs.Laws.{inQuarter, TurnsBefore}
 use Rattle.arc_lines.proofs.Signs.{Opposite, Alike, neg-opposite, opposite-turned, add-opposite, add-turned, mul-neg, alike-same, twice-opposite}
 
 -- ---- one quarter turn
@@ -98,6 +98,10 @@ both-false : (x y : Float) (a b : Bool) → (x ≺ y) ≡ a → (y ≺ x) ≡ b 
 both-false x y true true p q = clash (sym (lt-asym x y p) ∙ q)
 both-false x y true false p q = refl
 both-false x y false b p q = refl
+
+-- The cross or the dot of the first and the last vector, as it comes out, lies above or below zero.
+abbrev pub Sided : Bool → Point → Point → Type 0
+Sided clockwise u w = ((+0 ≺ onward clockwise u w) || ((onward clockwise u w ≺ +0) || ((+0 ≺ dot2 u w) || (dot2 u w ≺ +0)))) ≡ true
 
 no-turn : (clockwise : Bool) (u w : Point) → turnsBefore clockwise u w ≡ 0 → inQuarter clockwise u w ≡ true
 unfolding turnsBefore turnsBy inQuarter

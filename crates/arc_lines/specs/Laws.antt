@@ -2,7 +2,7 @@
 use Prim.Native.Nat.{ℕ, zero, suc, _+_, _-_, _*_, _≤_, _<_}
 use mathlib.Core.Path.{_≡_}
 use mathlib.Core.Logic.{_⊎_}
-use mathlib.Core.Bool.{Bool, true, false, not, _&&_, _||_}
+use mathlib.Core.Bool.{Bool, true, false, not, _&&_}
 use mathlib.Core.List.{List, [], _∷_, _++_}
 use lib.ListN.{length, getD}
 use lib.IntN.{pos}
@@ -74,10 +74,6 @@ abbrev pub TurnsBefore : Bool → ℕ → Point → Point → Type 0
 TurnsBefore clockwise zero u w = inQuarter clockwise u w ≡ true
 TurnsBefore clockwise (suc k) u w = (inQuarter clockwise u w ≡ false) × TurnsBefore clockwise k (quarterTurn clockwise u) w
 
--- The cross or the dot of the first and the last vector, as it comes out, lies above or below zero.
-abbrev pub Sided : Bool → Point → Point → Type 0
-Sided clockwise u w = ((+0 ≺ onward clockwise u w) || ((onward clockwise u w ≺ +0) || ((+0 ≺ dot2 u w) || (dot2 u w ≺ +0)))) ≡ true
-
 -- ---- the Lines
 -- The i-th of n Lines, counted from 1, where i is below n: it ends at the centre plus the vector at which the i-th part ends, and its z is z0 + (z1 − z0) × (i/n).
 abbrev pub lineTo : Point → Point3D → Point3D → ℕ → ℕ → Point → Command
@@ -90,7 +86,7 @@ pub record Drawing (a b o d : Point3D) (tol : Float) (cs : List Command) : Type 
   pub turns : ℕ
   -- at most three exact quarter turns, while they fall strictly before the end; each part met the test or the tenth halving
   pub few-turns : turns ≤ 3
-  pub before : Sided (d .z ≺ +0) (offsetOf (centreOf a o) a) (offsetOf (centreOf a o) b) → TurnsBefore (d .z ≺ +0) turns (offsetOf (centreOf a o) a) (offsetOf (centreOf a o) b)
+  pub before : TurnsBefore (d .z ≺ +0) turns (offsetOf (centreOf a o) a) (offsetOf (centreOf a o) b)
   pub turned : TurnsDrawn (d .z ≺ +0) (lengthBy (offsetOf (centreOf a o) a)) (tol ⊗ quarter) turns (offsetOf (centreOf a o) a) (offsetOf (centreOf a o) b) parts
   -- order: from the first vector to the last
   pub chained : Chained (offsetOf (centreOf a o) a) parts (offsetOf (centreOf a o) b)

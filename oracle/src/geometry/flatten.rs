@@ -69,7 +69,7 @@ fn halve(u: Vector, w: Vector, radius: f64, tolerance: f64, left: u32, ends: &mu
     halve(middle, w, radius, tolerance, left - 1, ends);
 }
 
-/// The ends of the Lines.
+/// The ends of the Lines. That each number is finite is tried here, too.
 pub fn model(start: [f64; 3], end: [f64; 3], offset: [f64; 3], clockwise: bool, tolerance: f64) -> Vec<[f64; 3]> {
     let (centre, first, last) = vectors(start, end, offset);
     let radius = length(first);
@@ -88,6 +88,7 @@ pub fn model(start: [f64; 3], end: [f64; 3], offset: [f64; 3], clockwise: bool, 
     let line = |(i, v): (usize, &Vector)| [centre[0] + v[0], centre[1] + v[1], height(i + 1)];
     let mut lines: Vec<[f64; 3]> = ends.iter().enumerate().map(line).collect();
     lines[n - 1] = end;
+    assert!(lines.iter().flatten().all(|x| x.is_finite()), "every number of a Line is finite: {start:?} {end:?} {offset:?}");
     lines
 }
 
