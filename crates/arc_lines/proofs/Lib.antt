@@ -4,5 +4,6 @@ pub mod Sizes
 pub mod Sided
 pub mod Quarters
 pub mod Accepted
+pub mod Heights
 pub mod Drawing
 pub mod Worked

@@ -7,16 +7,16 @@ use native.Mathlib.Nat.{le-trans, le-of-eq, le-of-lt, mul-pos, mul-comm, mul-ass
 use native.Mathlib.Omega.{arith}
 use borrow.Author.Tests.{lt-ltb, le-ltb, ltb-true}
 use lib.Dec.{T, ltb, eqb, lit<}
-use lib.IntN.{ℤ}
+use lib.IntN.{ℤ, pos}
 use lib.Pow.{pow-add, pow-pos, pow-lt, pow-mono}
-use lib.Ieee.{Float, nan, inf, fin, binary64, up, down, round, sum, unlike, add, mul, neg, lt, le, eq, ofBits}
+use lib.Ieee.{Float, nan, inf, fin, binary64, up, down, round, sum, unlike, add, mul, neg, lt, le, eq, ofBits, ofInt}
 use lib.Ieee.Bits.{is-true}
 use lib.Ieee.Fits.{down-pos}
 use lib.Ieee.Exact.{HasValue, round-exact}
 use lib.Ieee.Order.{round-mono}
 use Rattle.floats.specs.Ops.{_⊕_, _⊗_, _≺_, +0}
 use Rattle.floats.proofs.Order.{either, clash, lt-or-ge}
-use Rattle.floats.proofs.Bounds.{Within, AtLeast, or-le, neg-within}
+use Rattle.floats.proofs.Bounds.{Within, AtLeast, or-le, neg-within, round-within}
 use Rattle.floats.proofs.Unsigned.{Plus, round-plus}
 use Rattle.floats.proofs.float.Large.{neg-neg}
 use Rattle.arc_lines.proofs.Signs.{round-neg, Sizes, smaller, larger, equal, sizes}
@@ -299,3 +299,8 @@ small-sum l (fin false m e) (fin true n d) o h g a b = clash (sym g)
 small-sum l (fin false m e) (fin false n d) o h g a b =
     small-le l 0 (m * up e * down d + n * up d * down e) (down e * down d) (mul-pos (down-pos e) (down-pos d))
     (half-sizes (m * up e) (n * up d) (down e) (down d) (2 ^ l) (subst (λ (z : ℕ). m * up e * z ≤ down e) (one-more l) a) (subst (λ (z : ℕ). n * up d * z ≤ down d) (one-more l) b)) o
+
+-- a count is not below 1
+pub whole-least : (n : ℕ) → 1 ≤ n → n ≤ 4096 → AtLeast 0 (ofInt binary64 (pos n))
+unfolding ofInt
+whole-least n h f = plus-least n 1 0 (1 * 2 ^ 12) (omega arith) (omega arith) (omega arith) (round-within false n 1 1 12 (omega arith) (omega arith) (lit< tt) (omega arith))
