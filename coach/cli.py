@@ -84,6 +84,7 @@ COMMANDS = {
              ("workout", "tolerance"), ("reading", "to", "force")),
     "replace": (commands.replace, "put another recording in the place of a lap, and fit it",
                 ("lap", "new_lap", "tolerance", "workout", "fitted", "new_workout", "new_fitted"), ("reading", "force")),
+    "lines": (commands.lines, "a fitted file for older screens: every Arc as Lines", ("tolerance", "fitted", "lines"), ("force",)),
     "text": (commands.text, "a lap file's commands as text", ("file",), ("to", "force")),
     "gpx": (commands.gpx, "a lap file as GPX", ("file", "gpx"), ("reading", "force")),
     "draw": (commands.draw, "the repetitions as a picture, .svg or .html", ("workout", "tolerance", "picture"),
@@ -101,6 +102,7 @@ MEANINGS = {
     "new_lap": "a recording of one lap",
     "new_workout": "the corrected workout's text, to be written",
     "new_fitted": "its fit, to be written",
+    "lines": "the lap file with every Arc as Lines, to be written",
     "file": "a lap file",
     "gpx": "the GPX file to be written",
     "picture": "the picture to be written, .svg or .html",
@@ -123,6 +125,8 @@ def special(name, parser):
     if name == "gpx":
         parser.add_argument("--workout", help="the recording, for times and the place on the earth")
         parser.add_argument("--origin", type=numbers(2, 3), metavar="LAT,LON", help="where (0, 0) is on the earth")
+    if name == "lines":
+        parser.add_argument("--picture", metavar="PICTURE.svg", help="draw the Lines over the arcs, too")
     if name == "draw":
         parser.add_argument("--old", metavar="OLD_WORKOUT", help="show the laps that differ from this workout beside it")
 

@@ -1,6 +1,7 @@
 """The commands of coach.py: each takes the files of the command and the words that were given, and may answer a line to
 say."""
 import listing
+import older
 from advice import TRIED, advice_text
 from bends import Limits
 from earth import Plane
@@ -13,7 +14,7 @@ from live import live_text
 from page import page_of
 from picture import picture_of, svg_of
 from pieces import lap_pieces
-from proved import fitted_bytes, replaced_bytes
+from proved import fitted_bytes, lines_bytes, replaced_bytes
 from rows import part_rows, piece_rows
 from strides import read_counts, sheet, strides_text
 from trouble import Refused, Trouble
@@ -135,6 +136,19 @@ def replace(files, words):
     line = fit_line(commands_of(file_of(laps), words.new_lap), commands_of(fitted, words.new_lap))
     files.save((words.new_workout, workout_text(corrected).encode()), (words.new_fitted, fitted))
     return told(line, words.new_workout, words.new_fitted)
+
+
+def lines(files, words):
+    """A fitted file for older screens; it and its picture are written together."""
+    fitted = files.read(words.fitted)
+    laps = commands_of(fitted, label(words.fitted))
+    made = lines_bytes(words.tolerance, fitted, label(words.fitted))
+    drawn = commands_of(made, label(words.lines))
+    outputs = [(words.lines, made)]
+    if words.picture:
+        outputs.append((words.picture, older.picture(laps, drawn, words.tolerance).encode()))
+    files.save(*outputs)
+    return told(older.told(laps, drawn), *(name for name, _ in outputs))
 
 
 def text(files, words):

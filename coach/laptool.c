@@ -3,9 +3,10 @@
      laptool [--force] replace RECORDED FITTED LAP NEW_LAP TOLERANCE OUT      (NEW_LAP: a lap file of one lap)
      laptool live TOLERANCE      (standard input: lines 'x y z', or 'tolerance' alone for a new one; standard output: a line for
                                   each end, 'call x y z', the calls counted from 1, with the close behind the last line)
+     laptool [--force] lines TOLERANCE FITTED OUT                             (every Arc as Lines)
    '-' stands for standard input, once, and for standard output. The output is written beside its place and renamed when it
    is whole; one that is there is replaced only with --force, and one that is also an input never. A refusal ends the tool
-   with its number, 1 to 9, and writes nothing; what is no refusal ends it with 20. */
+   with its number, 1 to 9 or 11, and writes nothing; what is no refusal ends it with 20. */
 #include <errno.h>
 #include <signal.h>
 #include <stdio.h>
@@ -158,6 +159,16 @@ static size_t u32_at(const unsigned char *at)
     return at[0] | (size_t)at[1] << 8 | (size_t)at[2] << 16 | (size_t)at[3] << 24;
 }
 
+/* A command's bytes: its kind and its nine numbers. */
+static void read_command(const unsigned char *at, uint8_t *kind, double *nums)
+{
+    *kind = *at++;
+    for (size_t j = 0; j < 9; j++, at += 8) {
+        uint64_t bits = u32_at(at) | (uint64_t)u32_at(at + 4) << 32;
+        memcpy(nums + j, &bits, 8);
+    }
+}
+
 /* The commands of a file of one lap; their count. */
 static size_t one_lap(const char *name, uint8_t *kinds, double *nums)
 {
@@ -168,12 +179,7 @@ static size_t one_lap(const char *name, uint8_t *kinds, double *nums)
         fail("is not a lap file of one lap", name);
     }
     for (size_t i = 0; i < count; i++) {
-        const unsigned char *at = file + 16 + PZ_COMMAND_BYTES * i;
-        kinds[i] = *at++;
-        for (size_t j = 9 * i; j < 9 * i + 9; j++, at += 8) {
-            uint64_t bits = u32_at(at) | (uint64_t)u32_at(at + 4) << 32;
-            memcpy(nums + j, &bits, 8);
-        }
+        read_command(file + 16 + PZ_COMMAND_BYTES * i, kinds + i, nums + 9 * i);
     }
     return count;
 }
@@ -231,6 +237,98 @@ static int live(char **words)
         print_ends(call + 1, ends, refused ? 0 : handed);
     }
     return fflush(stdout) ? fail(strerror(errno), "standard output") : (int)refused;
+
+static void put_u32(unsigned char *at, size_t value)
+{
+    for (int i = 0; i < 4; i++) {
+        at[i] = (unsigned char)(value >> (8 * i));
+    }
+}
+
+static void put_command(unsigned char *at, uint8_t kind, const double *nums)
+{
+    *at++ = kind;
+    for (size_t j = 0; j < 9; j++, at += 8) {
+        uint64_t bits;
+        memcpy(&bits, nums + j, 8);
+        put_u32(at, (size_t)(bits & 0xffffffffu));
+        put_u32(at + 4, (size_t)(bits >> 32));
+    }
+}
+
+/* Where the file of Lines grows: its size, and the commands in it so far. */
+struct grown {
+    unsigned char bytes[ROOM];
+    size_t size, commands;
+};
+
+static void grow(struct grown *file, const char *name, uint8_t kind, const double *nums)
+{
+    if (file->commands == PZ_MOST_COMMANDS || file->size + PZ_COMMAND_BYTES > PZ_MOST_FILE_BYTES) {
+        fail("drawn by Lines it has more than 800 commands or 65,536 bytes; a greater tolerance gives fewer", name);
+    }
+    put_command(file->bytes + file->size, kind, nums);
+    file->size += PZ_COMMAND_BYTES, file->commands++;
+}
+
+/* The number of commands of a lap, which starts at `at`; the table is checked here, the commands are not. */
+static size_t lap_commands(const char *name, size_t size, size_t lap, size_t at)
+{
+    size_t count = u32_at(fitted + 12 + 8 * lap);
+    if (u32_at(fitted + 8 + 8 * lap) != at || count < 1 || count > PZ_MOST_COMMANDS || at + PZ_COMMAND_BYTES * count > size) {
+        fail("is no lap file: its table is wrong", name);
+    }
+    return count;
+}
+
+/* One command behind the place where the last one ended: an Arc as Lines, any other as it is. */
+static uint32_t draw_command(struct grown *file, const char *name, double tolerance, const unsigned char *at, double *end)
+{
+    static uint8_t kinds[PZ_MOST_LINES];
+    static double lines[9 * PZ_MOST_LINES];
+    uint8_t kind;
+    double nums[9];
+    size_t count = 0;
+    read_command(at, &kind, nums);
+    if (kind == PZ_ARC) {
+        uint32_t refused = rt_flatten_arc(kind, nums, 9, end[0], end[1], end[2], tolerance,
+            kinds, PZ_MOST_LINES, lines, 9 * PZ_MOST_LINES, &count);
+        if (refused) {
+            return refused;
+        }
+        for (size_t i = 0; i < count; i++) {
+            grow(file, name, kinds[i], lines + 9 * i);
+        }
+    } else {
+        grow(file, name, kind, nums);
+    }
+    memcpy(end, nums, 3 * sizeof *end);
+    return 0;
+}
+
+static int lines(char **words, int force)
+{
+    static struct grown drawn;
+    double tolerance = number(words[0]);
+    size_t size = read_file(words[1], fitted), laps = size < 8 ? 0 : u32_at(fitted + 4), at = 8 + 8 * laps;
+    if (size < 8 || memcmp(fitted, "LAPS", 4) || laps > PZ_MOST_LAPS || size < at || size > PZ_MOST_FILE_BYTES) {
+        fail("is no lap file", words[1]);
+    }
+    memcpy(drawn.bytes, fitted, at);
+    drawn.size = at;
+    for (size_t lap = 0; lap < laps; lap++) {
+        size_t count = lap_commands(words[1], size, lap, at), before = drawn.commands;
+        double end[3] = {0, 0, 0};
+        put_u32(drawn.bytes + 8 + 8 * lap, drawn.size);
+        for (size_t i = 0; i < count; i++, at += PZ_COMMAND_BYTES) {
+            uint32_t refused = draw_command(&drawn, words[1], tolerance, fitted + at, end);
+            if (refused) {
+                return (int)refused;
+            }
+        }
+        put_u32(drawn.bytes + 12 + 8 * lap, drawn.commands - before);
+    }
+    return at == size ? write_file(words[2], force, drawn.bytes, drawn.size) : fail("has bytes behind its laps", words[1]);
 }
 
 int main(int argc, char **argv)
@@ -246,8 +344,12 @@ int main(int argc, char **argv)
     if (argc == 3 && !strcmp(argv[1], "live")) {
         return live(argv + 2);
     }
+    if (argc == 5 && !strcmp(argv[1], "lines")) {
+        return lines(argv + 2, force);
+    }
     fprintf(stderr, "laptool [--force] fit TOLERANCE RECORDED FITTED\n"
         "laptool [--force] replace RECORDED FITTED LAP NEW_LAP TOLERANCE OUT\n"
-        "laptool live TOLERANCE\n");
+        "laptool live TOLERANCE\n"
+        "laptool [--force] lines TOLERANCE FITTED OUT\n");
     return OTHER;
 }

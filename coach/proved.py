@@ -4,17 +4,17 @@ import tempfile
 from pathlib import Path
 
 from lapfile import fault, bodies_of
-from trouble import NotBuilt, Refused, Trouble
+from trouble import REFUSALS, NotBuilt, Refused, Trouble
 
 TOOL = Path(__file__).resolve().parent.parent / "target" / "coach" / "laptool"
 
 
 def run(words, data):
-    """What the tool writes, and the number of a refusal, which ends it with 1 to 9, or 0."""
+    """What the tool writes, and the number of a refusal, with which it ends, or 0."""
     if not TOOL.exists():
         raise NotBuilt("the tool is not built yet: run coach/build first")
     done = subprocess.run([str(TOOL), *map(str, words)], input=data, capture_output=True, check=False)
-    if done.returncode > 9 or done.returncode < 0:
+    if done.returncode and done.returncode not in REFUSALS:
         raise Trouble(done.stderr.decode(errors="replace").strip() or f"laptool ended with {done.returncode}")
     return done.stdout, done.returncode
 
@@ -31,6 +31,16 @@ def laptool(words, data, recorded, name):
 def fitted_bytes(tolerance, recorded, name):
     """The fit of a recorded lap file."""
     return laptool(["fit", tolerance, "-", "-"], recorded, recorded, name)
+
+
+def lines_bytes(tolerance, fitted, name):
+    """The fitted file with every Arc as Lines."""
+    try:
+        return laptool(["lines", tolerance, "-", "-"], fitted, fitted, name)
+    except Refused:
+        raise
+    except Trouble as trouble:
+        raise Trouble(str(trouble).replace("laptool: -", name)) from None
 
 
 def replaced_bytes(recorded, fitted, lap, new_lap, tolerance, name):

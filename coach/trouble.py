@@ -1,6 +1,6 @@
 """What can go wrong, in plain words, and the exit status of each kind."""
 
-# Document 01's refusals, for people.
+# The refusals of documents 01 and 02, for people.
 REFUSALS = {
     1: "the file is shorter than 8 bytes, or not whole",
     2: "too many laps (64 at most), positions (800) or bytes (65,536)",
@@ -11,6 +11,7 @@ REFUSALS = {
     7: "there is no lap of that number",
     8: "the fit could have more than 800 commands",
     9: "the output has not enough room",
+    11: "an Arc that cannot be drawn by Lines: its normal, its offset or its radii are none of a circle's at this tolerance",
 }
 
 DONE, WORDS, INPUT, OUTPUT, NOT_BUILT, REFUSED = 0, 2, 3, 4, 5, 10
@@ -22,7 +23,7 @@ STATUSES = """exit status:
   3        an input cannot be read, or is nonsense
   4        an output cannot be written: it is there already, is also an input, has no folder or no room
   5        target/coach/laptool is not built: run coach/build
-  11..19   refused: 10 and the number in document 01's table
+  11..21   refused: 10 and the number in document 01's table, or document 02's
   130, 143 interrupted, or ended by a signal; each output is whole, or as it was
   141      the reader of standard output went away"""
 

@@ -18,11 +18,12 @@
    - a fit of n points: n - 1 commands (0 without points);
    - a fit of a course: one command for each Move, Line and Arc, and one for each step of a Bezier; above 800 refused;
    - a fit of a file: 8 + 8 * L + 73 * most bytes, most as for a course; at most 58,920 bytes in all (64 laps, 800 commands);
-   - a replacement: the same, with the new lap's most plus the fitted file's commands in all other laps.
+   - a replacement: the same, with the new lap's most plus the fitted file's commands in all other laps;
+   - an Arc drawn by Lines: 4,096 commands.
 
    STACK. Measured, not proved: firmware/stack.c fills a thread's stack with a pattern and runs the zigzags that are cut
    most often (2,048 points, or 800 commands, each cut taking one point off): thinning recurses as deep as it cuts, a fit
-   does not. firmware/run prints what it finds. On x86-64 Linux it was, in bytes, for the archive that this header came with:
+   does not. And the greatest circle drawn by Lines. firmware/run prints what it finds. On x86-64 Linux it was, in bytes, for the archive that this header came with:
      rt_simplify_polyline            231328 bytes
      rt_simplify_polyline_3d         231328 bytes
      rt_simplify_data                117200 bytes
@@ -30,6 +31,7 @@
      rt_fit_arcs                     111648 bytes
      rt_fit_file                     228576 bytes
      rt_replace_lap                  228512 bytes
+     rt_flatten_arc                    4992 bytes
    No input recurses deeper, since each cut takes a point off. What the innermost call takes beside that was measured on
    these zigzags alone, and bytes that a call reserves but never writes do not show: leave a margin of some KiB. */
 #ifndef PIZHGAROL_H
@@ -54,6 +56,7 @@ extern "C" {
 #define PZ_TOO_MUCH 8u      /* the most of a course or a replacement is above 800 */
 #define PZ_NO_ROOM 9u       /* the lent output holds less than the most */
 #define PZ_CLOSED 10u       /* a call on a live thinner that was closed */
+#define PZ_NOT_DRAWABLE 11u /* rt_flatten_arc alone, before 8 and 9: see there */
 
 /* Kinds of a command. */
 #define PZ_MOVE 0u
@@ -181,6 +184,20 @@ static inline uint32_t pz_live_close(pz_live *s, double end[3], size_t *handed)
 {
     return rt_live_close(s->tolerance, s->points, s->count, &s->closed, end, handed);
 }
+/* An Arc drawn by at most so many Lines. */
+#define PZ_MOST_LINES 4096u
+
+/* Draws one Arc command, given as its kind and its nine numbers, from its start (x, y, z) on by Lines, for screens that draw
+   no arcs; *count is the Lines. Each Line leaves the arc by less than a quarter of the tolerance, where ten halvings of a
+   quarter turn reach that; the last ends at the Arc's own end, and the heights between rise evenly. Whatever the Arc, the
+   output must have room for PZ_MOST_LINES kinds, and nine times as many numbers (294,912 bytes). PZ_NOT_DRAWABLE: the
+   command is no Arc, its normal is neither (0, 0, 1) nor (0, 0, -1), its offset is above 1,000,000 in a coordinate, the
+   start or the end is less than 1e-9 from the centre, or their distances from it differ by the tolerance or more. */
+uint32_t rt_flatten_arc(
+    uint8_t kind, const double *command, size_t command_length,
+    double x, double y, double z,
+    double tolerance,
+    uint8_t *kinds, size_t kinds_length, double *nums, size_t nums_length, size_t *count);
 
 #ifdef __cplusplus
 }

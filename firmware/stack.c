@@ -92,6 +92,17 @@ static void *replace(void *a)
     return a;
 }
 
+/* Recurses ten halvings deep, and three quarter turns. */
+static void *draw_arc(void *a)
+{
+    static const double circle[9] = {1e6, 0, 0, -1e6, 0, 0, 0, 0, 1};
+    static uint8_t line_kinds[PZ_MOST_LINES];
+    static double line_nums[9 * PZ_MOST_LINES];
+    answer = rt_flatten_arc(PZ_ARC, circle, 9, 1e6, 0, 0, 0.001,
+        line_kinds, PZ_MOST_LINES, line_nums, 9 * PZ_MOST_LINES, &count);
+    return a;
+}
+
 /* How many bytes of the thread's stack were touched. */
 static size_t depth(void *(*call)(void *))
 {
@@ -142,5 +153,6 @@ int main(void)
     missing |= row("rt_fit_arcs", fit_course);
     missing |= row("rt_fit_file", fit_file);
     missing |= row("rt_replace_lap", replace);
+    missing |= row("rt_flatten_arc", draw_arc);
     return missing;
 }

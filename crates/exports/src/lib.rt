@@ -9,6 +9,7 @@ pub mod circles;
 pub mod counts;
 pub mod courses;
 pub mod fits;
+pub mod flattens;
 pub mod lap_files;
 pub mod live_thinner;
 pub mod numbers;

@@ -27,7 +27,7 @@ pub record Whole (h : Head) : Type 0 where
   pub kinds : h .kinds ≤ 66000
   pub recorded : h .recorded ≤ 66000
   pub fitted : h .fitted ≤ 66000
-  pub room : h .room ≤ 19000
+  pub room : h .room ≤ 37000
   pub space : h .space ≤ 66000
   pub written : h .written ≤ h .room
   pub stored : h .stored ≤ h .space

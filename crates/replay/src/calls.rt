@@ -56,6 +56,7 @@ pub fn call(
         26 => crate::thinner::feed(t, numbers, h.first, h.second, out),
         27 => crate::thinner::close(t, numbers, h.first, h.second, out),
         28 => crate::thinner::retune(t, numbers, h.first, h.second, out),
+        29 => crate::drawings::flatten_arc(kinds, numbers, t, bytes, out),
         _ => Answer::Refused(DAMAGED),
     }
 }

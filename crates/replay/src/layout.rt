@@ -16,12 +16,12 @@ ghost use Rattle.replay.specs.Record.{IsHead, Whole, lentSize, bodyBytes
 pub const HEAD_SIZE: usize = 112;
 
 // The most bytes behind a head: what the greatest counts give.
-pub const BODY_SIZE: usize = 474400;
+pub const BODY_SIZE: usize = 618400;
 
 // The greatest counts: numbers that are lent, numbers of an output, and bytes.
 pub const NUMBERS: usize = 7300;
 
-pub const ROOM: usize = 19000;
+pub const ROOM: usize = 37000;
 
 pub const BYTES: usize = 66000;
 
@@ -117,7 +117,7 @@ pub fn lent_size(h: Head) -> usize
 
 pub fn body_size(h: Head) -> usize
     requires { ⌜ Whole h ⌝ }
-    ensures { λ r. ⌜ (r ≡ bodyBytes h) × (r ≤ 474400) ⌝ }
+    ensures { λ r. ⌜ (r ≡ bodyBytes h) × (r ≤ 618400) ⌝ }
 {
     lent_size(h) + 8 * h.written + h.stored
 }

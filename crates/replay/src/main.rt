@@ -1,9 +1,11 @@
-// Replays recorded calls of every geometric function, of both functions of lap files and of the live thinner, and compares each with what the
-// given Rust answered. Standard input has the records, up to 1,000,000 of them, made by `oracle/run geometry list 5130 1`.
+// Replays recorded calls of every geometric function, of both functions of lap files, of the live thinner and of an Arc's drawing, and compares
+// each with what the given Rust, or a plain model, answered. Standard input has the records, up to 1,000,000 of them, made by
+// `oracle/run geometry list 5230 1`.
 // The program prints how many were compared, and how many differ; a damaged one differs and ends the run.
 mod calls;
 mod circles;
 mod curves;
+mod drawings;
 mod fits;
 mod layout;
 mod thinner;
@@ -103,7 +105,7 @@ enum Found {
 
 // Reads what stands behind a head, and replays the record.
 fn replay_body(h: Head, body: &mut [u8]) -> Found
-    requires { ⌜ Whole h × (474400 ≤ length (now body)) ⌝ }
+    requires { ⌜ Whole h × (618400 ≤ length (now body)) ⌝ }
 {
     let size = body_size(h);
     if io::read_full(STDIN_FILENO, &mut body[0..size]) < size {
@@ -117,7 +119,7 @@ fn replay_body(h: Head, body: &mut [u8]) -> Found
 
 // Reads the next record and replays it.
 fn replay_one(body: &mut [u8]) -> Found
-    requires { ⌜ 474400 ≤ length (now body) ⌝ }
+    requires { ⌜ 618400 ≤ length (now body) ⌝ }
 {
     let mut head = [0; HEAD_SIZE];
     let n = io::read_full(STDIN_FILENO, &mut head);
@@ -135,8 +137,8 @@ fn replay_one(body: &mut [u8]) -> Found
 }
 
 // Room for what stands behind a head. The promise gives only the length, which lending the array asks.
-fn body_buffer() -> [u8; 474400]
-    ensures { λ r. ⌜ 474400 ≡ length r ⌝ }
+fn body_buffer() -> [u8; 618400]
+    ensures { λ r. ⌜ 618400 ≡ length r ⌝ }
 {
     [0; BODY_SIZE]
 }

@@ -5,6 +5,7 @@ const USAGE: &str = "\
 geometry bezier COUNT SEED | geometry arc COUNT SEED | geometry grid | geometry bench-bezier
 geometry simplify COUNT SEED | geometry grid-simplify | geometry bench-simplify
 geometry fit COUNT SEED | geometry recordings COUNT SEED | geometry grid-fit | geometry bench-fit | geometry zigzag-in KIB
+geometry flatten COUNT SEED | geometry bench-flatten
 geometry course COUNT SEED | geometry laps COUNT SEED | geometry bench-laps
 geometry lapfit COUNT SEED | geometry bench-lapfit
 geometry live COUNT SEED | geometry bench-live
@@ -14,8 +15,8 @@ geometry list COUNT SEED";
 #[cfg(given)]
 fn run(words: &[String]) -> Option<bool> {
     use oracle::geometry::{
-        arc, bench_bezier, bench_fit, bench_laps, bench_live, bench_simplify, bezier, course, fit, frame, grid,
-        grid_fit, grid_simplify, laps, list, listing, live, simplify,
+        arc, bench_bezier, bench_fit, bench_flatten, bench_laps, bench_live, bench_simplify, bezier, course, fit,
+        flatten, frame, grid, grid_fit, grid_simplify, laps, list, listing, live, simplify,
     };
     use std::io::{BufWriter, stdout};
 
@@ -25,6 +26,8 @@ fn run(words: &[String]) -> Option<bool> {
         ("arc", [count, seed]) => Some(frame::run(&arc::FUNCTIONS, *count, *seed)),
         ("simplify", [count, seed]) => Some(frame::run(&simplify::FUNCTIONS, *count, *seed)),
         ("fit", [count, seed]) => Some(frame::run(&fit::FUNCTIONS, *count, *seed)),
+        ("flatten", [count, seed]) => Some(frame::run(&flatten::FUNCTIONS, *count, *seed)),
+        ("bench-flatten", []) => Some(bench_flatten::run()),
         ("course", [count, seed]) => Some(frame::run(&course::FUNCTIONS, *count, *seed)),
         ("laps", [count, seed]) => Some(frame::run(&laps::FUNCTIONS, *count, *seed)),
         ("lapfit", [count, seed]) => Some(frame::run(&listing::FUNCTIONS, *count, *seed)),

@@ -278,6 +278,21 @@ unsafe extern "C" {
         handed: *mut usize,
     ) -> u32;
 
+    pub fn rt_flatten_arc(
+        kind: u8,
+        command: *const f64,
+        length: usize,
+        x: f64,
+        y: f64,
+        z: f64,
+        tolerance: f64,
+        kinds: *mut u8,
+        room_kinds: usize,
+        nums: *mut f64,
+        room_nums: usize,
+        count: *mut usize,
+    ) -> u32;
+
     pub fn rt_fit_arcs(
         kinds: *const u8,
         count_kinds: usize,

@@ -19,15 +19,17 @@
 //! | 13 | how many bytes |
 //! | then | the numbers that are lent, eight bytes each; the kinds and both files; the numbers and the bytes that are written |
 //!
+//! An Arc that is drawn by Lines stands as one kind, its nine numbers, and then its start.
+//!
 //! A centre or a circle stands among the numbers where it stands among the arguments: before the points of an arc, behind those
 //! of a chord.
 use super::frame::Compared;
 use super::laps::first_bytes;
 use super::lent::Purpose;
-use super::{list_bezier, list_course, list_fit, list_laps, list_live, list_simplify};
+use super::{list_bezier, list_course, list_fit, list_flatten, list_laps, list_live, list_simplify};
 use std::io::{Result, Write};
 
-const NAMES: [&str; 29] = [
+const NAMES: [&str; 30] = [
     "get_midpoint_3d",
     "get_bezier_point_at",
     "split_bezier",
@@ -57,6 +59,7 @@ const NAMES: [&str; 29] = [
     "live_feed",
     "live_close",
     "live_retune",
+    "flatten_arc",
 ];
 
 const VALUES: [&str; 4] = ["t", "tolerance_sq", "resolution", "tolerance"];
@@ -141,13 +144,14 @@ pub fn filled(mut records: Vec<Record>, count: usize, mut drawn: impl FnMut(usiz
 type Layer = fn(usize, u64) -> Vec<Record>;
 
 /// The layers, each with its share of a list.
-const LAYERS: [(usize, Layer); 6] = [
+const LAYERS: [(usize, Layer); 7] = [
     (200, list_bezier::records),
     (100, list_simplify::records),
     (100, list_fit::records),
     (60, list_course::records),
     (33, list_laps::records),
     (20, list_live::records),
+    (10, list_flatten::records),
 ];
 
 /// Writes `count` records, layer by layer, each from the seed.

@@ -3,9 +3,16 @@
 
 pub type Row = (u32, bool);
 
-/// The number of the first row that the arguments fall under, or 0. The rows stand in number order.
+/// The order of checks: that of the numbers, and document 02's rows where it puts them.
+const ORDER: [u32; 10] = [1, 2, 3, 4, 5, 6, 7, 11, 8, 9];
+
+fn place(row: &Row) -> usize {
+    ORDER.iter().position(|number| *number == row.0).expect("a row of the tables")
+}
+
+/// The number of the first row that the arguments fall under, or 0. The rows stand in the order of checks.
 pub fn refusal(rows: &[Row]) -> u32 {
-    assert!(rows.is_sorted_by_key(|row| row.0), "the table's rows stand in number order");
+    assert!(rows.is_sorted_by_key(place), "the table's rows stand in the order of checks");
     rows.iter().find(|row| row.1).map_or(0, |row| row.0)
 }
 

@@ -9,7 +9,7 @@ use Rattle.replay.proofs.replay_all.Statement.{statement}
 use Rattle.replay.proofs.replay_all.Tie as tie
 
 abbrev Inv-loop : tie.InvT-loop
-Inv-loop body₀ differ₀ i₀ body differ i = (474400 ≡ length body) × (differ ≤ i) × (i ≤ 1000000)
+Inv-loop body₀ differ₀ i₀ body differ i = (618400 ≡ length body) × (differ ≤ i) × (i ≤ 1000000)
 
 abbrev μ-loop : tie.MeasureT-loop
 μ-loop body₀ differ₀ i₀ body differ i = 1000000 - i

@@ -1,0 +1,9 @@
+pub mod Halving
+pub mod Signs
+pub mod Sizes
+pub mod Sided
+pub mod Quarters
+pub mod Accepted
+pub mod Heights
+pub mod Drawing
+pub mod Worked
