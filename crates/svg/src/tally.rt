@@ -73,7 +73,7 @@ pub fn walk_text(s: &[u8]) -> Tally
     let mut inside = true;
     loop {
         let Stroke::Is { c, next } = command_at(s, at) else {
-            return Tally::Bad;
+            return Tally::Bad; // so a trailing space is refused
         };
         laps += opens(c);
         commands += 1;
