@@ -18,7 +18,8 @@
    - a fit of n points: n - 1 commands (0 without points);
    - a fit of a course: one command for each Move, Line and Arc, and one for each step of a Bezier; above 800 refused;
    - a fit of a file: 8 + 8 * L + 73 * most bytes, most as for a course; at most 58,920 bytes in all (64 laps, 800 commands);
-   - a replacement: the same, with the new lap's most plus the fitted file's commands in all other laps.
+   - a replacement: the same, with the new lap's most plus the fitted file's commands in all other laps;
+   - a course read from path data: 8 + 8 * L + 73 * commands bytes, a lap for each M.
 
    STACK. Measured, not proved: firmware/stack.c fills a thread's stack with a pattern and runs the zigzags that recurse
    deepest (2,048 points, or 800 commands, each cut taking one point off). firmware/run prints what it finds. On x86-64
@@ -28,8 +29,9 @@
      rt_simplify_data                117200 bytes
      rt_fit_points_with_primitives   917144 bytes
      rt_fit_arcs                     380152 bytes
-     rt_fit_file                     497080 bytes
-     rt_replace_lap                  497032 bytes
+     rt_fit_file                     496984 bytes
+     rt_replace_lap                  496920 bytes
+     rt_read_course                     696 bytes
    No input recurses deeper, since each cut takes a point off. What the innermost call takes beside that was measured on
    these zigzags alone, and bytes that a call reserves but never writes do not show: leave a margin of some KiB. */
 #ifndef PIZHGAROL_H
@@ -53,6 +55,7 @@ extern "C" {
 #define PZ_NO_SUCH 7u       /* lap 0, or above the file's lap count */
 #define PZ_TOO_MUCH 8u      /* the most of a course or a replacement is above 800 */
 #define PZ_NO_ROOM 9u       /* the lent output holds less than the most */
+#define PZ_BAD_TEXT 14u     /* path data that breaks its rules */
 
 /* Kinds of a command. */
 #define PZ_MOVE 0u
@@ -120,6 +123,18 @@ uint32_t rt_simplify_data(
     const uint8_t *kinds, size_t kinds_length, const double *nums, size_t nums_length,
     double tolerance,
     uint8_t *out_kinds, size_t out_kinds_length, double *out_nums, size_t out_nums_length, size_t *count);
+
+/* Reads a course of SVG path data into a lap file; *count is the file's bytes. The text is absolute M, L and C of SVG 1.1, one
+   letter before each command and M first; numbers have an optional minus, 1 to 7 digits and optionally a point with one to
+   three decimals; single spaces stand between all items, and nothing else is read. A number is its thousandths divided by
+   1000, z is 0, each M opens a lap, and no text (0 bytes) is the file of no laps. Refusals, in this order: PZ_TOO_MANY (a text
+   above PZ_MOST_TEXT_BYTES), PZ_BAD_TEXT, PZ_TOO_MANY (above 64 laps or 800 commands), PZ_BAD_NUMBER, PZ_NO_ROOM. What is read
+   is a recorded file: rt_fit_file refuses it by none of 1 to 5. */
+#define PZ_MOST_TEXT_BYTES 65536u
+
+uint32_t rt_read_course(
+    const uint8_t *text, size_t text_bytes,
+    uint8_t *out, size_t out_bytes, size_t *count);
 
 #ifdef __cplusplus
 }

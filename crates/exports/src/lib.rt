@@ -8,6 +8,7 @@ pub mod beziers;
 pub mod circles;
 pub mod counts;
 pub mod courses;
+pub mod drawings;
 pub mod fits;
 pub mod lap_files;
 pub mod numbers;

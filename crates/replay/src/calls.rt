@@ -1,5 +1,5 @@
 // The recorded functions by number, as oracle/src/geometry/list.rs numbers them. Each reads its arguments from the front of what
-// is lent and writes to the front of its outputs.
+// is lent and writes to the front of its outputs; a text is lent where a recorded file is.
 use crate::layout::Head;
 use file::words::float_of;
 use geo::types::Answer;
@@ -52,6 +52,7 @@ pub fn call(
             t,
             bytes,
         ),
+        31 => svg::reading::read_course(recorded, bytes),
         _ => Answer::Refused(DAMAGED),
     }
 }

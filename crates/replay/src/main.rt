@@ -1,6 +1,7 @@
-// Replays recorded calls of every geometric function and of both functions of lap files, and compares each with what the
-// given Rust answered. Standard input has the records, up to 1,000,000 of them, made by `oracle/run geometry list 4930 1`.
-// The program prints how many were compared, and how many differ; a damaged one differs and ends the run.
+// Replays recorded calls of every geometric function and of those of lap files, and compares each with what the given Rust
+// answered, or a plain reader of path data. Standard input has the records, up to 1,000,000 of them, made by
+// `oracle/run geometry list 5090 1`. The program prints how many were compared, and how many differ; a damaged one differs and
+// ends the run.
 mod calls;
 mod circles;
 mod curves;

@@ -7,6 +7,7 @@ geometry simplify COUNT SEED | geometry grid-simplify | geometry bench-simplify
 geometry fit COUNT SEED | geometry recordings COUNT SEED | geometry grid-fit | geometry bench-fit | geometry zigzag-in KIB
 geometry course COUNT SEED | geometry laps COUNT SEED | geometry bench-laps
 geometry lapfit COUNT SEED | geometry bench-lapfit
+geometry svg COUNT SEED | geometry svg-numbers END | geometry bench-svg
 geometry list COUNT SEED";
 
 /// Whether nothing differed or failed; none where the words ask for nothing.
@@ -14,7 +15,7 @@ geometry list COUNT SEED";
 fn run(words: &[String]) -> Option<bool> {
     use oracle::geometry::{
         arc, bench_bezier, bench_fit, bench_laps, bench_simplify, bezier, course, fit, frame, grid, grid_fit,
-        grid_simplify, laps, list, listing, simplify,
+        grid_simplify, laps, list, listing, simplify, svg,
     };
     use std::io::{BufWriter, stdout};
 
@@ -27,6 +28,9 @@ fn run(words: &[String]) -> Option<bool> {
         ("course", [count, seed]) => Some(frame::run(&course::FUNCTIONS, *count, *seed)),
         ("laps", [count, seed]) => Some(frame::run(&laps::FUNCTIONS, *count, *seed)),
         ("lapfit", [count, seed]) => Some(frame::run(&listing::FUNCTIONS, *count, *seed)),
+        ("svg", [count, seed]) => Some(svg::run(*count, *seed)),
+        ("svg-numbers", [end]) => Some(svg::numbers(*end)),
+        ("bench-svg", []) => Some(svg::bench()),
         ("bench-lapfit", []) => Some(listing::bench()),
         ("recordings", [count, seed]) => Some(frame::run(&[fit::recorded], *count, *seed)),
         ("grid", []) => Some(grid::run()),

@@ -3,13 +3,13 @@
 //!
 //! | word | what |
 //! |---|---|
-//! | 0 | the function: its place in `NAMES` |
+//! | 0 | the function: its place in `NAMES`, or its number in `ADDED` |
 //! | 1 | the pattern of the tolerance, of a Bezier's parameter or of its resolution; 0 where there is none |
 //! | 2 | the start of a range, the step count, the depth, the lap; 1 where a tolerance is given, or arcs are fitted |
 //! | 3 | the end of a range |
 //! | 4 | how many numbers are lent |
 //! | 5 | how many kinds |
-//! | 6 | how many bytes of a recorded file |
+//! | 6 | how many bytes of a recorded file, or of a text |
 //! | 7 | how many bytes of a fitted file |
 //! | 8 | how many numbers the output holds |
 //! | 9 | how many bytes, which are kinds or a file's |
@@ -24,7 +24,7 @@
 use super::frame::Compared;
 use super::laps::first_bytes;
 use super::lent::Purpose;
-use super::{list_bezier, list_course, list_fit, list_laps, list_simplify};
+use super::{list_bezier, list_course, list_fit, list_laps, list_simplify, list_svg};
 use std::io::{Result, Write};
 
 const NAMES: [&str; 25] = [
@@ -54,6 +54,9 @@ const NAMES: [&str; 25] = [
     "fit_file",
     "replace_lap",
 ];
+
+/// The functions of document 02's requests, with their numbers.
+const ADDED: [(u64, &str); 1] = [(31, "read_course")];
 
 const VALUES: [&str; 4] = ["t", "tolerance_sq", "resolution", "tolerance"];
 const WHOLES: [&str; 5] = ["steps", "depth", "range", "lap", "use_fit_arcs"];
@@ -89,8 +92,14 @@ fn wholes(call: &Compared) -> [u64; 2] {
     }
 }
 
+/// Word 0.
+fn number(call: &Compared) -> u64 {
+    let added = ADDED.iter().find(|(_, name)| *name == call.function).map(|(number, _)| *number);
+    let place = || NAMES.iter().position(|name| *name == call.function).map(|place| place as u64);
+    added.or_else(place).expect("a function with a number")
+}
+
 pub fn record(call: &Compared) -> Record {
-    let function = NAMES.iter().position(|name| *name == call.function).expect("a function with a place");
     let numbers: Vec<u64> =
         call.arguments.iter().filter(|(name, _)| NUMBERS.contains(name)).flat_map(|(_, words)| words.clone()).collect();
     let kinds = argument(call, &["kinds"]);
@@ -100,7 +109,7 @@ pub fn record(call: &Compared) -> Record {
     let stored = call.lent(Purpose::Kinds).map_or(vec![], |lent| first_bytes(lent, call.count() as usize));
     let [start, end] = wholes(call);
     let head = [
-        function as u64,
+        number(call),
         first(argument(call, &VALUES)),
         start,
         end,
@@ -136,12 +145,13 @@ pub fn filled(mut records: Vec<Record>, count: usize, mut drawn: impl FnMut(usiz
 type Layer = fn(usize, u64) -> Vec<Record>;
 
 /// The layers, each with its share of a list.
-const LAYERS: [(usize, Layer); 5] = [
+const LAYERS: [(usize, Layer); 6] = [
     (200, list_bezier::records),
     (100, list_simplify::records),
     (100, list_fit::records),
     (60, list_course::records),
     (33, list_laps::records),
+    (16, list_svg::records),
 ];
 
 /// Writes `count` records, layer by layer, each from the seed.
