@@ -1,9 +1,10 @@
 /* Lap files through the proved functions:
      laptool [--force] fit TOLERANCE RECORDED FITTED
      laptool [--force] replace RECORDED FITTED LAP NEW_LAP TOLERANCE OUT      (NEW_LAP: a lap file of one lap)
+     laptool [--force] read TEXT RECORDED                                     (TEXT: SVG path data)
    '-' stands for standard input, once, and for standard output. The output is written beside its place and renamed when it
    is whole; one that is there is replaced only with --force, and one that is also an input never. A refusal ends the tool
-   with its number, 1 to 9, and writes nothing; what is no refusal ends it with 20. */
+   with its number, 1 to 14, and writes nothing; what is no refusal ends it with 20. */
 #include <errno.h>
 #include <signal.h>
 #include <stdio.h>
@@ -196,6 +197,13 @@ static int replace(char **words, int force)
     return refused ? (int)refused : write_file(words[5], force, out, count);
 }
 
+static int read_course(char **words, int force)
+{
+    size_t count, size = read_file(words[0], recorded);
+    uint32_t refused = rt_read_course(recorded, size, out, sizeof out, &count);
+    return refused ? (int)refused : write_file(words[1], force, out, count);
+}
+
 int main(int argc, char **argv)
 {
     int force = argc > 1 && !strcmp(argv[1], "--force");
@@ -206,7 +214,11 @@ int main(int argc, char **argv)
     if (argc == 8 && !strcmp(argv[1], "replace")) {
         return replace(argv + 2, force);
     }
+    if (argc == 4 && !strcmp(argv[1], "read")) {
+        return read_course(argv + 2, force);
+    }
     fprintf(stderr, "laptool [--force] fit TOLERANCE RECORDED FITTED\n"
-        "laptool [--force] replace RECORDED FITTED LAP NEW_LAP TOLERANCE OUT\n");
+        "laptool [--force] replace RECORDED FITTED LAP NEW_LAP TOLERANCE OUT\n"
+        "laptool [--force] read TEXT RECORDED\n");
     return OTHER;
 }

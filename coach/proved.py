@@ -4,27 +4,40 @@ import tempfile
 from pathlib import Path
 
 from lapfile import fault, bodies_of
-from trouble import NotBuilt, Refused, Trouble
+from pathdata import place_of
+from trouble import REFUSALS, NotBuilt, Refused, Trouble
 
 TOOL = Path(__file__).resolve().parent.parent / "target" / "coach" / "laptool"
 
 
-def laptool(words, data, recorded, name):
-    """What the tool writes. A refusal, which ends it with 1 to 9, is told with its place in the recorded file."""
+def laptool(words, data, place):
+    """What the tool writes. A refusal, which ends it with its number, is told with where it was met and what to say of it."""
     if not TOOL.exists():
         raise NotBuilt("the tool is not built yet: run coach/build first")
     done = subprocess.run([str(TOOL), *map(str, words)], input=data, capture_output=True, check=False)
-    if 1 <= done.returncode <= 9:
-        where = fault(bodies_of(recorded, name), done.returncode) if done.returncode in (4, 5) else ""
-        raise Refused(done.returncode, name + where if where else "")
+    if done.returncode in REFUSALS:
+        raise Refused(done.returncode, *place(done.returncode))
     if done.returncode:
         raise Trouble(done.stderr.decode(errors="replace").strip() or f"laptool ended with {done.returncode}")
     return done.stdout
 
 
+def place_in(recorded, name):
+    """The place in a recorded file that a refusal is about."""
+    def place(number):
+        where = fault(bodies_of(recorded, name), number) if number in (4, 5) else ""
+        return (name + where if where else "",)
+    return place
+
+
 def fitted_bytes(tolerance, recorded, name):
     """The fit of a recorded lap file."""
-    return laptool(["fit", tolerance, "-", "-"], recorded, recorded, name)
+    return laptool(["fit", tolerance, "-", "-"], recorded, place_in(recorded, name))
+
+
+def course_bytes(text, name):
+    """The recorded lap file of path data."""
+    return laptool(["read", "-", "-"], text, lambda number: place_of(text, number, name))
 
 
 def replaced_bytes(recorded, fitted, lap, new_lap, tolerance, name):
@@ -33,4 +46,4 @@ def replaced_bytes(recorded, fitted, lap, new_lap, tolerance, name):
         second, third = Path(folder) / "fitted", Path(folder) / "new"
         second.write_bytes(fitted)
         third.write_bytes(new_lap)
-        return laptool(["replace", "-", second, lap, third, tolerance, "-"], recorded, recorded, name)
+        return laptool(["replace", "-", second, lap, third, tolerance, "-"], recorded, place_in(recorded, name))

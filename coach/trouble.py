@@ -1,6 +1,6 @@
 """What can go wrong, in plain words, and the exit status of each kind."""
 
-# Document 01's refusals, for people.
+# The papers' refusals, for people.
 REFUSALS = {
     1: "the file is shorter than 8 bytes, or not whole",
     2: "too many laps (64 at most), positions (800) or bytes (65,536)",
@@ -11,6 +11,7 @@ REFUSALS = {
     7: "there is no lap of that number",
     8: "the fit could have more than 800 commands",
     9: "the output has not enough room",
+    14: "the path data breaks its rules",
 }
 
 DONE, WORDS, INPUT, OUTPUT, NOT_BUILT, REFUSED = 0, 2, 3, 4, 5, 10
@@ -22,7 +23,7 @@ STATUSES = """exit status:
   3        an input cannot be read, or is nonsense
   4        an output cannot be written: it is there already, is also an input, has no folder or no room
   5        target/coach/laptool is not built: run coach/build
-  11..19   refused: 10 and the number in document 01's table
+  11..24   refused: 10 and the number of the refusal, in document 01's table or in document 02
   130, 143 interrupted, or ended by a signal; each output is whole, or as it was
   141      the reader of standard output went away"""
 
@@ -42,7 +43,7 @@ class NotBuilt(Trouble):
 
 
 class Refused(Trouble):
-    """A refusal of document 01, by its number, and where it was met."""
+    """A refusal of the papers, by its number, and where it was met."""
 
     def __init__(self, number, where="", hint=""):
         words = f"{where}: {REFUSALS[number]}" if where else REFUSALS[number]
