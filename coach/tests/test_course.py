@@ -4,7 +4,7 @@ import struct
 import subprocess
 import xml.dom.minidom
 
-from support import TOOL, Case, coach
+from support import COACH, TOOL, Case, coach
 from lapfile import bodies_of
 from pathdata import Walk, path_data
 from trouble import Trouble
@@ -76,7 +76,20 @@ class Broken(Case):
         self.assertEqual(self.names(), ["a.txt"])
 
 
+    def test_as_drawing_programs_write(self):
+        """Paths of drawing programs are refused, and each message says what to change."""
+        for data, words in (('m 10,80 c 30,-40 60,-40 90,0 z', "relative"), ("M10 80 L 100 80", "a single space"),
+                            ("M 10 80 Q 52.5 10, 95 80 T 180 80", "only M, L and C"), ("M 0,0 H 100 V 50", "commas"),
+                            ("M 0.123456 1 L 2 3 Z", "at most three decimals"), ("M 10 80 L -1.2e3 4", "exponents")):
+            self.told(24, words, "course", self.put("club.svg", f'<svg><path d="{data}"/></svg>'), 2, self.folder / "a.svg")
+
+
 class Drawn(Case):
+    def test_the_sample(self):
+        code, out, error = coach("course", COACH / "course.svg", 2, self.folder / "a.svg")
+        self.assertEqual((code, error), (0, ""))
+        self.assertIn("13 commands in 2 laps", out)
+
     def test_files(self):
         course, picture = self.put("track.txt", TRACK + "\n"), self.folder / "track.svg"
         recorded, fitted = self.folder / "track.laps", self.folder / "fitted.laps"

@@ -1,5 +1,5 @@
 -- What the program prints, by what `read_course` answers: the file, or the line of a refusal, whose number is at most 14. Assumes nothing.
-use Prim.Native.Nat.{ℕ, zero, suc, _≤_}
+use Prim.Native.Nat.{ℕ, _≤_}
 use mathlib.Core.Path.{_≡_, sym, ap, _∙_, subst}
 use mathlib.Core.Bool.{Bool, true, false, not, _||_}
 use mathlib.Core.List.{List, [], _∷_, _++_}

@@ -16,7 +16,7 @@ use Rattle.svg_items.specs.declared.strokes.Stroke.the-variants.{Unread}
 use Rattle.svg_text.specs.Path.{Drawn, move, line, curve, Reading, command, bad, inFront, thenRest, others, named}
 use Rattle.svg_text.specs.Drawing.{drawn}
 use Rattle.svg.specs.Course.{lapsDrawn, allIn}
-use Rattle.svg_items.specs.Strokes.{StrokeOf, CommandAt}
+use Rattle.svg_items.specs.Strokes.{StrokeOf, StrokeAt}
 use Rattle.svg.specs.Tally.{opensOf, anded, tallyOf}
 use Rattle.svg_items.proofs.Cursor.{at-byte, at-end}
 use Rattle.svg_text.proofs.Steps.{command-takes, others-none, others-some}
@@ -81,7 +81,7 @@ counting-starts [] h e = absurd (h refl)
 counting-starts (b ∷ t) h e = record { is = sym (ap (tallyOf 0 0 true) (named-m b t e)); in-text = omega arith; laps-few = omega arith; few = omega arith }
 
 module _ {s : List ℕ} {at laps commands : ℕ} {inside : Bool} (k : Counting s at laps commands inside) where
-  pub no-command-there : CommandAt s at Unread → Bad ≡ tallyOf 0 0 true (named s)
+  pub no-command-there : StrokeAt s at Unread → Bad ≡ tallyOf 0 0 true (named s)
   unfolding tallyOf thenRest
   no-command-there e = sym (ap (λ (r : Reading Drawn). tallyOf laps commands inside (thenRest others r)) e) ∙ k .is
 

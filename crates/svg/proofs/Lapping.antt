@@ -21,7 +21,7 @@ use Rattle.svg_text.specs.Spelling.{Spelled, spelledM, spelledL, spelledC, spel
 use Rattle.svg_text.proofs.Spelled.{no-reading, no-text, value-of, rest-of, followed, command-means}
 use Rattle.svg_text.proofs.Steps.{command-takes, others-none, others-some}
 use Rattle.svg_items.specs.declared.strokes.Stroke.the-variants.{Unread}
-use Rattle.svg_items.specs.Strokes.{StrokeOf, CommandAt}
+use Rattle.svg_items.specs.Strokes.{StrokeOf, StrokeAt}
 use Rattle.svg_items.proofs.Cursor.{at-byte, at-end}
 use Rattle.svg.specs.Course.{untilMove, inked}
 use Rattle.svg.specs.Laps.{namedFrom, fromMove, LapFits, LapPut}
@@ -144,7 +144,7 @@ lapping-starts s start out to f =
     }
 
 module _ {s : List ℕ} {start : ℕ} {out₀ out : List ℕ} {to at commands b : ℕ} (k : Lapping s start out₀ out to at commands b) where
-  pub command-there : {X : Type 0} → CommandAt s at Unread → X
+  pub command-there : {X : Type 0} → StrokeAt s at Unread → X
   command-there e =
       let f = followed others (command (drop at s)) (k .first ∷ k .rest) (stands (drop at s) (k .first) (k .rest) (k .names)) in
       no-reading (f .c) (f .here) (sym e ∙ f .was)

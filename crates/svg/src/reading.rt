@@ -9,7 +9,7 @@ use laps::lap_file::MOST_LAPS;
 use laps::lap_file::put_entry;
 use laps::lap_file::put_head;
 use svg_items::strokes::Stroke;
-use svg_items::strokes::command_at;
+use svg_items::strokes::stroke_at;
 use svg_text::letters::MOVE;
 ghost use mathlib.Core.Path.{_≡_};
 ghost use mathlib.Core.List.{List};
@@ -57,7 +57,7 @@ fn put_lap(s: &[u8], start: usize, out: &mut [u8], to: usize) -> LapRead
     let mut b = to;
     loop {
         // the first walk has read this command
-        let Stroke::Is { c, next } = command_at(s, at) else {
+        let Stroke::Is { c, next } = stroke_at(s, at) else {
             return LapRead {
                 commands: commands,
                 next: at,

@@ -2,7 +2,7 @@
 use geo::domain::command_in;
 use geo::types::Command;
 use svg_items::strokes::Stroke;
-use svg_items::strokes::command_at;
+use svg_items::strokes::stroke_at;
 use svg_text::letters::MOVE;
 use svg_text::letters::SPACE;
 ghost use mathlib.Core.Path.{_≡_};
@@ -72,7 +72,7 @@ pub fn walk_text(s: &[u8]) -> Tally
     let mut commands = 0;
     let mut inside = true;
     loop {
-        let Stroke::Is { c, next } = command_at(s, at) else {
+        let Stroke::Is { c, next } = stroke_at(s, at) else {
             return Tally::Bad; // so a trailing space is refused
         };
         laps += opens(c);

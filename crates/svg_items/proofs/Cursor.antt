@@ -16,7 +16,7 @@ use Rattle.svg_items.specs.declared.figures.Magnitude.the-variants.{Amou
 use Rattle.svg_items.specs.declared.figures.Figure.the-variants.{Found, Broken}
 use Rattle.svg_text.specs.Thousandths.{TenDigits}
 use Rattle.svg_text.specs.Path.{Reading, broken, read, isDigit, nought, Digits, digits, inThousandths, decimals, units, unsigned, signed, negative, number}
-use Rattle.svg_items.specs.Numbers.{RunAt, AmountOf, DecimalsAt, UnsignedAt, NumberAt}
+use Rattle.svg_items.specs.Numbers.{RunAt, AmountOf, DecimalsAt, UnsignedAt, FigureAt}
 use Rattle.svg_text.proofs.Tens.{grow, ten-pos, ten-negative}
 
 -- at a place that is not the end, the byte that stands there and the rest
@@ -157,9 +157,9 @@ pub few-units : (s : List ℕ) (at : ℕ) (r : Run) → RunAt s at 0 7 r → r .
 few-units s at r k = small (r .value) (10 ^ r .room) 10000000 (ten-pos (r .room)) (k .bound)
 
 -- ---- a number
-number-at-end : (t : List ℕ) → t ≡ [] → number t ≡ broken
+figure-at-end : (t : List ℕ) → t ≡ [] → number t ≡ broken
 unfolding number
-number-at-end t e = rw e
+figure-at-end t e = rw e
 
 number-minus : (b : ℕ) (t : List ℕ) → b ≡ 45 → number (b ∷ t) ≡ signed negative (unsigned t)
 unfolding number
@@ -170,8 +170,8 @@ unfolding number
 number-plus b t e = rw (ne-eqb b 45 e)
 
 module _ (s : List ℕ) (at : ℕ) (h : at ≤ length s) where
-  pub nothing-there : at ≡ length s → NumberAt s at Broken
-  nothing-there e = number-at-end (drop at s) (at-end s at e)
+  pub nothing-there : at ≡ length s → FigureAt s at Broken
+  nothing-there e = figure-at-end (drop at s) (at-end s at e)
 
   module _ (n : at ≡ length s → ⊥) where
     minus-there : getD s at 0 ≡ 45 → number (drop at s) ≡ signed negative (unsigned (drop (at + 1) s))
@@ -182,21 +182,21 @@ module _ (s : List ℕ) (at : ℕ) (h : at ≤ length s) where
         let d = at-byte s at (omega arith) in
         ap number d ∙ number-plus (getD s at 0) (drop (at + 1) s) e ∙ ap (λ (t : List ℕ). signed pos (unsigned t)) (sym d)
 
-    pub minus-broken : getD s at 0 ≡ 45 → UnsignedAt s (at + 1) NoAmount → NumberAt s at Broken
+    pub minus-broken : getD s at 0 ≡ 45 → UnsignedAt s (at + 1) NoAmount → FigureAt s at Broken
     unfolding signed
     minus-broken e a = minus-there e ∙ ap (signed negative) a
 
-    pub plus-broken : (getD s at 0 ≡ 45 → ⊥) → UnsignedAt s at NoAmount → NumberAt s at Broken
+    pub plus-broken : (getD s at 0 ≡ 45 → ⊥) → UnsignedAt s at NoAmount → FigureAt s at Broken
     unfolding signed
     plus-broken e a = plus-there e ∙ ap (signed pos) a
 
-    pub minus-found : getD s at 0 ≡ 45 → (v next : ℕ) → UnsignedAt s (at + 1) (Amount v next) → (z : ℤ) → z ≡ negative v → NumberAt s at (Found z next)
+    pub minus-found : getD s at 0 ≡ 45 → (v next : ℕ) → UnsignedAt s (at + 1) (Amount v next) → (z : ℤ) → z ≡ negative v → FigureAt s at (Found z next)
     unfolding signed
     minus-found e v next a z q =
         let o = a .2 in
         (minus-there e ∙ ap (signed negative) (a .0) ∙ ap (λ (y : ℤ). read y (drop next s)) (sym q), subst TenDigits (sym q) (ten-negative v (a .1)), omega arith, a .3)
 
-    pub plus-found : (getD s at 0 ≡ 45 → ⊥) → (v next : ℕ) → UnsignedAt s at (Amount v next) → (z : ℤ) → z ≡ pos v → NumberAt s at (Found z next)
+    pub plus-found : (getD s at 0 ≡ 45 → ⊥) → (v next : ℕ) → UnsignedAt s at (Amount v next) → (z : ℤ) → z ≡ pos v → FigureAt s at (Found z next)
     unfolding signed
     plus-found e v next a z q =
         (plus-there e ∙ ap (signed pos) (a .0) ∙ ap (λ (y : ℤ). read y (drop next s)) (sym q), subst TenDigits (sym q) (a .1), a .2, a .3)

@@ -21,8 +21,8 @@ use Rattle.svg_items.specs.declared.strokes.Stroke.the-variants.{Is, Unr
 use Rattle.svg_text.specs.Thousandths.{floatOf}
 use Rattle.svg_text.specs.Path.{Drawn, move, line, curve, Reading, broken, read, andThen, number, spaced, pairOf, command}
 use Rattle.svg_text.specs.Drawing.{place, drawn}
-use Rattle.svg_items.specs.Numbers.{NumberAt}
-use Rattle.svg_items.specs.Strokes.{SpacedAt, both, SpotAt, PlaceAt, StrokeIn, moveOrLine, bent, StraightAt, CurveAt, CommandAt}
+use Rattle.svg_items.specs.Numbers.{FigureAt}
+use Rattle.svg_items.specs.Strokes.{SpacedAt, both, SpotAt, PlaceAt, StrokeIn, moveOrLine, bent, StraightAt, CurveAt, StrokeAt}
 use Rattle.svg_items.proofs.Cursor.{at-byte, at-end}
 use Rattle.svg_items.proofs.Signed.{back-64}
 use Rattle.svg_text.proofs.Spelled.{no-reading, value-of, rest-of}
@@ -47,13 +47,13 @@ module _ (s : List ℕ) (at : ℕ) (h : at ≤ length s) where
   pub not-spaced : (at ≡ length s → ⊥) → (getD s at 0 ≡ 32 → ⊥) → SpacedAt s at Broken
   not-spaced n e = ap spaced (at-byte s at (omega arith)) ∙ spaced-not (getD s at 0) (drop (at + 1) s) e
 
-  pub is-spaced : (at ≡ length s → ⊥) → getD s at 0 ≡ 32 → (r : Figure) → NumberAt s (at + 1) r → SpacedAt s at r
+  pub is-spaced : (at ≡ length s → ⊥) → getD s at 0 ≡ 32 → (r : Figure) → FigureAt s (at + 1) r → SpacedAt s at r
   is-spaced n e r k = go r k
     where
       there : spaced (drop at s) ≡ number (drop (at + 1) s)
       there = ap spaced (at-byte s at (omega arith)) ∙ spaced-by (getD s at 0) (drop (at + 1) s) e
 
-      go : (r : Figure) → NumberAt s (at + 1) r → SpacedAt s at r
+      go : (r : Figure) → FigureAt s (at + 1) r → SpacedAt s at r
       go (Found v next) k = let o = k .2 in (there ∙ k .0, k .1, omega arith, k .3)
       go Broken k = there ∙ k
 
@@ -211,21 +211,21 @@ unfolding command
 command-other b t m l c = rw (ne-eqb b 77 m, ne-eqb b 76 l, ne-eqb b 67 c)
 
 module _ (s : List ℕ) (at : ℕ) (h : at ≤ length s) where
-  pub no-command : at ≡ length s → CommandAt s at Unread
+  pub no-command : at ≡ length s → StrokeAt s at Unread
   no-command e = command-none (drop at s) (at-end s at e)
 
   module _ (n : at ≡ length s → ⊥) where
     letter : command (drop at s) ≡ command (getD s at 0 ∷ drop (at + 1) s)
     letter = ap command (at-byte s at (omega arith))
 
-    pub letter-m : getD s at 0 ≡ 77 → (r : Stroke) → StraightAt s (at + 1) true r → CommandAt s at r
+    pub letter-m : getD s at 0 ≡ 77 → (r : Stroke) → StraightAt s (at + 1) true r → StrokeAt s at r
     letter-m e r k = stroke-on s at (command (drop at s)) (moveOrLine true (drop (at + 1) s)) r (letter ∙ command-m (getD s at 0) (drop (at + 1) s) e) k
 
-    pub letter-l : getD s at 0 ≡ 76 → (r : Stroke) → StraightAt s (at + 1) false r → CommandAt s at r
+    pub letter-l : getD s at 0 ≡ 76 → (r : Stroke) → StraightAt s (at + 1) false r → StrokeAt s at r
     letter-l e r k = stroke-on s at (command (drop at s)) (moveOrLine false (drop (at + 1) s)) r (letter ∙ command-l (getD s at 0) (drop (at + 1) s) e) k
 
-    pub letter-c : getD s at 0 ≡ 67 → (r : Stroke) → CurveAt s (at + 1) r → CommandAt s at r
+    pub letter-c : getD s at 0 ≡ 67 → (r : Stroke) → CurveAt s (at + 1) r → StrokeAt s at r
     letter-c e r k = stroke-on s at (command (drop at s)) (bent (drop (at + 1) s)) r (letter ∙ command-c (getD s at 0) (drop (at + 1) s) e) k
 
-    pub no-letter : (getD s at 0 ≡ 77 → ⊥) → (getD s at 0 ≡ 76 → ⊥) → (getD s at 0 ≡ 67 → ⊥) → CommandAt s at Unread
+    pub no-letter : (getD s at 0 ≡ 77 → ⊥) → (getD s at 0 ≡ 76 → ⊥) → (getD s at 0 ≡ 67 → ⊥) → StrokeAt s at Unread
     no-letter m l c = letter ∙ command-other (getD s at 0) (drop (at + 1) s) m l c

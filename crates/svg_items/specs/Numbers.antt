@@ -31,6 +31,6 @@ abbrev pub UnsignedAt : List ℕ → ℕ → Magnitude → Type 0
 UnsignedAt s at r = AmountOf s at (unsigned (drop at s)) r
 
 -- a number
-abbrev pub NumberAt : List ℕ → ℕ → Figure → Type 0
-NumberAt s at (Found v next) = (number (drop at s) ≡ read v (drop next s)) × TenDigits v × (at ≤ next) × (next ≤ length s)
-NumberAt s at Broken = number (drop at s) ≡ broken
+abbrev pub FigureAt : List ℕ → ℕ → Figure → Type 0
+FigureAt s at (Found v next) = (number (drop at s) ≡ read v (drop next s)) × TenDigits v × (at ≤ next) × (next ≤ length s)
+FigureAt s at Broken = number (drop at s) ≡ broken

@@ -64,5 +64,5 @@ StraightAt s at opens r = StrokeIn s at (moveOrLine opens (drop at s)) r
 abbrev pub CurveAt : List ℕ → ℕ → Stroke → Type 0
 CurveAt s at r = StrokeIn s at (bent (drop at s)) r
 
-abbrev pub CommandAt : List ℕ → ℕ → Stroke → Type 0
-CommandAt s at r = StrokeIn s at (command (drop at s)) r
+abbrev pub StrokeAt : List ℕ → ℕ → Stroke → Type 0
+StrokeAt s at r = StrokeIn s at (command (drop at s)) r

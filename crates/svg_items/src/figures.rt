@@ -11,7 +11,7 @@ ghost use lib.ListN.{length};
 ghost use Rattle.svg_text.specs.Thousandths.{TenDigits, floatOf};
 ghost use Rattle.svg_text.specs.Path.{isDigit};
 ghost use Rattle.svg_text.specs.Spelling.{withSign};
-ghost use Rattle.svg_items.specs.Numbers.{RunAt, DecimalsAt, UnsignedAt, NumberAt};
+ghost use Rattle.svg_items.specs.Numbers.{RunAt, DecimalsAt, UnsignedAt, FigureAt};
 
 // Digits that were read: their value, how many more there might have been, and where the text goes on.
 pub struct Run {
@@ -148,9 +148,9 @@ fn with_sign(minus: bool, v: u64) -> i64
 }
 
 // The number that stands from `at` on.
-pub fn number_at(s: &[u8], at: usize) -> Figure
+pub fn figure_at(s: &[u8], at: usize) -> Figure
     requires { ⌜ at ≤ length (now s) ⌝ }
-    ensures { λ r. ⌜ NumberAt (now (s .entry)) at r ⌝ }
+    ensures { λ r. ⌜ FigureAt (now (s .entry)) at r ⌝ }
 {
     if at == s.len() {
         return Figure::Broken;
@@ -177,7 +177,7 @@ pub fn number_at(s: &[u8], at: usize) -> Figure
 const UNIT: f64 = 1000.0;
 
 // The float of a number in thousandths: "its thousandths divided once by 1000".
-pub fn float_of(v: i64) -> f64
+pub fn from_thousandths(v: i64) -> f64
     requires { ⌜ TenDigits v ⌝ }
     ensures { λ r. ⌜ r ≡ floatOf v ⌝ }
 {

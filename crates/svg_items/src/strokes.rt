@@ -1,7 +1,7 @@
 // The commands of path data: read at a cursor, one at a time, as commands of a course.
 use crate::figures::Figure;
-use crate::figures::float_of;
-use crate::figures::number_at;
+use crate::figures::figure_at;
+use crate::figures::from_thousandths;
 use geo::types::Command;
 use geo::types::Point3D;
 use svg_text::letters::CURVE;
@@ -10,7 +10,7 @@ use svg_text::letters::MOVE;
 use svg_text::letters::SPACE;
 ghost use Prim.Native.Nat.{_≤_};
 ghost use lib.ListN.{length};
-ghost use Rattle.svg_items.specs.Strokes.{SpacedAt, PlaceAt, CurveAt, StraightAt, CommandAt};
+ghost use Rattle.svg_items.specs.Strokes.{SpacedAt, PlaceAt, CurveAt, StraightAt, StrokeAt};
 
 // A point that was read, and where the text goes on.
 pub enum Spot {
@@ -35,7 +35,7 @@ fn spaced_at(s: &[u8], at: usize) -> Figure
     if s[at] != SPACE {
         return Figure::Broken;
     }
-    number_at(s, at + 1)
+    figure_at(s, at + 1)
 }
 
 // The point whose two numbers stand from `at` on, each behind a space.
@@ -54,8 +54,8 @@ fn place_at(s: &[u8], at: usize) -> Spot
         return Spot::Nowhere;
     };
     let p = Point3D {
-        x: float_of(x),
-        y: float_of(y),
+        x: from_thousandths(x),
+        y: from_thousandths(y),
         z: 0.0,
     };
     Spot::At { p: p, next: next }
@@ -108,9 +108,9 @@ fn straight_at(s: &[u8], at: usize, opens: bool) -> Stroke
 }
 
 // The command that stands from `at` on.
-pub fn command_at(s: &[u8], at: usize) -> Stroke
+pub fn stroke_at(s: &[u8], at: usize) -> Stroke
     requires { ⌜ at ≤ length (now s) ⌝ }
-    ensures { λ r. ⌜ CommandAt (now (s .entry)) at r ⌝ }
+    ensures { λ r. ⌜ StrokeAt (now (s .entry)) at r ⌝ }
 {
     if at == s.len() {
         return Stroke::Unread;

@@ -1,15 +1,16 @@
 -- Document 02, §11, in words that can be checked. Definitions only; `proofs/Demand.antt` and `proofs/Grammar.antt` have the proofs.
 use Prim.Native.Nat.{ℕ, _≤_}
 use mathlib.Core.Path.{_≡_}
-use mathlib.Core.List.{List, map}
+use mathlib.Core.List.{List, [], _∷_, map}
 use lib.ListN.{length}
 use lib.Ieee.{Float}
+use Rattle.geo.specs.Lent.{flat}
 use Rattle.geo.specs.Outcome.{refused, gives, refusal}
 use Rattle.file.specs.Command.{decoded}
 use Rattle.laps.specs.File.{lapsOf}
 use Rattle.laps.specs.Rows.{fileRows}
 use Rattle.lap_fit.specs.Fit.{fitFile}
-use Rattle.svg_text.specs.Path.{Drawn, named}
+use Rattle.svg_text.specs.Path.{Drawn, move, line, curve, named}
 use Rattle.svg_text.specs.Drawing.{drawn}
 use Rattle.svg_text.specs.Spelling.{Spells}
 use Rattle.svg.specs.Course.{lapsDrawn, readCourse}
@@ -26,7 +27,28 @@ UnspelledIsRefused = (t : List ℕ) (room : ℕ) → length t ≤ 65536 → ((cs
 abbrev pub RefusedIsUnspelled : Type 0
 RefusedIsUnspelled = (t : List ℕ) (room : ℕ) → readCourse t room ≡ refused 14 → (cs : List Drawn) → Spells t cs → ⊥
 
--- "Each M opens a lap, and the result is a lap file": no row of a lap file fails, and its laps decode to those that the text names
+-- "Each M opens a lap": a lap is an M and what follows it that is no M,
+abbrev pub NoMove : List Drawn → Type 0
+NoMove [] = Unit
+NoMove (move x y ∷ cs) = ⊥
+NoMove (line x y ∷ cs) = NoMove cs
+NoMove (curve a b c d x y ∷ cs) = NoMove cs
+
+abbrev pub IsLap : List Drawn → Type 0
+IsLap [] = ⊥
+IsLap (move x y ∷ cs) = NoMove cs
+IsLap (line x y ∷ cs) = ⊥
+IsLap (curve a b c d x y ∷ cs) = ⊥
+
+abbrev pub AreLaps : List (List Drawn) → Type 0
+AreLaps [] = Unit
+AreLaps (l ∷ ls) = IsLap l × AreLaps ls
+
+-- and all laps, one behind the other, are the text's commands
+abbrev pub EachMoveOpens : Type 0
+EachMoveOpens = (t : List ℕ) (cs : List Drawn) → named t ≡ gives cs → AreLaps (lapsDrawn cs) × (flat (λ (l : List Drawn). l) (lapsDrawn cs) ≡ cs)
+
+-- "the result is a lap file": no row of a lap file fails, and its laps decode to those that the text names
 pub record IsCourse (t f : List ℕ) : Type 0 where
   pub cs : List Drawn
   pub says : named t ≡ gives cs

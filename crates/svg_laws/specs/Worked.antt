@@ -22,14 +22,14 @@ abbrev pub emptyFile : List ℕ
 emptyFile = 0x4c ∷ 0x41 ∷ 0x50 ∷ 0x53 ∷ 0 ∷ 0 ∷ 0 ∷ 0 ∷ []
 
 -- a point of whole units
-abbrev pub metres : ℕ → ℕ → Point3D
-metres x y = place (pos (1000 * x)) (pos (1000 * y))
+abbrev pub spot : ℕ → ℕ → Point3D
+spot x y = place (pos (1000 * x)) (pos (1000 * y))
 
 pub record WorkedFiles : Type 0 where
   pub no-course : file "" ≡ gives emptyFile
   pub too-far : file "M 1000000.001 0" ≡ refused 5
   pub rules-first : file "M 1000000.001 0," ≡ refused 14
   pub no-room : readCourse (asBytes "M 1 2") 88 ≡ refused 9
-  pub exact-room : readCourse (asBytes "M 1 2") 89 ≡ gives (encode ((enc (Move (metres 1 2)) ∷ []) ∷ []))
-  pub two-laps : file "M 1 2 L 3 4 M 5 6" ≡ gives (encode ((enc (Move (metres 1 2)) ∷ enc (Line (metres 3 4)) ∷ []) ∷ (enc (Move (metres 5 6)) ∷ []) ∷ []))
-  pub a-curve : file "M 0 0 C 1 2 3 4 5 6" ≡ gives (encode ((enc (Move (metres 0 0)) ∷ enc (Bezier (metres 5 6) (metres 1 2) (metres 3 4)) ∷ []) ∷ []))
+  pub exact-room : readCourse (asBytes "M 1 2") 89 ≡ gives (encode ((enc (Move (spot 1 2)) ∷ []) ∷ []))
+  pub two-laps : file "M 1 2 L 3 4 M 5 6" ≡ gives (encode ((enc (Move (spot 1 2)) ∷ enc (Line (spot 3 4)) ∷ []) ∷ (enc (Move (spot 5 6)) ∷ []) ∷ []))
+  pub a-curve : file "M 0 0 C 1 2 3 4 5 6" ≡ gives (encode ((enc (Move (spot 0 0)) ∷ enc (Bezier (spot 5 6) (spot 1 2) (spot 3 4)) ∷ []) ∷ []))

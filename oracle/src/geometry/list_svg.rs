@@ -49,7 +49,7 @@ fn worked() -> Vec<(String, usize)> {
         again("M 1 2", 1) + " " + &again("L 1 2", 800),
         again("M 1 2", 1) + " " + &again("L 1 2", 799),
         again("m", 32_769),
-        again("m", 32_768),
+        again("m", 32_768) + " ",
     ];
     let plain = texts.iter().chain(&DRAWN).map(|text| (text.to_string(), ROOM));
     plain.chain(rooms.map(|(text, room)| (text.to_string(), room))).chain(limits.map(|text| (text, ROOM))).collect()

@@ -4,7 +4,7 @@ use mathlib.Core.Path.{subst}
 use native.Mathlib.Omega.{arith}
 use borrow.Author.Needs.{needs}
 use lib.ListN.{length}
-use Rattle.svg_items.specs.Strokes.{CommandAt}
+use Rattle.svg_items.specs.Strokes.{StrokeAt}
 use Rattle.svg.proofs.Lapping.{Lapping, lapping-starts, command-there, room-there, further, text-ends, read-on, lap-closed, lapping-goes-on}
 use Rattle.svg.proofs.reading.put_lap.Statement.{statement}
 use Rattle.svg.proofs.reading.put_lap.Tie as tie
@@ -18,8 +18,8 @@ abbrev μ-loop : tie.MeasureT-loop
 loop-holds : tie.Need-loop-holds Inv-loop μ-loop
 loop-holds c = lapping-starts _ _ _ _ (c .before .before .pre)
 
-command-at-requires : tie.Need-command-at-requires Inv-loop μ-loop
-command-at-requires c κs = c .loop .inv .inside
+stroke-at-requires : tie.Need-stroke-at-requires Inv-loop μ-loop
+stroke-at-requires c κs = c .loop .inv .inside
 
 enum-known-c : tie.Need-enum-known-c Inv-loop μ-loop
 enum-known-c c = search needs
@@ -31,7 +31,7 @@ same-length : tie.Need-same-length Inv-loop μ-loop
 same-length c = c .before .before .before .loop .inv .same
 
 returns : tie.Need-returns Inv-loop μ-loop
-returns c = command-there (c .before .before .before .loop .inv) (subst (CommandAt (c .before .before .before .before .before .before .args .s .now) (c .before .before .before .loop .at)) (c .enum-told .given .1) (c .before .before .command-at .ensures))
+returns c = command-there (c .before .before .before .loop .inv) (subst (StrokeAt (c .before .before .before .before .before .before .args .s .now) (c .before .before .before .loop .at)) (c .enum-told .given .1) (c .before .before .stroke-at .ensures))
 
 write-command-requires : tie.Need-write-command-requires Inv-loop μ-loop
 write-command-requires c κs = room-there (c .before .before .before .before .before .loop .inv)
@@ -43,28 +43,28 @@ same-length-2 : tie.Need-same-length-2 Inv-loop μ-loop
 same-length-2 c = let i = c .before .before .before .before .before .before .before .before .before .loop .inv in omega (arith, i .same, c .before .before .before .write-command .kept .0)
 
 returns-2 : tie.Need-returns-2 Inv-loop μ-loop
-returns-2 c = text-ends (c .before .before .before .before .before .before .before .before .before .loop .inv) _ _ (subst (CommandAt (c .before .before .before .before .before .before .before .before .before .before .before .before .args .s .now) (c .before .before .before .before .before .before .before .before .before .loop .at)) (c .before .before .before .before .before .before .c .given .1) (c .before .before .before .before .before .before .before .before .command-at .ensures)) _ (c .before .before .before .write-command .ensures) (c .if1 .taken)
+returns-2 c = text-ends (c .before .before .before .before .before .before .before .before .before .loop .inv) _ _ (subst (StrokeAt (c .before .before .before .before .before .before .before .before .before .before .before .before .args .s .now) (c .before .before .before .before .before .before .before .before .before .loop .at)) (c .before .before .before .before .before .before .c .given .1) (c .before .before .before .before .before .before .before .before .stroke-at .ensures)) _ (c .before .before .before .write-command .ensures) (c .if1 .taken)
 
 add-b : tie.Need-add-b Inv-loop μ-loop
 add-b c = let i = c .before .before .before .before .before .before .before .before .before .loop .inv in omega (arith, i .room, i .same)
 
 add-at : tie.Need-add-at Inv-loop μ-loop
-add-at c = let j = subst (CommandAt (c .before .before .before .before .before .before .before .before .before .before .before .before .args .s .now) (c .before .before .before .before .before .before .before .before .before .loop .at)) (c .before .before .before .before .before .before .c .given .1) (c .before .before .before .before .before .before .before .before .command-at .ensures) in omega (arith, j .inside)
+add-at c = let j = subst (StrokeAt (c .before .before .before .before .before .before .before .before .before .before .before .before .args .s .now) (c .before .before .before .before .before .before .before .before .before .loop .at)) (c .before .before .before .before .before .before .c .given .1) (c .before .before .before .before .before .before .before .before .stroke-at .ensures) in omega (arith, j .inside)
 
 shared-slice-read-if2 : tie.Need-shared-slice-read-if2 Inv-loop μ-loop
-shared-slice-read-if2 c = read-on (c .before .before .before .before .before .before .before .before .before .before .loop .inv) _ _ (subst (CommandAt (c .before .before .before .before .before .before .before .before .before .before .before .before .before .args .s .now) (c .before .before .before .before .before .before .before .before .before .before .loop .at)) (c .before .before .before .before .before .before .before .c .given .1) (c .before .before .before .before .before .before .before .before .before .command-at .ensures)) _ (c .before .before .before .before .write-command .ensures) (c .before .if1 .left)
+shared-slice-read-if2 c = read-on (c .before .before .before .before .before .before .before .before .before .before .loop .inv) _ _ (subst (StrokeAt (c .before .before .before .before .before .before .before .before .before .before .before .before .before .args .s .now) (c .before .before .before .before .before .before .before .before .before .before .loop .at)) (c .before .before .before .before .before .before .before .c .given .1) (c .before .before .before .before .before .before .before .before .before .stroke-at .ensures)) _ (c .before .before .before .before .write-command .ensures) (c .before .if1 .left)
 
 same-length-3 : tie.Need-same-length-3 Inv-loop μ-loop
 same-length-3 c = let i = c .before .before .before .before .before .before .before .before .before .before .before .loop .inv in omega (arith, i .same, c .before .before .before .before .before .write-command .kept .0)
 
 returns-3 : tie.Need-returns-3 Inv-loop μ-loop
-returns-3 c = lap-closed (c .before .before .before .before .before .before .before .before .before .before .before .loop .inv) _ _ (subst (CommandAt (c .before .before .before .before .before .before .before .before .before .before .before .before .before .before .args .s .now) (c .before .before .before .before .before .before .before .before .before .before .before .loop .at)) (c .before .before .before .before .before .before .before .before .c .given .1) (c .before .before .before .before .before .before .before .before .before .before .command-at .ensures)) _ (c .before .before .before .before .before .write-command .ensures) (c .before .before .if1 .left) (c .if2 .taken)
+returns-3 c = lap-closed (c .before .before .before .before .before .before .before .before .before .before .before .loop .inv) _ _ (subst (StrokeAt (c .before .before .before .before .before .before .before .before .before .before .before .before .before .before .args .s .now) (c .before .before .before .before .before .before .before .before .before .before .before .loop .at)) (c .before .before .before .before .before .before .before .before .c .given .1) (c .before .before .before .before .before .before .before .before .before .before .stroke-at .ensures)) _ (c .before .before .before .before .before .write-command .ensures) (c .before .before .if1 .left) (c .if2 .taken)
 
 loop-less : tie.Need-loop-less Inv-loop μ-loop
-loop-less c = let j = subst (CommandAt (c .before .before .before .before .before .before .before .before .before .before .before .before .before .before .args .s .now) (c .before .before .before .before .before .before .before .before .before .before .before .loop .at)) (c .before .before .before .before .before .before .before .before .c .given .1) (c .before .before .before .before .before .before .before .before .before .before .command-at .ensures) in let o = further (c .before .before .before .before .before .before .before .before .before .before .before .loop .inv) _ _ j in omega (arith, j .inside, o)
+loop-less c = let j = subst (StrokeAt (c .before .before .before .before .before .before .before .before .before .before .before .before .before .before .args .s .now) (c .before .before .before .before .before .before .before .before .before .before .before .loop .at)) (c .before .before .before .before .before .before .before .before .c .given .1) (c .before .before .before .before .before .before .before .before .before .before .stroke-at .ensures) in let o = further (c .before .before .before .before .before .before .before .before .before .before .before .loop .inv) _ _ j in omega (arith, j .inside, o)
 
 loop-again : tie.Need-loop-again Inv-loop μ-loop
-loop-again c = lapping-goes-on (c .before .before .before .before .before .before .before .before .before .before .before .loop .inv) _ _ (subst (CommandAt (c .before .before .before .before .before .before .before .before .before .before .before .before .before .before .args .s .now) (c .before .before .before .before .before .before .before .before .before .before .before .loop .at)) (c .before .before .before .before .before .before .before .before .c .given .1) (c .before .before .before .before .before .before .before .before .before .before .command-at .ensures)) _ (c .before .before .before .before .before .write-command .ensures) (c .before .before .if1 .left) (c .if2 .left)
+loop-again c = lapping-goes-on (c .before .before .before .before .before .before .before .before .before .before .before .loop .inv) _ _ (subst (StrokeAt (c .before .before .before .before .before .before .before .before .before .before .before .before .before .before .args .s .now) (c .before .before .before .before .before .before .before .before .before .before .before .loop .at)) (c .before .before .before .before .before .before .before .before .c .given .1) (c .before .before .before .before .before .before .before .before .before .before .stroke-at .ensures)) _ (c .before .before .before .before .before .write-command .ensures) (c .before .before .if1 .left) (c .if2 .left)
 
 pub put-lap-spec : {M : Type 1} → statement M
 put-lap-spec =
@@ -73,7 +73,7 @@ put-lap-spec =
     Inv-loop
     μ-loop
     loop-holds
-    command-at-requires
+    stroke-at-requires
     enum-known-c
     enum-told
     same-length

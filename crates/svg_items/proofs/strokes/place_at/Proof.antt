@@ -31,14 +31,14 @@ enum-told-2 c = search needs
 returns-2 : tie.Need-returns-2
 returns-2 c = no-place-y (c .before .before .before .before .before .before .before .before .args .s .now) (c .before .before .before .before .before .before .before .before .args .at) _ _ (subst (SpacedAt (c .before .before .before .before .before .before .before .before .args .s .now) (c .before .before .before .before .before .before .before .before .args .at)) (c .before .before .before .before .x .given .1) (c .before .before .before .before .before .before .spaced-at .ensures)) (subst (SpacedAt (c .before .before .before .before .before .before .before .before .args .s .now) (c .before .before .before .before .x .given .0 .1 .0)) (c .enum-told2 .given .1) (c .before .before .spaced-at2 .ensures))
 
-float-of-requires : tie.Need-float-of-requires
-float-of-requires c κs = let t = (subst (SpacedAt (c .before .before .before .before .before .before .before .before .before .args .s .now) (c .before .before .before .before .before .before .before .before .before .args .at)) (c .before .before .before .before .before .x .given .1) (c .before .before .before .before .before .before .before .spaced-at .ensures)) .1 in rw (back-64 _ t) t
+from-thousandths-requires : tie.Need-from-thousandths-requires
+from-thousandths-requires c κs = let t = (subst (SpacedAt (c .before .before .before .before .before .before .before .before .before .args .s .now) (c .before .before .before .before .before .before .before .before .before .args .at)) (c .before .before .before .before .before .x .given .1) (c .before .before .before .before .before .before .before .spaced-at .ensures)) .1 in rw (back-64 _ t) t
 
-float-of-requires-2 : tie.Need-float-of-requires-2
-float-of-requires-2 c κs = let t = (subst (SpacedAt (c .before .before .before .before .before .before .before .before .before .before .args .s .now) (c .before .before .before .before .before .before .x .given .0 .1 .0)) (c .before .before .y .given .1) (c .before .before .before .before .spaced-at2 .ensures)) .1 in rw (back-64 _ t) t
+from-thousandths-requires-2 : tie.Need-from-thousandths-requires-2
+from-thousandths-requires-2 c κs = let t = (subst (SpacedAt (c .before .before .before .before .before .before .before .before .before .before .args .s .now) (c .before .before .before .before .before .before .x .given .0 .1 .0)) (c .before .before .y .given .1) (c .before .before .before .before .spaced-at2 .ensures)) .1 in rw (back-64 _ t) t
 
 returns-3 : tie.Need-returns-3
-returns-3 c = a-place (c .before .before .before .before .before .before .before .before .before .before .before .args .s .now) (c .before .before .before .before .before .before .before .before .before .before .before .args .at) _ _ (subst (SpacedAt (c .before .before .before .before .before .before .before .before .before .before .before .args .s .now) (c .before .before .before .before .before .before .before .before .before .before .before .args .at)) (c .before .before .before .before .before .before .before .x .given .1) (c .before .before .before .before .before .before .before .before .before .spaced-at .ensures)) _ _ (subst (SpacedAt (c .before .before .before .before .before .before .before .before .before .before .before .args .s .now) (c .before .before .before .before .before .before .before .x .given .0 .1 .0)) (c .before .before .before .y .given .1) (c .before .before .before .before .before .spaced-at2 .ensures)) (c .before .float-of .result) (c .float-of2 .result) (c .before .float-of .ensures) (c .float-of2 .ensures)
+returns-3 c = a-place (c .before .before .before .before .before .before .before .before .before .before .before .args .s .now) (c .before .before .before .before .before .before .before .before .before .before .before .args .at) _ _ (subst (SpacedAt (c .before .before .before .before .before .before .before .before .before .before .before .args .s .now) (c .before .before .before .before .before .before .before .before .before .before .before .args .at)) (c .before .before .before .before .before .before .before .x .given .1) (c .before .before .before .before .before .before .before .before .before .spaced-at .ensures)) _ _ (subst (SpacedAt (c .before .before .before .before .before .before .before .before .before .before .before .args .s .now) (c .before .before .before .before .before .before .before .x .given .0 .1 .0)) (c .before .before .before .y .given .1) (c .before .before .before .before .before .spaced-at2 .ensures)) (c .before .from-thousandths .result) (c .from-thousandths2 .result) (c .before .from-thousandths .ensures) (c .from-thousandths2 .ensures)
 
 pub place-at-spec : {M : Type 1} → statement M
 place-at-spec =
@@ -52,6 +52,6 @@ place-at-spec =
     enum-known-y
     enum-told-2
     returns-2
-    float-of-requires
-    float-of-requires-2
+    from-thousandths-requires
+    from-thousandths-requires-2
     returns-3)

@@ -13,16 +13,16 @@ shared-slice-read-if2 c = search needs
 returns-2 : tie.Need-returns-2
 returns-2 c = not-spaced (c .before .before .before .before .args .s .now) (c .before .before .before .before .args .at) (c .before .before .before .before .pre) (c .before .before .if1 .left) (c .if2 .taken)
 
-add-number-at : tie.Need-add-number-at
-add-number-at c = search needs
+add-figure-at : tie.Need-add-figure-at
+add-figure-at c = search needs
 
-number-at-requires : tie.Need-number-at-requires
-number-at-requires c κs = search needs
+figure-at-requires : tie.Need-figure-at-requires
+figure-at-requires c κs = search needs
 
 returns-3 : tie.Need-returns-3
-returns-3 c = is-spaced (c .before .before .before .before .before .args .s .now) (c .before .before .before .before .before .args .at) (c .before .before .before .before .before .pre) (c .before .before .before .if1 .left) (c .before .if2 .left) (c .number-at .result) (c .number-at .ensures)
+returns-3 c = is-spaced (c .before .before .before .before .before .args .s .now) (c .before .before .before .before .before .args .at) (c .before .before .before .before .before .pre) (c .before .before .before .if1 .left) (c .before .if2 .left) (c .figure-at .result) (c .figure-at .ensures)
 
 pub spaced-at-spec : {M : Type 1} → statement M
 spaced-at-spec =
     tie.close
-    (tie.spec returns shared-slice-read-if2 returns-2 add-number-at number-at-requires returns-3)
+    (tie.spec returns shared-slice-read-if2 returns-2 add-figure-at figure-at-requires returns-3)

@@ -1,8 +1,8 @@
--- `svg_items::strokes::command_at` meets its contract. Assumes nothing.
+-- `svg_items::strokes::stroke_at` meets its contract. Assumes nothing.
 use Rattle.svg_items.proofs.Drawing.{no-command, letter-m, letter-l, letter-c, no-letter}
 use borrow.Author.Needs.{needs}
-use Rattle.svg_items.proofs.strokes.command_at.Statement.{statement}
-use Rattle.svg_items.proofs.strokes.command_at.Tie as tie
+use Rattle.svg_items.proofs.strokes.stroke_at.Statement.{statement}
+use Rattle.svg_items.proofs.strokes.stroke_at.Tie as tie
 
 returns : tie.Need-returns
 returns c = no-command (c .before .before .args .s .now) (c .before .before .args .at) (c .before .before .pre) (c .if1 .taken)
@@ -40,8 +40,8 @@ returns-4 c = letter-c (c .before .before .before .before .before .before .befor
 returns-5 : tie.Need-returns-5
 returns-5 c = no-letter (c .before .before .before .before .before .before .args .s .now) (c .before .before .before .before .before .before .args .at) (c .before .before .before .before .before .before .pre) (c .before .before .before .before .if1 .left) (c .before .before .if2 .left) (c .before .if3 .left) (c .if4 .left)
 
-pub command-at-spec : {M : Type 1} → statement M
-command-at-spec =
+pub stroke-at-spec : {M : Type 1} → statement M
+stroke-at-spec =
     tie.close
     (tie.spec
     returns

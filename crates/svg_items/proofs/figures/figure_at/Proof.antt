@@ -1,4 +1,4 @@
--- `svg_items::figures::number_at` meets its contract. Assumes nothing.
+-- `svg_items::figures::figure_at` meets its contract. Assumes nothing.
 use Prim.Native.Nat.{_+_}
 use mathlib.Core.Path.{subst}
 use lib.IntN.{pos}
@@ -10,8 +10,8 @@ use Rattle.svg_text.proofs.Tens.{ten-negative}
 use Rattle.svg_items.proofs.Signed.{held-64}
 use Rattle.svg_items.proofs.Cursor.{nothing-there, minus-broken, plus-broken, minus-found, plus-found}
 use borrow.Author.Needs.{needs}
-use Rattle.svg_items.proofs.figures.number_at.Statement.{statement}
-use Rattle.svg_items.proofs.figures.number_at.Tie as tie
+use Rattle.svg_items.proofs.figures.figure_at.Statement.{statement}
+use Rattle.svg_items.proofs.figures.figure_at.Tie as tie
 
 returns : tie.Need-returns
 returns c = nothing-there (c .before .before .args .s .now) (c .before .before .args .at) (c .before .before .pre) (c .if1 .taken)
@@ -58,8 +58,8 @@ with-sign-requires-2 c κs = (subst (UnsignedAt (c .before .before .before .befo
 returns-5 : tie.Need-returns-5
 returns-5 c = plus-found (c .before .before .before .before .before .before .before .before .before .args .s .now) (c .before .before .before .before .before .before .before .before .before .args .at) (c .before .before .before .before .before .before .before .before .before .pre) (c .before .before .before .before .before .before .before .if1 .left) (c .before .before .before .before .before .if2 .left) (c .before .before .value2 .given .0 .0) (c .before .before .value2 .given .0 .1 .0) (subst (UnsignedAt (c .before .before .before .before .before .before .before .before .before .args .s .now) (c .before .before .before .before .before .before .before .before .before .args .at)) (c .before .before .value2 .given .1) (c .before .before .before .before .unsigned-at2 .ensures)) (toZ w64 (ofZ w64 (c .with-sign2 .result))) (held-64 (c .with-sign2 .result) (pos (c .before .before .value2 .given .0 .0)) ((subst (UnsignedAt (c .before .before .before .before .before .before .before .before .before .args .s .now) (c .before .before .before .before .before .before .before .before .before .args .at)) (c .before .before .value2 .given .1) (c .before .before .before .before .unsigned-at2 .ensures)) .1) (c .with-sign2 .ensures))
 
-pub number-at-spec : {M : Type 1} → statement M
-number-at-spec =
+pub figure-at-spec : {M : Type 1} → statement M
+figure-at-spec =
     tie.close
     (tie.spec
     returns
