@@ -47,7 +47,7 @@ extern "C" {
 /* Answers. */
 #define PZ_DONE 0u
 #define PZ_NOT_WHOLE 1u     /* a slice is not whole points or commands; a file under 8 bytes */
-#define PZ_TOO_MANY 2u      /* more than 2,048 points, 800 commands, 64 laps or 65,536 file bytes */
+#define PZ_TOO_MANY 2u      /* more than 2,048 points, 800 commands, 64 laps, or 65,536 bytes of a file or a text */
 #define PZ_BAD_FILE 3u      /* wrong mark or table, over 800 commands in a table, lap counts that differ */
 #define PZ_BAD_COMMAND 4u   /* unknown kind, unused number not +0, or in a lap a Move missing or misplaced */
 #define PZ_BAD_NUMBER 5u    /* an end or control not finite or above 1,000,000; an offset or normal not finite */
