@@ -12,7 +12,7 @@ from trouble import DONE, ENDED, INTERRUPTED, OUTPUT, PIPE, STATUSES, Trouble
 ABOUT = """Recorded laps as straights and bends, for the coach and the student.
 
 WORKOUT is a recording: GPX, a table (CSV), or the workout's own text, one position a line: lap time x y z, in seconds and
-metres. A lap file (.laps) is what the watch holds. TOLERANCE is in metres. '-' stands for standard input or output. No
+metres. A lap file (.laps) is what the watch holds. A COURSE is SVG path data. TOLERANCE is in metres. '-' stands for standard input or output. No
 file is replaced without --force, and no input ever. Every fitted byte comes from the proved functions, by
 target/coach/laptool (coach/build makes it). Lengths are in the plane."""
 
@@ -89,6 +89,7 @@ COMMANDS = {
     "gpx": (commands.gpx, "a lap file as GPX", ("file", "gpx"), ("reading", "force")),
     "draw": (commands.draw, "the repetitions as a picture, .svg or .html", ("workout", "tolerance", "picture"),
              ("reading", "fit", "limits", "force")),
+    "course": (commands.course, "a course of SVG path data: read, fitted and drawn", ("course", "tolerance", "drawing"), ("force",)),
 }
 KINDS = {"tolerance": float, "lap": int}
 MEANINGS = {
@@ -106,6 +107,8 @@ MEANINGS = {
     "file": "a lap file",
     "gpx": "the GPX file to be written",
     "picture": "the picture to be written, .svg or .html",
+    "course": "an SVG file, whose first path is taken, or path data as plain text",
+    "drawing": "the picture to be written, .svg",
 }
 
 
@@ -127,6 +130,9 @@ def special(name, parser):
         parser.add_argument("--origin", type=numbers(2, 3), metavar="LAT,LON", help="where (0, 0) is on the earth")
     if name == "lines":
         parser.add_argument("--picture", metavar="PICTURE.svg", help="draw the Lines over the arcs, too")
+    if name == "course":
+        parser.add_argument("--recorded", metavar="RECORDED.laps", help="write the lap file that is read, too")
+        parser.add_argument("--fitted", metavar="FITTED.laps", help="write its fit, too")
     if name == "draw":
         parser.add_argument("--old", metavar="OLD_WORKOUT", help="show the laps that differ from this workout beside it")
 

@@ -4,6 +4,7 @@ import listing
 import older
 from advice import TRIED, advice_text
 from bends import Limits
+from drawing import course_line, drawing_of
 from earth import Plane
 from files import label
 from fitting import check_fit, count, fit_line, fitted_pieces
@@ -12,9 +13,10 @@ from gpx import gpx_text
 from lapfile import BEZIER, commands_of, file_of
 from live import live_text
 from page import page_of
+from pathdata import path_data
 from picture import picture_of, svg_of
 from pieces import lap_pieces
-from proved import fitted_bytes, lines_bytes, replaced_bytes
+from proved import course_bytes, fitted_bytes, lines_bytes, replaced_bytes
 from rows import part_rows, piece_rows
 from strides import read_counts, sheet, strides_text
 from trouble import Refused, Trouble
@@ -194,3 +196,15 @@ def draw(files, words):
     drawn = picture_of(workout, pieces, words.tolerance, limits_of(words), before)
     shape = page_of if words.picture.lower().endswith((".html", ".htm")) else svg_of
     files.save((words.picture, shape(drawn).encode()))
+
+
+def course(files, words):
+    """A course of path data, read and fitted by the proved functions, and drawn; all files that are asked for, together."""
+    name = label(words.course)
+    recorded = course_bytes(path_data(files.read(words.course), name), name)
+    fitted = fitted_bytes(words.tolerance, recorded, name)
+    laps, pieces = commands_of(recorded, name), commands_of(fitted, name)
+    outputs = [(words.recorded, recorded), (words.fitted, fitted), (words.drawing, drawing_of(laps, pieces, words.tolerance).encode())]
+    asked = [(place, data) for place, data in outputs if place]
+    files.save(*asked)
+    return told(course_line(laps, pieces), *(place for place, _ in asked))

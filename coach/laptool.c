@@ -4,9 +4,10 @@
      laptool live TOLERANCE      (standard input: lines 'x y z', or 'tolerance' alone for a new one; standard output: a line for
                                   each end, 'call x y z', the calls counted from 1, with the close behind the last line)
      laptool [--force] lines TOLERANCE FITTED OUT                             (every Arc as Lines)
+     laptool [--force] read TEXT RECORDED                                     (TEXT: SVG path data)
    '-' stands for standard input, once, and for standard output. The output is written beside its place and renamed when it
    is whole; one that is there is replaced only with --force, and one that is also an input never. A refusal ends the tool
-   with its number, 1 to 9 or 11, and writes nothing; what is no refusal ends it with 20. */
+   with its number, 1 to 14, and writes nothing; what is no refusal ends it with 20. */
 #include <errno.h>
 #include <signal.h>
 #include <stdio.h>
@@ -237,6 +238,7 @@ static int live(char **words)
         print_ends(call + 1, ends, refused ? 0 : handed);
     }
     return fflush(stdout) ? fail(strerror(errno), "standard output") : (int)refused;
+}
 
 static void put_u32(unsigned char *at, size_t value)
 {
@@ -331,6 +333,13 @@ static int lines(char **words, int force)
     return at == size ? write_file(words[2], force, drawn.bytes, drawn.size) : fail("has bytes behind its laps", words[1]);
 }
 
+static int read_course(char **words, int force)
+{
+    size_t count, size = read_file(words[0], recorded);
+    uint32_t refused = rt_read_course(recorded, size, out, sizeof out, &count);
+    return refused ? (int)refused : write_file(words[1], force, out, count);
+}
+
 int main(int argc, char **argv)
 {
     int force = argc > 1 && !strcmp(argv[1], "--force");
@@ -347,9 +356,13 @@ int main(int argc, char **argv)
     if (argc == 5 && !strcmp(argv[1], "lines")) {
         return lines(argv + 2, force);
     }
+    if (argc == 4 && !strcmp(argv[1], "read")) {
+        return read_course(argv + 2, force);
+    }
     fprintf(stderr, "laptool [--force] fit TOLERANCE RECORDED FITTED\n"
         "laptool [--force] replace RECORDED FITTED LAP NEW_LAP TOLERANCE OUT\n"
         "laptool live TOLERANCE\n"
-        "laptool [--force] lines TOLERANCE FITTED OUT\n");
+        "laptool [--force] lines TOLERANCE FITTED OUT\n"
+        "laptool [--force] read TEXT RECORDED\n");
     return OTHER;
 }

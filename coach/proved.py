@@ -4,6 +4,7 @@ import tempfile
 from pathlib import Path
 
 from lapfile import fault, bodies_of
+from pathdata import place_of
 from trouble import REFUSALS, NotBuilt, Refused, Trouble
 
 TOOL = Path(__file__).resolve().parent.parent / "target" / "coach" / "laptool"
@@ -19,24 +20,36 @@ def run(words, data):
     return done.stdout, done.returncode
 
 
-def laptool(words, data, recorded, name):
-    """What the tool writes. A refusal is told with its place in the recorded file."""
+def laptool(words, data, place):
+    """What the tool writes. A refusal is told with where it was met and what to say of it."""
     written, refused = run(words, data)
     if refused:
-        where = fault(bodies_of(recorded, name), refused) if refused in (4, 5) else ""
-        raise Refused(refused, name + where if where else "")
+        raise Refused(refused, *place(refused))
     return written
+
+
+def place_in(recorded, name):
+    """The place in a recorded file that a refusal is about."""
+    def place(number):
+        where = fault(bodies_of(recorded, name), number) if number in (4, 5) else ""
+        return (name + where if where else "",)
+    return place
 
 
 def fitted_bytes(tolerance, recorded, name):
     """The fit of a recorded lap file."""
-    return laptool(["fit", tolerance, "-", "-"], recorded, recorded, name)
+    return laptool(["fit", tolerance, "-", "-"], recorded, place_in(recorded, name))
+
+
+def course_bytes(text, name):
+    """The recorded lap file of path data."""
+    return laptool(["read", "-", "-"], text, lambda number: place_of(text, number, name))
 
 
 def lines_bytes(tolerance, fitted, name):
     """The fitted file with every Arc as Lines."""
     try:
-        return laptool(["lines", tolerance, "-", "-"], fitted, fitted, name)
+        return laptool(["lines", tolerance, "-", "-"], fitted, place_in(fitted, name))
     except Refused:
         raise
     except Trouble as trouble:
@@ -49,7 +62,7 @@ def replaced_bytes(recorded, fitted, lap, new_lap, tolerance, name):
         second, third = Path(folder) / "fitted", Path(folder) / "new"
         second.write_bytes(fitted)
         third.write_bytes(new_lap)
-        return laptool(["replace", "-", second, lap, third, tolerance, "-"], recorded, recorded, name)
+        return laptool(["replace", "-", second, lap, third, tolerance, "-"], recorded, place_in(recorded, name))
 
 
 def live_ends(tolerance, calls, name):

@@ -12,6 +12,7 @@ REFUSALS = {
     8: "the fit could have more than 800 commands",
     9: "the output has not enough room",
     11: "an Arc that cannot be drawn by Lines: its normal, its offset or its radii are none of a circle's at this tolerance",
+    14: "the path data breaks its rules",
 }
 
 DONE, WORDS, INPUT, OUTPUT, NOT_BUILT, REFUSED = 0, 2, 3, 4, 5, 10
@@ -23,7 +24,7 @@ STATUSES = """exit status:
   3        an input cannot be read, or is nonsense
   4        an output cannot be written: it is there already, is also an input, has no folder or no room
   5        target/coach/laptool is not built: run coach/build
-  11..21   refused: 10 and the number in document 01's table, or document 02's
+  11..24   refused: 10 and the number of the refusal, in document 01's table or in document 02
   130, 143 interrupted, or ended by a signal; each output is whole, or as it was
   141      the reader of standard output went away"""
 
@@ -43,7 +44,7 @@ class NotBuilt(Trouble):
 
 
 class Refused(Trouble):
-    """A refusal of document 01, by its number, and where it was met."""
+    """A refusal of the papers, by its number, and where it was met."""
 
     def __init__(self, number, where="", hint=""):
         words = f"{where}: {REFUSALS[number]}" if where else REFUSALS[number]

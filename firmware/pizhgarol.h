@@ -20,6 +20,7 @@
    - a fit of a file: 8 + 8 * L + 73 * most bytes, most as for a course; at most 58,920 bytes in all (64 laps, 800 commands);
    - a replacement: the same, with the new lap's most plus the fitted file's commands in all other laps;
    - an Arc drawn by Lines: 4,096 commands.
+   - a course read from path data: 8 + 8 * L + 73 * commands bytes, a lap for each M.
 
    STACK. Measured, not proved: firmware/stack.c fills a thread's stack with a pattern and runs the zigzags that are cut
    most often (2,048 points, or 800 commands, each cut taking one point off): thinning recurses as deep as it cuts, a fit
@@ -32,6 +33,7 @@
      rt_fit_file                     228576 bytes
      rt_replace_lap                  228512 bytes
      rt_flatten_arc                    4992 bytes
+     rt_read_course                     696 bytes
    No input recurses deeper, since each cut takes a point off. What the innermost call takes beside that was measured on
    these zigzags alone, and bytes that a call reserves but never writes do not show: leave a margin of some KiB. */
 #ifndef PIZHGAROL_H
@@ -47,7 +49,7 @@ extern "C" {
 /* Answers. */
 #define PZ_DONE 0u
 #define PZ_NOT_WHOLE 1u     /* a slice is not whole points or commands; a file under 8 bytes */
-#define PZ_TOO_MANY 2u      /* more than 2,048 points, 800 commands, 64 laps or 65,536 file bytes */
+#define PZ_TOO_MANY 2u      /* more than 2,048 points, 800 commands, 64 laps, or 65,536 bytes of a file or a text */
 #define PZ_BAD_FILE 3u      /* wrong mark or table, over 800 commands in a table, lap counts that differ */
 #define PZ_BAD_COMMAND 4u   /* unknown kind, unused number not +0, or in a lap a Move missing or misplaced */
 #define PZ_BAD_NUMBER 5u    /* an end or control not finite or above 1,000,000; an offset or normal not finite */
@@ -57,6 +59,7 @@ extern "C" {
 #define PZ_NO_ROOM 9u       /* the lent output holds less than the most */
 #define PZ_CLOSED 10u       /* a call on a live thinner that was closed */
 #define PZ_NOT_DRAWABLE 11u /* rt_flatten_arc alone, before 8 and 9: see there */
+#define PZ_BAD_TEXT 14u     /* path data that breaks its rules */
 
 /* Kinds of a command. */
 #define PZ_MOVE 0u
@@ -184,6 +187,7 @@ static inline uint32_t pz_live_close(pz_live *s, double end[3], size_t *handed)
 {
     return rt_live_close(s->tolerance, s->points, s->count, &s->closed, end, handed);
 }
+
 /* An Arc drawn by at most so many Lines. */
 #define PZ_MOST_LINES 4096u
 
@@ -198,6 +202,18 @@ uint32_t rt_flatten_arc(
     double x, double y, double z,
     double tolerance,
     uint8_t *kinds, size_t kinds_length, double *nums, size_t nums_length, size_t *count);
+
+/* Reads a course of SVG path data into a lap file; *count is the file's bytes. The text is absolute M, L and C of SVG 1.1, one
+   letter before each command and M first; numbers have an optional minus, 1 to 7 digits and optionally a point with one to
+   three decimals; single spaces stand between all items, and nothing else is read. A number is its thousandths divided by
+   1000, z is 0, each M opens a lap, and no text (0 bytes) is the file of no laps. Refusals, in this order: PZ_TOO_MANY (a text
+   above PZ_MOST_TEXT_BYTES), PZ_BAD_TEXT, PZ_TOO_MANY (above 64 laps or 800 commands), PZ_BAD_NUMBER, PZ_NO_ROOM. What is read
+   is a recorded file: rt_fit_file refuses it by none of 1 to 5. */
+#define PZ_MOST_TEXT_BYTES 65536u
+
+uint32_t rt_read_course(
+    const uint8_t *text, size_t text_bytes,
+    uint8_t *out, size_t out_bytes, size_t *count);
 
 #ifdef __cplusplus
 }

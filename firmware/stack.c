@@ -15,6 +15,8 @@ static uint8_t kinds[PZ_MOST_COMMANDS], out_kinds[PZ_MOST_POINTS];
 static double nums[9 * PZ_MOST_COMMANDS];
 static unsigned char file[PZ_MOST_FILE_BYTES], fitted[PZ_MOST_OUTPUT_BYTES], out[PZ_MOST_OUTPUT_BYTES];
 static size_t file_size, fitted_size, count, ranges;
+static char text[PZ_MOST_TEXT_BYTES];
+static size_t text_size;
 static uint32_t answer;
 
 /* A zigzag that grows, or falls: its farthest point is always the one beside an end, so each cut takes one point off. */
@@ -42,6 +44,15 @@ static void head(void)
     }
     file_size = pz_file_bytes(1, PZ_MOST_COMMANDS);
     rt_fit_file(file, file_size, 0.5, fitted, sizeof fitted, &fitted_size);
+}
+
+/* Path data of a Move and as many curves as a course may have. */
+static void draw_course(void)
+{
+    text_size = (size_t)sprintf(text, "M 0 0");
+    for (int i = 1; i < PZ_MOST_COMMANDS; i++) {
+        text_size += (size_t)sprintf(text + text_size, " C -1.25 2 3 4 5 6.125");
+    }
 }
 
 static void *nothing(void *a) { return a; }
@@ -103,6 +114,12 @@ static void *draw_arc(void *a)
     return a;
 }
 
+static void *read_course(void *a)
+{
+    answer = rt_read_course((const uint8_t *)text, text_size, out, sizeof out, &count);
+    return a;
+}
+
 /* How many bytes of the thread's stack were touched. */
 static size_t depth(void *(*call)(void *))
 {
@@ -133,6 +150,7 @@ static int row(const char *name, void *(*call)(void *))
     for (int falls = 0; falls < 2; falls++) {
         zigzag(falls);
         head();
+        draw_course();
         size_t with = depth(call), without = depth(nothing);
         if (!with || with < without) {
             printf("%s: not measured\n", name);
@@ -154,5 +172,6 @@ int main(void)
     missing |= row("rt_fit_file", fit_file);
     missing |= row("rt_replace_lap", replace);
     missing |= row("rt_flatten_arc", draw_arc);
+    missing |= row("rt_read_course", read_course);
     return missing;
 }

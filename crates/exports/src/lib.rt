@@ -8,6 +8,7 @@ pub mod beziers;
 pub mod circles;
 pub mod counts;
 pub mod courses;
+pub mod drawings;
 pub mod fits;
 pub mod flattens;
 pub mod lap_files;

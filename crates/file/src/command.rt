@@ -74,7 +74,7 @@ fn put_points(out: &mut [u8], at: usize, kind: u8, p: Point3D, q: Point3D, r: Po
 }
 
 // Writes the 73 bytes of a command from `at` on.
-fn write_command(out: &mut [u8], at: usize, c: Command)
+pub fn write_command(out: &mut [u8], at: usize, c: Command)
     requires { ⌜ at + 73 ≤ length (now out) ⌝ }
     ensures { λ _. ⌜ now (out .exit) ≡ sets (now (out .entry)) at (enc c) ⌝ }
 {

@@ -1,5 +1,5 @@
 // The recorded functions by number, as oracle/src/geometry/list.rs numbers them. Each reads its arguments from the front of what
-// is lent and writes to the front of its outputs.
+// is lent and writes to the front of its outputs; a text is lent where a recorded file is.
 use crate::layout::Head;
 use file::words::float_of;
 use geo::types::Answer;
@@ -57,6 +57,7 @@ pub fn call(
         27 => crate::thinner::close(t, numbers, h.first, h.second, out),
         28 => crate::thinner::retune(t, numbers, h.first, h.second, out),
         29 => crate::drawings::flatten_arc(kinds, numbers, t, bytes, out),
+        30 => svg::reading::read_course(recorded, bytes),
         _ => Answer::Refused(DAMAGED),
     }
 }

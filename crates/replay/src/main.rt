@@ -1,7 +1,6 @@
-// Replays recorded calls of every geometric function, of both functions of lap files, of the live thinner and of an Arc's drawing, and compares
-// each with what the given Rust, or a plain model, answered. Standard input has the records, up to 1,000,000 of them, made by
-// `oracle/run geometry list 5230 1`.
-// The program prints how many were compared, and how many differ; a damaged one differs and ends the run.
+// Replays recorded calls of every geometric function, of those of lap files, of the live thinner, of an Arc's drawing and of path data, and
+// compares each with what the given Rust, or a plain model, answered. Standard input has the records, up to 1,000,000 of them, made by
+// `oracle/run geometry list 5390 1`. The program prints how many were compared, and how many differ; a damaged one differs and ends the run.
 mod calls;
 mod circles;
 mod curves;

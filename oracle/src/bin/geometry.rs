@@ -9,6 +9,7 @@ geometry flatten COUNT SEED | geometry bench-flatten
 geometry course COUNT SEED | geometry laps COUNT SEED | geometry bench-laps
 geometry lapfit COUNT SEED | geometry bench-lapfit
 geometry live COUNT SEED | geometry bench-live
+geometry svg COUNT SEED | geometry svg-numbers END | geometry bench-svg
 geometry list COUNT SEED";
 
 /// Whether nothing differed or failed; none where the words ask for nothing.
@@ -16,7 +17,7 @@ geometry list COUNT SEED";
 fn run(words: &[String]) -> Option<bool> {
     use oracle::geometry::{
         arc, bench_bezier, bench_fit, bench_flatten, bench_laps, bench_live, bench_simplify, bezier, course, fit,
-        flatten, frame, grid, grid_fit, grid_simplify, laps, list, listing, live, simplify,
+        flatten, frame, grid, grid_fit, grid_simplify, laps, list, listing, live, simplify, svg,
     };
     use std::io::{BufWriter, stdout};
 
@@ -33,6 +34,9 @@ fn run(words: &[String]) -> Option<bool> {
         ("lapfit", [count, seed]) => Some(frame::run(&listing::FUNCTIONS, *count, *seed)),
         ("live", [count, seed]) => Some(frame::run(&live::FUNCTIONS, *count, *seed)),
         ("bench-live", []) => Some(bench_live::run()),
+        ("svg", [count, seed]) => Some(svg::run(*count, *seed)),
+        ("svg-numbers", [end]) => Some(svg::numbers(*end)),
+        ("bench-svg", []) => Some(svg::bench()),
         ("bench-lapfit", []) => Some(listing::bench()),
         ("recordings", [count, seed]) => Some(frame::run(&[fit::recorded], *count, *seed)),
         ("grid", []) => Some(grid::run()),

@@ -344,4 +344,6 @@ unsafe extern "C" {
         room: usize,
         count: *mut usize,
     ) -> u32;
+
+    pub fn rt_read_course(text: *const u8, length: usize, out: *mut u8, room: usize, count: *mut usize) -> u32;
 }

@@ -9,7 +9,7 @@
 //! | 3 | the end of a range, a live thinner's flag; of `fit_points_with_primitives` the ranges examined |
 //! | 4 | how many numbers are lent |
 //! | 5 | how many kinds |
-//! | 6 | how many bytes of a recorded file |
+//! | 6 | how many bytes of a recorded file, or of a text |
 //! | 7 | how many bytes of a fitted file |
 //! | 8 | how many numbers the output holds |
 //! | 9 | how many bytes, which are kinds or a file's |
@@ -26,10 +26,10 @@
 use super::frame::Compared;
 use super::laps::first_bytes;
 use super::lent::Purpose;
-use super::{list_bezier, list_course, list_fit, list_flatten, list_laps, list_live, list_simplify};
+use super::{list_bezier, list_course, list_fit, list_flatten, list_laps, list_live, list_simplify, list_svg};
 use std::io::{Result, Write};
 
-const NAMES: [&str; 30] = [
+const NAMES: [&str; 31] = [
     "get_midpoint_3d",
     "get_bezier_point_at",
     "split_bezier",
@@ -60,6 +60,7 @@ const NAMES: [&str; 30] = [
     "live_close",
     "live_retune",
     "flatten_arc",
+    "read_course",
 ];
 
 const VALUES: [&str; 4] = ["t", "tolerance_sq", "resolution", "tolerance"];
@@ -144,7 +145,7 @@ pub fn filled(mut records: Vec<Record>, count: usize, mut drawn: impl FnMut(usiz
 type Layer = fn(usize, u64) -> Vec<Record>;
 
 /// The layers, each with its share of a list.
-const LAYERS: [(usize, Layer); 7] = [
+const LAYERS: [(usize, Layer); 8] = [
     (200, list_bezier::records),
     (100, list_simplify::records),
     (100, list_fit::records),
@@ -152,6 +153,7 @@ const LAYERS: [(usize, Layer); 7] = [
     (33, list_laps::records),
     (20, list_live::records),
     (10, list_flatten::records),
+    (16, list_svg::records),
 ];
 
 /// Writes `count` records, layer by layer, each from the seed.

@@ -1,0 +1,4 @@
+pub mod Counting
+pub mod Checking
+pub mod Lapping
+pub mod Coursing

@@ -1,0 +1,3 @@
+// Courses drawn as SVG path data, read into a lap file.
+pub mod reading;
+pub mod tally;

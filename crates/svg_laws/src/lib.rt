@@ -1,0 +1,1 @@
+// What is shown of courses read from SVG path data; no code stands here.

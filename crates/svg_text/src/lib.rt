@@ -1,0 +1,2 @@
+// What a text of SVG path data is made of.
+pub mod letters;
