@@ -1,4 +1,5 @@
-// The first walk over a text: whether it keeps the rules, how many laps and commands it has, and whether its numbers lie in the domain.
+// The first walk over a text: whether it keeps the rules, how many laps and commands it has, and whether its numbers lie in the
+// domain. It serves the reading alone, which has told a text that is too long before.
 use geo::domain::command_in;
 use geo::types::Command;
 use svg_items::strokes::Stroke;

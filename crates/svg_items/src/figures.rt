@@ -1,4 +1,5 @@
-// The numbers of path data: read at a cursor, in whole thousandths, and then divided once.
+// The numbers of path data: read at a cursor, in whole thousandths, and then divided once. What is public serves the commands
+// alone; it refuses nothing, and asks that the cursor lies in the text.
 use svg_text::letters::MINUS;
 use svg_text::letters::MOST_DECIMALS;
 use svg_text::letters::MOST_DIGITS;

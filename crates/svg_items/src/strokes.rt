@@ -1,4 +1,5 @@
-// The commands of path data: read at a cursor, one at a time, as commands of a course.
+// The commands of path data: read at a cursor, one at a time, as commands of a course. What is public serves the crate `svg`; it
+// refuses nothing, and asks that the cursor lies in the text.
 use crate::figures::Figure;
 use crate::figures::figure_at;
 use crate::figures::from_thousandths;
