@@ -7,6 +7,7 @@ use geo::lent::point_at;
 use geo::lent::put_point;
 use geo::types::Answer;
 use geo::types::Point3D;
+use simplify::simplify::Ruler;
 use simplify::simplify::farthest_between;
 ghost use mathlib.Core.Path.{_≡_};
 ghost use mathlib.Core.Bool.{_||_};
@@ -130,7 +131,7 @@ impl Live {
         if self.count < 3 {
             return true;
         }
-        let w = farthest_between(&self.points, 0, self.count - 1);
+        let w = farthest_between(Ruler::Line, &self.points, 0, self.count - 1);
         is_below(w.square, self.tolerance)
     }
 

@@ -1,4 +1,7 @@
-// What the replays of recorded calls share: floats by their patterns, and lists of words as numbers or kinds.
+// What the replays of recorded calls share: floats by their patterns, and lists of words as numbers or kinds; and, in `layout`, how a
+// recorded call of a geometric function is laid out.
+pub mod layout;
+
 use file::words::float_of;
 use file::words::is_nan;
 use file::words::word_at;

@@ -1,8 +1,8 @@
 // The recorded functions by number, as oracle/src/geometry/list.rs numbers them. Each reads its arguments from the front of what
 // is lent and writes to the front of its outputs; a text is lent where a recorded file is.
-use crate::layout::Head;
 use file::words::float_of;
 use geo::types::Answer;
+use records::layout::Head;
 
 // What no record expects.
 pub const DAMAGED: u32 = 1000;

@@ -10,8 +10,8 @@ use Rattle.floats.specs.Limits.{untouched}
 use Rattle.geo.specs.declared.types.Answer.{Answer}
 use Rattle.geo.specs.declared.types.Answer.the-variants.{Written, Refused}
 use Rattle.file.specs.Bytes.{wordAt}
 use Rattle.records.specs.Words.{numbersWritten, bytesWritten, numbersLeft, bytesLeft}
-use Rattle.replay.specs.declared.layout.Head.{Head}
+use Rattle.records.specs.declared.layout.Head.{Head}
 
 -- 14 words of eight bytes are the head
 abbrev pub IsHead : List ℕ → Head → Type 0

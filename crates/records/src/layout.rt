@@ -1,16 +1,16 @@
 // A recorded call: a head of 14 words, what is lent to the call, and what it has to write. oracle/src/geometry/list.rs says
 // how it is laid out, and makes it.
+use crate::are_bytes_left;
+use crate::are_bytes_written;
+use crate::are_numbers_left;
+use crate::are_numbers_written;
 use file::words::word_at;
 use geo::types::Answer;
-use records::are_bytes_left;
-use records::are_bytes_written;
-use records::are_numbers_left;
-use records::are_numbers_written;
 ghost use mathlib.Core.Path.{_≡_};
 ghost use mathlib.Core.Bool.{true, false};
 ghost use Prim.Native.Nat.{_≤_};
 ghost use lib.ListN.{length};
-ghost use Rattle.replay.specs.Record.{IsHead, Whole, lentSize, bodyBytes, isAnswered, isOutput};
+ghost use Rattle.records.specs.Record.{IsHead, Whole, lentSize, bodyBytes, isAnswered, isOutput};
 
 // The bytes of a head.
 pub const HEAD_SIZE: usize = 112;

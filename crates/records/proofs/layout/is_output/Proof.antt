@@ -1,9 +1,9 @@
 -- `layout::is_output` meets its contract: a conjunction that is left at the first part that fails. Assumes nothing.
 use borrow.Author.Needs.{needs}
 use borrow.Author.Tests.{not-true, not-false}
-use Rattle.replay.specs.Record.{isOutput}
-use Rattle.replay.proofs.layout.is_output.Statement.{statement}
-use Rattle.replay.proofs.layout.is_output.Tie as tie
+use Rattle.records.specs.Record.{isOutput}
+use Rattle.records.proofs.layout.is_output.Statement.{statement}
+use Rattle.records.proofs.layout.is_output.Tie as tie
 
 lent-size-requires : tie.Need-lent-size-requires
 lent-size-requires c κs = search needs

@@ -2,8 +2,8 @@
 use mathlib.Core.Path.{sym}
 use native.Mathlib.Omega.{arith}
 use Rattle.floats.proofs.Order.{clash}
-use Rattle.replay.proofs.layout.is_whole.Statement.{statement}
-use Rattle.replay.proofs.layout.is_whole.Tie as tie
+use Rattle.records.proofs.layout.is_whole.Statement.{statement}
+use Rattle.records.proofs.layout.is_whole.Tie as tie
 
 returns : tie.Need-returns
 returns c = (clash, λ _ w. omega (arith, w .numbers))

@@ -1,7 +1,7 @@
 -- `layout::head_of` meets its contract: each field is the word that was read for it. Assumes nothing.
 use borrow.Author.Needs.{needs}
-use Rattle.replay.proofs.layout.head_of.Statement.{statement}
-use Rattle.replay.proofs.layout.head_of.Tie as tie
+use Rattle.records.proofs.layout.head_of.Statement.{statement}
+use Rattle.records.proofs.layout.head_of.Tie as tie
 
 word-at-requires : tie.Need-word-at-requires
 word-at-requires c κs = search needs

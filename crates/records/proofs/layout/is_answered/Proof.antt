@@ -1,9 +1,9 @@
 -- `layout::is_answered` meets its contract: by the answer's case. Assumes nothing.
 use borrow.Author.Tests.{eq-eqb, ne-eqb}
 use borrow.Author.Needs.{needs}
-use Rattle.replay.specs.Record.{isAnswered}
-use Rattle.replay.proofs.layout.is_answered.Statement.{statement}
-use Rattle.replay.proofs.layout.is_answered.Tie as tie
+use Rattle.records.specs.Record.{isAnswered}
+use Rattle.records.proofs.layout.is_answered.Statement.{statement}
+use Rattle.records.proofs.layout.is_answered.Tie as tie
 
 enum-known-a : tie.Need-enum-known-a
 enum-known-a c = search needs
