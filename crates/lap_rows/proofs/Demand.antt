@@ -7,19 +7,21 @@ use mathlib.Core.List.{List, [], _∷_, _++_, map}
 use native.Mathlib.Omega.{arith}
 use lib.ListN.{length, getD}
 use lib.Ieee.{Float}
+use Rattle.floats.specs.Ops.{_≺_, +0}
 use Rattle.floats.proofs.Order.{lt-or-ge}
 use Rattle.geo.specs.declared.types.Command.{Command}
 use Rattle.geo.specs.Domain.{tolerance}
-use Rattle.geo.specs.Outcome.{refusal}
-use Rattle.geo.specs.Lent.{kindOf}
+use Rattle.geo.specs.Outcome.{refusal, Outcome, refused, gives, unless}
+use Rattle.geo.specs.Lent.{kindOf, flat}
 use Rattle.geo.proofs.Rows.{refusal-front, unless-gives}
 use Rattle.geo.proofs.Tolerance.{tolerance-positive}
 use Rattle.file.specs.Command.{decoded, enc}
 use Rattle.fitting.specs.Pieces.{lapsRule}
 use Rattle.course.specs.Course.{courseFit}
-use Rattle.listing.specs.Rows.{chainRows, partRows, rowsOf, courseRows}
-use Rattle.listing.proofs.Laws.{course-kinds, course-steps}
-use Rattle.laps.specs.File.{lapCount, lapsOf}
+use Rattle.listing.specs.Rows.{chainRows, partRows, rowsOf, courseRows, stepsIn, sumOf}
+use Rattle.listing.proofs.Columns.{steps-append}
+use Rattle.listing.proofs.Laws.{course-kinds, course-steps, sum-append}
+use Rattle.laps.specs.File.{Lap, lapCount, lapsOf}
 use Rattle.laps.specs.Rows.{fileSize, fileRows}
 use Rattle.laps.proofs.Rows.{FilePassed, file-passed, size-8, size-0}
 use Rattle.laps.proofs.Walks.{not-big}
@@ -28,10 +30,11 @@ use Rattle.lap_fit.proofs.Accepted.{accepted}
 use Rattle.lap_fit.proofs.Rows.{fit-6, fit-sizes}
 use Rattle.lap_replace.specs.Demand.{lapAt}
 use Rattle.lap_replace.proofs.Demand.{laps-are-fitted}
-use Rattle.lap_rows.specs.Listing.{digitsBy, decimal, lapRows, mostText, textRows, listFile}
-use Rattle.lap_rows.specs.Demand.{spelled, DigitsSpell, NoZeroInFront, RefusedAlike, EachIsListed, kindByte, KindsOfTheFit, RowsOfTheParts, RowsOfAChain, StepsOfTheChains}
+use Rattle.lap_rows.specs.Listing.{digitsBy, decimal, lapRows, lapsSteps, listText, mostText, textRows, listFile}
+use Rattle.lap_rows.specs.Demand.{spelled, DigitsSpell, NoZeroInFront, RefusedAlike, EachIsListed, kindByte, KindsOfTheFit, RowsOfTheParts, RowsOfAChain, StepsOfTheChains, allRows, SumOfTheRows}
 use Rattle.lap_rows.proofs.Decimal.{last-digit, next-digit}
-use Rattle.lap_rows.proofs.Rows.{text-6, text-8, text-0}
+use Rattle.lap_rows.proofs.Rows.{TextPassed, text-passed, text-6, text-8, text-0}
+use Rattle.lap_rows.proofs.Counts.{laps-few, rows-steps}
 
 -- ---- the text
 spelled-append : (xs : List ℕ) (before d : ℕ) → spelled before (xs ++ (d ∷ [])) ≡ 10 * spelled before xs + (d - 48)
@@ -140,7 +143,35 @@ pub rows-of-a-chain : RowsOfAChain
 unfolding partRows chainRows
 rows-of-a-chain tol points = refl
 
--- The steps that they give are, together, the steps of the lap's thinned chains.
+-- The steps that they give are, together, those of the lap's chains.
 pub steps-of-the-chains : StepsOfTheChains
 unfolding lapRows
 steps-of-the-chains s f tol room e k a b = course-steps (lapsRule tol) (tolerance-positive tol (accepted s tol room f e .passed .within)) (map decoded (lapAt s k))
+
+-- ---- the sum under the listing
+-- a file that is listed passes the rows, and the text is its listing
+given-text : (k : ℕ) (xs text : List ℕ) → unless k xs ≡ gives text → (0 ≡ k) × (xs ≡ text)
+unfolding unless
+given-text zero xs text e = (refl, cc)
+given-text (suc k) xs text e = let z : _≡_ {A = ℕ} 0 1 = cc in absurd (omega arith)
+
+pub listed-passes : (s text : List ℕ) (tol : Float) (room : ℕ) → listFile s tol room ≡ gives text → TextPassed s tol room × (listText tol (lapsOf s) ≡ text)
+unfolding listFile
+listed-passes s text tol room e =
+    let g = given-text (refusal (textRows s tol room)) (listText tol (lapsOf s)) text e in (text-passed s tol room (g .0), g .1)
+
+laps-sum : (tol : Float) → (+0 ≺ tol) ≡ true → (ls : List Lap) → lapsSteps tol ls ≡ sumOf (stepsIn (allRows tol ls))
+unfolding lapsSteps allRows flat
+laps-sum tol pos [] = unfold sumOf stepsIn in refl
+laps-sum tol pos (l ∷ ls) =
+    let a = rows-steps tol pos l in
+    let b = laps-sum tol pos ls in
+    let e = ap sumOf (steps-append (lapRows tol l) (allRows tol ls)) in
+    let d = sum-append (stepsIn (lapRows tol l)) (stepsIn (allRows tol ls)) in omega arith
+
+-- The sum, which is worked out over the thinned chains, is that of the steps in all rows, and is at most 800.
+pub sum-of-the-rows : SumOfTheRows
+sum-of-the-rows s text tol room e =
+    let p = listed-passes s text tol room e .0 in
+    let f = laps-few tol (lapsOf s) in
+    let m = p .few in (laps-sum tol (tolerance-positive tol (p .within)) (lapsOf s), omega arith)

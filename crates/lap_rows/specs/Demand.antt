@@ -11,12 +11,12 @@ use Rattle.fitting.specs.Pieces.{lapsRule}
 use Rattle.course.specs.Parts.{chain}
 use Rattle.course.specs.Course.{courseParts}
 use Rattle.course.specs.Demand.{chainPieces}
-use Rattle.listing.specs.Rows.{pieceRow, partRows, kindsOf, stepsIn, sumOf, chainsSteps}
-use Rattle.laps.specs.File.{lapCount, lapsOf}
+use Rattle.listing.specs.Rows.{ListRow, pieceRow, partRows, kindsOf, stepsIn, sumOf, chainsSteps}
+use Rattle.laps.specs.File.{Lap, lapCount, lapsOf}
 use Rattle.laps.specs.Rows.{fileSize}
 use Rattle.lap_fit.specs.Fit.{fileFitRows, fitFile}
 use Rattle.lap_replace.specs.Demand.{lapAt}
-use Rattle.lap_rows.specs.Listing.{decimal, lapRows, listText, mostText, textRows, listFile}
+use Rattle.lap_rows.specs.Listing.{decimal, lapRows, lapsSteps, listText, mostText, textRows, listFile}
 
 -- ---- the text
 -- the number that decimal digits spell, `before` being that of the digits in front of them
@@ -61,8 +61,19 @@ RowsOfTheParts = (s : List ℕ) (tol : Float) (k : ℕ) → lapRows tol (lapAt s
 abbrev pub RowsOfAChain : Type 0
 RowsOfAChain = (tol : Float) (points : List Float) → partRows (lapsRule tol) (chain points) ≡ map pieceRow (chainPieces (lapsRule tol) points)
 
--- The steps that they give are, together, the steps of the lap's thinned chains.
+-- The steps that they give are, together, those of the lap's chains: the points that are kept of each, less one.
 abbrev pub StepsOfTheChains : Type 0
 StepsOfTheChains =
     (s f : List ℕ) (tol : Float) (room : ℕ) → fitFile s tol room ≡ gives f
     → (k : ℕ) → 1 ≤ k → k ≤ lapCount s → sumOf (stepsIn (lapRows tol (lapAt s k))) ≡ chainsSteps (lapsRule tol) (courseParts tol (map decoded (lapAt s k)))
+
+-- ---- the sum under the listing (document 02, §8)
+-- the rows of laps, those of one behind those of another
+unfoldable pub allRows : Float → List Lap → List ListRow
+allRows tol ls = flat (lapRows tol) ls
+
+-- The sum, which is worked out over the thinned chains, is that of the steps in all rows, and is at most 800.
+abbrev pub SumOfTheRows : Type 0
+SumOfTheRows =
+    (s text : List ℕ) (tol : Float) (room : ℕ) → listFile s tol room ≡ gives text
+    → (lapsSteps tol (lapsOf s) ≡ sumOf (stepsIn (allRows tol (lapsOf s)))) × (lapsSteps tol (lapsOf s) ≤ 800)

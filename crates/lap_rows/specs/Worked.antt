@@ -21,3 +21,7 @@ angle-file = encode (map enc angle ∷ [])
 -- its listing at 0.5, as document 01 prints it, with the sum under it, to an output with room for three rows: 25 bytes and nine a row
 abbrev pub RightAngle : Type 0
 RightAngle = listFile angle-file (fraction 1 2) 52 ≡ gives (ascii "lap,kind,steps\n1,M,0\n1,L,1\n1,L,1\ntotal,2\n")
+
+-- a file of no laps
+abbrev pub NoLaps : Type 0
+NoLaps = listFile (encode []) (fraction 1 2) 25 ≡ gives (ascii "lap,kind,steps\ntotal,0\n")

@@ -166,7 +166,7 @@ fn put_lap(
     put_rows(row_kinds, row_steps, rows, lap, out, to)
 }
 
-// Writes the last line from `at` on, and answers where it ends.
+// Writes the last line, the sum of the steps, from `at` on, and answers where it ends.
 fn put_total(out: &mut [u8], at: usize, total: usize) -> usize
     requires { ⌜ (total < 1000) × (at + 10 ≤ length (now out)) ⌝ }
     ensures { λ r. ⌜ TextPut (totalText total) (now (out .entry)) (now (out .exit)) at r ⌝ }
@@ -177,8 +177,8 @@ fn put_total(out: &mut [u8], at: usize, total: usize) -> usize
     b + 1
 }
 
-// Writes the listing's text, its first line first, and answers how many bytes it has. The arrays stand here and not in
-// `put_lap`, which would fill them for each lap.
+// Writes the listing's text, which is its first line, the rows of each lap and the sum of their steps, and answers how many
+// bytes it has. The arrays stand here and not in `put_lap`, which would fill them for each lap.
 fn list_laps(s: &[u8], tolerance: f64, out: &mut [u8]) -> usize
     requires { ⌜ ((+0 ≺ tolerance) ≡ true) × (8 ≤ length (now s)) × (tableOk (now s) ≡ true) × (lapCount (now s) ≤ 64) × (lapsMost tolerance (lapsOf (now s)) ≤ mostCommands) × (mostText (lapsMost tolerance (lapsOf (now s))) ≤ length (now out)) ⌝ }
     ensures { λ r. ⌜ (r ≡ length (listText tolerance (lapsOf (now (s .entry))))) × (now (out .exit) ≡ listText tolerance (lapsOf (now (s .entry))) ++ drop (length (listText tolerance (lapsOf (now (s .entry))))) (now (out .entry))) ⌝ }
@@ -234,6 +234,7 @@ fn check_text(s: &[u8], tolerance: f64, room: usize) -> u32
     if Walk::MOST < most {
         return 8;
     }
+    // the first line, nine bytes for each row, the last line
     if room < 15 + 9 * most + 10 {
         return 9;
     }

@@ -138,7 +138,7 @@ unfolding courseRows courseParts
 course-letters rule cs = parts-lettered rule origin (triple origin) cs
 
 -- ---- steps
-sum-append : (xs ys : List ℕ) → sumOf (xs ++ ys) ≡ sumOf xs + sumOf ys
+pub sum-append : (xs ys : List ℕ) → sumOf (xs ++ ys) ≡ sumOf xs + sumOf ys
 unfolding sumOf
 sum-append [] ys = omega arith
 sum-append (x ∷ xs) ys = let e = sum-append xs ys in omega arith
