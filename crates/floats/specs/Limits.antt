@@ -1,5 +1,5 @@
 -- Each limit and constant of the papers and of the Rust, by its pattern, as the code has it; and one table that states each as a fraction.
--- No other definition holds a pattern. Definitions only; proofs/Limits.antt shows that the table holds.
+-- Beside these only Ops.antt holds patterns, of +0, a half, one, two and three, which are in the table too. Definitions only; proofs/Limits.antt shows that the table holds.
 use Prim.Native.Nat.{ℕ, _^_}
 use mathlib.Core.Path.{_≡_}
 use mathlib.Core.Bool.{false}

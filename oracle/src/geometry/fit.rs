@@ -104,8 +104,8 @@ pub fn judged(mut call: Compared, stands: Stands, rooms: Rooms) -> Judged {
         left[1] = left[1].written(&[count]);
         left[2] = Lent::byte_room(rooms.kinds, &kinds);
         // the ranges are twice the pieces less one, whatever the pieces are
-        if let Some(ranges) = left.get_mut(4) {
-            *ranges = ranges.written(&[(2 * count).saturating_sub(1)]);
+        if call.function == "fit_points_with_primitives" {
+            left[4] = left[4].written(&[(2 * count).saturating_sub(1)]);
         }
     }
     Judged { call, stands: Some(stands), open }
