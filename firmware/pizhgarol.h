@@ -30,8 +30,8 @@
      rt_simplify_data                117200 bytes
      rt_fit_points_with_primitives     4480 bytes
      rt_fit_arcs                     111648 bytes
-     rt_fit_file                     228576 bytes
-     rt_replace_lap                  228512 bytes
+     rt_fit_file                     228496 bytes
+     rt_replace_lap                  228432 bytes
      rt_flatten_arc                    4992 bytes
      rt_read_course                     696 bytes
    No input recurses deeper, since each cut takes a point off. What the innermost call takes beside that was measured on

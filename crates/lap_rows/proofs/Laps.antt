@@ -3,6 +3,7 @@ use Prim.Native.Nat.{ℕ, _+_, _-_, _*_, _≤_, _<_}
 use mathlib.Core.Path.{_≡_, refl, sym, ap, _∙_}
 use mathlib.Core.Bool.{true}
 use mathlib.Core.List.{List, _++_}
+use native.Mathlib.Nat.{zero-add}
 use native.Mathlib.Omega.{arith}
 use lib.ListN.{length, drop}
 use lib.Seq.{sets, length-sets}
@@ -16,28 +17,29 @@ use Rattle.laps.proofs.Here.{Here, Step, step, start-at, all-laps}
 use Rattle.laps.proofs.Turns.{laps-cons, laps-nil}
 use Rattle.lap_fit.specs.Fit.{mostLap, lapsMost}
 use Rattle.lap_fit.proofs.Lap.{mosts-step}
-use Rattle.lap_rows.specs.Listing.{ascii, header, lapText, lapsText, listText, mostText}
+use Rattle.lap_rows.specs.Listing.{ascii, header, lapText, lapsText, lapSteps, lapsSteps, totalText, listText, mostText}
 use Rattle.lap_rows.specs.Left.{TextPut}
-use Rattle.lap_rows.proofs.Text.{put-both, Writing, write-start, write-step, write-done}
-use Rattle.lap_rows.proofs.Counts.{text-few}
+use Rattle.lap_rows.proofs.Text.{put-both, put-same, total-length, Writing, write-start, write-step, write-done}
+use Rattle.lap_rows.proofs.Counts.{text-few, laps-few}
 
--- where the loop stands before lap j + 1, which is at `at`: what is left, written from `to` on, gives the whole, and has room
-pub record Listing (tol : Float) (s : List ℕ) (l : ℕ) (out₀ out : List ℕ) (at to j : ℕ) : Type 0 where
+-- where the loop stands before lap j + 1, which is at `at`: what is left, written from `to` on, gives the whole, and has room with the last line; its steps, added to `total`, are all
+pub record Listing (tol : Float) (s : List ℕ) (l : ℕ) (out₀ out : List ℕ) (at to total j : ℕ) : Type 0 where
   pub inside : j ≤ l
   pub here : Here s j at l
   pub few : lapsMost tol (lapsAt s j at (l - j)) ≤ 800
-  pub room : to + 9 * lapsMost tol (lapsAt s j at (l - j)) ≤ length out₀
+  pub room : to + 9 * lapsMost tol (lapsAt s j at (l - j)) + 10 ≤ length out₀
+  pub adding : total + lapsSteps tol (lapsAt s j at (l - j)) ≡ lapsSteps tol (lapsOf s)
   pub going : Writing out₀ out 15 to (lapsText tol (j + 1) (lapsAt s j at (l - j))) (lapsText tol 1 (lapsOf s))
 
 -- what a turn has: n commands from `at` on, and room for their text
-pub record Turn (tol : Float) (s : List ℕ) (l : ℕ) (out : List ℕ) (at to j n : ℕ) : Type 0 where
+pub record Turn (tol : Float) (s : List ℕ) (l : ℕ) (out : List ℕ) (at to total j n : ℕ) : Type 0 where
   pub lap : Step s j at l n
   pub few : mostLap tol (commandsAt s at n) ≤ 800
   pub room : to + 9 * mostLap tol (commandsAt s at n) ≤ length out
 
 module _ (tol : Float) (s : List ℕ) (l : ℕ) (out₀ : List ℕ) where
   pub laps-start : (to : ℕ) → to ≡ 15 → l ≡ lapCount s → tableOk s ≡ true → lapsMost tol (lapsOf s) ≤ 800 → mostText (lapsMost tol (lapsOf s)) ≤ length out₀
-      → Listing tol s l out₀ out₀ (8 + 8 * l) to 0
+      → Listing tol s l out₀ out₀ (8 + 8 * l) to 0 0
   laps-start to f e t h k =
       let a = all-laps s l e in
       record {
@@ -45,11 +47,12 @@ module _ (tol : Float) (s : List ℕ) (l : ℕ) (out₀ : List ℕ) where
         here = start-at s l e t;
         few = rw a h;
         room = rw (f, a) k;
+        adding = rw a (zero-add (lapsSteps tol (lapsOf s)));
         going = rw f (write-start out₀ 15 _ _ (ap (lapsText tol 1) a));
       }
 
-  module _ (out : List ℕ) (at to j n : ℕ) (w : Listing tol s l out₀ out at to j) (h : j < l) (e : n ≡ countAt s j) where
-    pub turn : Turn tol s l out at to j n
+  module _ (out : List ℕ) (at to total j n : ℕ) (w : Listing tol s l out₀ out at to total j) (h : j < l) (e : n ≡ countAt s j) where
+    pub turn : Turn tol s l out at to total j n
     turn =
         let m = mosts-step tol s j at l n h e in
         let f = w .few in
@@ -61,40 +64,71 @@ module _ (tol : Float) (s : List ℕ) (l : ℕ) (out₀ : List ℕ) where
     unfolding lapsText
     text-cons = ap (lapsText tol (j + 1)) (laps-cons s j at l n h e)
 
-    pub laps-step : (+0 ≺ tol) ≡ true → l ≤ 64 → (out′ : List ℕ) (to′ : ℕ) → TextPut (lapText tol (j + 1) (commandsAt s at n)) out out′ to to′
-        → Listing tol s l out₀ out′ (at + 73 * n) to′ (j + 1)
-    laps-step pos b out′ to′ p =
+    steps-cons : lapsSteps tol (lapsAt s j at (l - j)) ≡ lapSteps tol (commandsAt s at n) + lapsSteps tol (lapsAt s (j + 1) (at + 73 * n) (l - (j + 1)))
+    unfolding lapsSteps
+    steps-cons = ap (lapsSteps tol) (laps-cons s j at l n h e)
+
+    pub laps-step : (+0 ≺ tol) ≡ true → l ≤ 64 → (out′ : List ℕ) (to′ steps : ℕ) → TextPut (lapText tol (j + 1) (commandsAt s at n)) out out′ to to′
+        → steps ≡ lapSteps tol (commandsAt s at n) → Listing tol s l out₀ out′ (at + 73 * n) to′ (total + steps) (j + 1)
+    laps-step pos b out′ to′ steps p d =
         let m = mosts-step tol s j at l n h e in
         let f = w .few in
         let r = w .room in
         let q = p .ends in
         let t = turn in
         let x = text-few tol pos (commandsAt s at n) (j + 1) (omega arith) (t .few) in
+        let a = w .adding in
+        let c = steps-cons in
         record {
           inside = omega arith;
           here = t .lap .then;
           few = omega arith;
           room = omega arith;
+          adding = omega arith;
           going = write-step out₀ out out′ 15 to to′ _ _ _ _ text-cons p (w .going);
         }
 
-  -- all laps are written, behind the first line
+    -- what is added up stays small
+    pub turn-sum : lapsMost tol (lapsOf s) ≤ 800 → (steps : ℕ) → steps ≡ lapSteps tol (commandsAt s at n) → total + steps ≤ 800
+    turn-sum k steps d =
+        let a = w .adding in
+        let c = steps-cons in
+        let f = laps-few tol (lapsOf s) in omega arith
+
+  -- all laps are written, behind the first line, and all steps added up
   header-length : length header ≡ 15
   unfolding ascii listFrom
   header-length = refl
 
-  laps-written : (out : List ℕ) (at to j : ℕ) → Listing tol s l out₀ out at to j → l ≤ j → TextPut (lapsText tol 1 (lapsOf s)) out₀ out 15 to
+  laps-written : (out : List ℕ) (at to total j : ℕ) → Listing tol s l out₀ out at to total j → l ≤ j → TextPut (lapsText tol 1 (lapsOf s)) out₀ out 15 to
   unfolding lapsText
-  laps-written out at to j w h = write-done out₀ out 15 to _ _ (ap (lapsText tol (j + 1)) (laps-nil s j at l h)) (w .going)
+  laps-written out at to total j w h = write-done out₀ out 15 to _ _ (ap (lapsText tol (j + 1)) (laps-nil s j at l h)) (w .going)
 
-  pub laps-done : (first : List ℕ) → 15 ≤ length first → out₀ ≡ header ++ drop 15 first → (out : List ℕ) (at to j : ℕ) → Listing tol s l out₀ out at to j → l ≤ j
-      → (to ≡ length (listText tol (lapsOf s))) × (out ≡ listText tol (lapsOf s) ++ drop (length (listText tol (lapsOf s))) first)
+  pub laps-added : (out : List ℕ) (at to total j : ℕ) → Listing tol s l out₀ out at to total j → l ≤ j → total ≡ lapsSteps tol (lapsOf s)
+  unfolding lapsSteps
+  laps-added out at to total j w h = let z = ap (lapsSteps tol) (laps-nil s j at l h) in let a = w .adding in omega arith
+
+  -- there is room for the last line,
+  pub total-room : (out : List ℕ) (at to total j : ℕ) → Listing tol s l out₀ out at to total j → to + 10 ≤ length out
+  total-room out at to total j w = let r = w .room in let z = w .going .same in omega arith
+
+  -- which is written behind them
+  pub laps-done : (first : List ℕ) → 15 ≤ length first → out₀ ≡ header ++ drop 15 first → (out : List ℕ) (at to total j : ℕ) → Listing tol s l out₀ out at to total j → l ≤ j
+      → lapsMost tol (lapsOf s) ≤ 800 → (out′ : List ℕ) (end : ℕ) → TextPut (totalText total) out out′ to end
+      → (end ≡ length (listText tol (lapsOf s))) × (out′ ≡ listText tol (lapsOf s) ++ drop (length (listText tol (lapsOf s))) first)
   unfolding listText
-  laps-done first k o out at to j w h =
+  laps-done first k o out at to total j w h m out′ end t =
       let d = header-length in
       let front : out₀ ≡ sets first 0 header = o ∙ sym (sets-front header first (omega arith) ∙ ap (λ (n : ℕ). header ++ drop n first) d) in
-      let p = put-both header (lapsText tol 1 (lapsOf s)) first out₀ out 0 15 to (record { ends = omega arith; bytes = front }) (laps-written out at to j w h) in
+      let rows = put-both header (lapsText tol 1 (lapsOf s)) first out₀ out 0 15 to (record { ends = omega arith; bytes = front }) (laps-written out at to total j w h) in
+      let sum = laps-added out at to total j w h in
+      let last = put-same (totalText total) (totalText (lapsSteps tol (lapsOf s))) out out′ to end (ap totalText sum) t in
+      let p = put-both (header ++ lapsText tol 1 (lapsOf s)) (totalText (lapsSteps tol (lapsOf s))) first out out′ 0 to end rows last in
       let z = ap length front ∙ length-sets first 0 header in
-      let r = w .room in
+      let r = total-room out at to total j w in
+      let y = w .going .same in
       let q = p .ends in
-      (omega arith, p .bytes ∙ sets-front (header ++ lapsText tol 1 (lapsOf s)) first (omega arith))
+      let a = last .ends in
+      let f = laps-few tol (lapsOf s) in
+      let b = total-length (lapsSteps tol (lapsOf s)) (omega arith) in
+      (omega arith, p .bytes ∙ sets-front (header ++ lapsText tol 1 (lapsOf s) ++ totalText (lapsSteps tol (lapsOf s))) first (omega arith))

@@ -2,23 +2,29 @@
 use Prim.Native.Nat.{ℕ, zero, suc, _+_, _-_, _*_, _≤_, _<_}
 use mathlib.Core.Path.{_≡_, refl, ap, _∙_, subst}
 use mathlib.Core.List.{List, [], _∷_, _++_}
+use native.Mathlib.Nat.{zero-add}
 use native.Mathlib.Omega.{arith}
 use lib.ListN.{length, getD, drop}
 use Rattle.geo.specs.Lent.{flat}
 use Rattle.geo.specs.Walk.{listFrom}
 use Rattle.geo.proofs.Stores.{sets-front}
 use Rattle.geo.proofs.Walk.{list-step, list-done}
-use Rattle.listing.specs.Rows.{ListRow, kindsOf, stepsIn}
+use Rattle.listing.specs.Rows.{ListRow, kindsOf, stepsIn, sumOf}
 use Rattle.listing.specs.Placed.{RowsPlaced}
 use Rattle.listing.proofs.Columns.{kinds-length, steps-length}
 use Rattle.lap_rows.specs.Listing.{rowText, rowsText}
-use Rattle.lap_rows.specs.Left.{TextPut, rowAt, rowsFrom, Short}
+use Rattle.lap_rows.specs.Left.{TextPut, rowAt, rowsFrom}
 use Rattle.lap_rows.proofs.Text.{line-length, Writing, write-start, write-step, write-done}
 
--- where the loop stands before row i: what is left, written from here, gives the whole, and has room
-pub record Lines (ks ss : List ℕ) (n lap : ℕ) (out₀ out : List ℕ) (at to i : ℕ) : Type 0 where
+-- the steps of the rows from i on, together
+abbrev pub sumFrom : List ℕ → List ℕ → ℕ → ℕ → ℕ
+sumFrom ks ss n i = sumOf (stepsIn (rowsFrom ks ss n i))
+
+-- where the loop stands before row i: what is left, written from here, gives the whole, and has room; its steps, added to `sum`, are all
+pub record Lines (ks ss : List ℕ) (n lap : ℕ) (out₀ out : List ℕ) (at to sum i : ℕ) : Type 0 where
   pub inside : i ≤ n
-  pub short : Short (rowsFrom ks ss (n - i) i)
+  pub few : sumFrom ks ss n 0 < 1000
+  pub adding : sum + sumFrom ks ss (n - i) i ≡ sumFrom ks ss n 0
   pub room : to + 9 * (n - i) ≤ length out₀
   pub going : Writing out₀ out at to (rowsText lap (rowsFrom ks ss (n - i) i)) (rowsText lap (rowsFrom ks ss n 0))
 
@@ -26,6 +32,14 @@ module _ (ks ss : List ℕ) (n lap : ℕ) (out₀ : List ℕ) (at : ℕ) where
   rows-step : (i : ℕ) → i < n → rowsFrom ks ss (n - i) i ≡ rowAt ks ss i ∷ rowsFrom ks ss (n - (i + 1)) (i + 1)
   unfolding rowsFrom
   rows-step i h = list-step (rowAt ks ss) n i h
+
+  steps-step : (i : ℕ) → i < n → sumFrom ks ss (n - i) i ≡ getD ss i 0 + sumFrom ks ss (n - (i + 1)) (i + 1)
+  unfolding sumOf stepsIn
+  steps-step i h = ap (λ (rs : List ListRow). sumOf (stepsIn rs)) (rows-step i h)
+
+  steps-done : (i : ℕ) → n ≤ i → sumFrom ks ss (n - i) i ≡ 0
+  unfolding sumOf stepsIn rowsFrom
+  steps-done i h = ap (λ (rs : List ListRow). sumOf (stepsIn rs)) (list-done (rowAt ks ss) n i h)
 
   text-step : (i : ℕ) → i < n → rowsText lap (rowsFrom ks ss (n - i) i) ≡ rowText lap (rowAt ks ss i) ++ rowsText lap (rowsFrom ks ss (n - (i + 1)) (i + 1))
   unfolding rowsText flat
@@ -35,38 +49,49 @@ module _ (ks ss : List ℕ) (n lap : ℕ) (out₀ : List ℕ) (at : ℕ) where
   unfolding rowsText flat rowsFrom
   text-done i h = ap (λ (rs : List ListRow). flat (rowText lap) rs) (list-done (rowAt ks ss) n i h)
 
-  pub lines-start : Short (rowsFrom ks ss n 0) → at + 9 * n ≤ length out₀ → Lines ks ss n lap out₀ out₀ at at 0
+  pub lines-start : sumFrom ks ss n 0 < 1000 → at + 9 * n ≤ length out₀ → Lines ks ss n lap out₀ out₀ at at 0 0
   lines-start w h =
       let e : n - 0 ≡ n = omega arith in
       record {
         inside = omega arith;
-        short = rw e w;
+        few = w;
+        adding = rw e (zero-add (sumFrom ks ss n 0));
         room = rw e h;
         going = write-start out₀ at _ _ (rw e);
       }
 
   -- row i is short, and has room
-  pub line-short : (out : List ℕ) (to i : ℕ) → Lines ks ss n lap out₀ out at to i → i < n → getD ss i 0 < 1000
-  line-short out to i w h = subst Short (rows-step i h) (w .short) .0
+  pub line-short : (out : List ℕ) (to sum i : ℕ) → Lines ks ss n lap out₀ out at to sum i → i < n → sum + getD ss i 0 < 1000
+  line-short out to sum i w h =
+      let f = w .few in
+      let a = w .adding in
+      let s = steps-step i h in omega arith
 
-  pub line-room : (out : List ℕ) (to i : ℕ) → Lines ks ss n lap out₀ out at to i → i < n → to + 9 ≤ length out
-  line-room out to i w h = let r = w .room in let l = w .going .same in omega arith
+  pub line-room : (out : List ℕ) (to sum i : ℕ) → Lines ks ss n lap out₀ out at to sum i → i < n → to + 9 ≤ length out
+  line-room out to sum i w h = let r = w .room in let l = w .going .same in omega arith
 
-  pub lines-step : lap < 100 → (out out′ : List ℕ) (to to′ i : ℕ) → Lines ks ss n lap out₀ out at to i → i < n → TextPut (rowText lap (rowAt ks ss i)) out out′ to to′
-      → Lines ks ss n lap out₀ out′ at to′ (i + 1)
-  lines-step b out out′ to to′ i w h p =
+  pub lines-step : lap < 100 → (out out′ : List ℕ) (to to′ sum i : ℕ) → Lines ks ss n lap out₀ out at to sum i → i < n
+      → TextPut (rowText lap (rowAt ks ss i)) out out′ to to′ → Lines ks ss n lap out₀ out′ at to′ (sum + getD ss i 0) (i + 1)
+  lines-step b out out′ to to′ sum i w h p =
       let r = w .room in
       let e = p .ends in
-      let l = line-length lap (rowAt ks ss i) b (line-short out to i w h) in
+      let a = w .adding in
+      let s = steps-step i h in
+      let k = line-short out to sum i w h in
+      let l = line-length lap (rowAt ks ss i) b (omega arith) in
       record {
         inside = omega arith;
-        short = subst Short (rows-step i h) (w .short) .1;
+        few = w .few;
+        adding = omega arith;
         room = omega arith;
         going = write-step out₀ out out′ at to to′ (rowText lap (rowAt ks ss i)) _ _ _ (text-step i h) p (w .going);
       }
 
-  pub lines-done : (out : List ℕ) (to i : ℕ) → Lines ks ss n lap out₀ out at to i → n ≤ i → TextPut (rowsText lap (rowsFrom ks ss n 0)) out₀ out at to
-  lines-done out to i w h = write-done out₀ out at to _ _ (text-done i h) (w .going)
+  pub lines-done : (out : List ℕ) (to sum i : ℕ) → Lines ks ss n lap out₀ out at to sum i → n ≤ i
+      → TextPut (rowsText lap (rowsFrom ks ss n 0)) out₀ out at to × (sum ≡ sumFrom ks ss n 0)
+  lines-done out to sum i w h =
+      let a = w .adding in
+      let z = steps-done i h in (write-done out₀ out at to _ _ (text-done i h) (w .going), omega arith)
 
 -- ---- rows by another name
 pub placed-same : (rs ts : List ListRow) (n : ℕ) (ks ks′ ss ss′ : List ℕ) → rs ≡ ts → RowsPlaced rs n ks ks′ ss ss′ → RowsPlaced ts n ks ks′ ss ss′

@@ -1,16 +1,16 @@
 -- Texts written one behind the other, and a line's. Assumes nothing.
-use Prim.Native.Nat.{ℕ, suc, _+_, _*_, _≤_, _<_}
+use Prim.Native.Nat.{ℕ, suc, _+_, _-_, _*_, _≤_, _<_}
 use mathlib.Core.Path.{_≡_, refl, sym, ap, _∙_}
-use mathlib.Core.List.{List, [], _∷_, _++_}
+use mathlib.Core.List.{List, [], _∷_, _++_, append-assoc, append-nil}
 use native.Mathlib.Omega.{arith}
-use lib.ListN.{length, set, drop, length-append}
-use lib.Seq.{sets, length-sets}
+use lib.ListN.{length, set, take, drop, length-append, length-drop, drop-of-length-le}
+use lib.Seq.{sets, length-sets, sets-eq, take-all, drop-drop}
 use Rattle.geo.specs.Lent.{flat}
 use Rattle.geo.specs.Walk.{listFrom}
 use Rattle.geo.proofs.Stores.{sets-append, sets-front}
-use Rattle.listing.specs.Rows.{ListRow, letterOf}
-use Rattle.lap_rows.specs.Listing.{ascii, decimal, refusalText, comma, newline, rowText, rowsText}
-use Rattle.lap_rows.specs.Left.{TextPut, listed, Short}
+use Rattle.listing.specs.Rows.{ListRow, letterOf, stepsIn, sumOf}
+use Rattle.lap_rows.specs.Listing.{ascii, decimal, refusalText, totalText, comma, newline, rowText, rowsText}
+use Rattle.lap_rows.specs.Left.{TextPut, listed}
 use Rattle.lap_rows.proofs.Decimal.{below-100, below-1000}
 
 -- a text, and another behind it
@@ -62,12 +62,12 @@ line-length lap r h k =
     let b = below-1000 (r .steps) k in
     simp length-append (omega arith)
 
-pub lines-length : (lap : ℕ) (rs : List ListRow) → lap < 100 → Short rs → length (rowsText lap rs) ≤ 9 * length rs
-unfolding rowsText flat
+pub lines-length : (lap : ℕ) (rs : List ListRow) → lap < 100 → sumOf (stepsIn rs) < 1000 → length (rowsText lap rs) ≤ 9 * length rs
+unfolding rowsText flat sumOf stepsIn
 lines-length lap [] h w = omega arith
 lines-length lap (r ∷ rs) h w =
-    let a = line-length lap r h (w .0) in
-    let b = lines-length lap rs h (w .1) in
+    let a = line-length lap r h (omega arith) in
+    let b = lines-length lap rs h (omega arith) in
     let l = length-append (rowText lap r) (rowsText lap rs) in omega arith
 
 -- ---- the line of a refusal
@@ -90,6 +90,35 @@ unfolding refusalText
 refused-length n h =
     let a = refused-word in
     let b = below-1000 n h in simp length-append (omega arith)
+
+-- ---- the last line
+total-word : length (ascii "total,") ≡ 6
+unfolding ascii listFrom
+total-word = refl
+
+-- it has at most ten bytes
+pub total-length : (n : ℕ) → n < 1000 → length (totalText n) ≤ 10
+unfolding totalText
+total-length n h =
+    let a = total-word in
+    let b = below-1000 n h in simp length-append (omega arith)
+
+-- the word, copied to the front of the part that reaches from place `at` to the output's end
+pub put-word : (out part : List ℕ) (at n : ℕ) → at + 6 ≤ length out → n ≡ 6 → part ≡ ascii "total," ++ drop 6 (take (length out - at) (drop at out))
+    → TextPut (ascii "total,") out (take at out ++ (part ++ drop (length out - at) (drop at out))) at (at + n)
+put-word out part at n h e p =
+    let d = total-word in
+    let l = length-drop at out in
+    let all = take-all (length out - at) (drop at out) (omega arith) in
+    let none = drop-of-length-le (drop at out) {i = length out - at} (omega arith) in
+    let rest : drop 6 (drop at out) ≡ drop (at + length (ascii "total,")) out = rw d (drop-drop 6 at out) in
+    record { ends = omega arith; bytes = rw (p, all, none, rest, append-nil (ascii "total," ++ drop (at + length (ascii "total,")) out)) (sym (sets-eq (ascii "total,") out at (omega arith) ∙ append-assoc (take at out) (ascii "total,") (drop (at + length (ascii "total,")) out))) }
+
+pub put-total : (out out₁ out₂ : List ℕ) (n at a end : ℕ) → TextPut (ascii "total,") out out₁ at a → TextPut (decimal n) out₁ out₂ a end
+    → TextPut (totalText n) out (set out₂ end newline) at (end + 1)
+unfolding totalText
+put-total out out₁ out₂ n at a end w p =
+    put-both (ascii "total," ++ decimal n) (newline ∷ []) out out₂ _ at end (end + 1) (put-both (ascii "total,") (decimal n) out out₁ out₂ at a end w p) (put-one out₂ end newline)
 
 -- ---- a loop that writes a text: `left` of it is left, to be written from `to` on
 pub record Writing (out₀ out : List ℕ) (at to : ℕ) (left all : List ℕ) : Type 0 where

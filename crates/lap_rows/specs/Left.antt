@@ -1,7 +1,7 @@
 -- The code's own way: what a function that writes text leaves, and rows that stand in two columns. Definitions only.
-use Prim.Native.Nat.{ℕ, _+_, _<_}
+use Prim.Native.Nat.{ℕ, _+_}
 use mathlib.Core.Path.{_≡_}
-use mathlib.Core.List.{List, [], _∷_}
+use mathlib.Core.List.{List}
 use lib.ListN.{length, getD}
 use lib.Seq.{sets}
 use Rattle.geo.specs.Walk.{listFrom}
@@ -21,8 +21,3 @@ rowAt ks ss i = listed (getD ks i 0) (getD ss i 0)
 
 unfoldable pub rowsFrom : List ℕ → List ℕ → ℕ → ℕ → List ListRow
 rowsFrom ks ss n i = listFrom (rowAt ks ss) n i
-
--- each row has fewer than 1,000 steps
-abbrev pub Short : List ListRow → Type 0
-Short [] = Unit
-Short (r ∷ rs) = (r .steps < 1000) × Short rs

@@ -13,8 +13,9 @@ use Rattle.geo.specs.Lent.{flat}
 use Rattle.geo.specs.Outcome.{Row, row, refusal, Outcome, unless}
 use Rattle.geo.specs.Walk.{listFrom}
 use Rattle.file.specs.Command.{decoded}
-use Rattle.listing.specs.Rows.{ListRow, letterOf, courseRows}
 use Rattle.fitting.specs.Pieces.{lapsRule}
+use Rattle.course.specs.Course.{courseParts}
+use Rattle.listing.specs.Rows.{ListRow, letterOf, courseRows, chainsSteps}
 use Rattle.laps.specs.File.{Lap, lapsOf}
 use Rattle.laps.specs.Rows.{fileRows}
 use Rattle.lap_fit.specs.Fit.{lapsMost}
@@ -61,17 +62,31 @@ lapsText tol j (l ∷ ls) = lapText tol j l ++ lapsText tol (j + 1) ls
 abbrev pub header : List ℕ
 header = ascii "lap,kind,steps\n"
 
+-- ---- the sum under the listing (document 02, §8)
+-- "the number of kept points less one, added over all chains of two or more points": of a lap, and of several
+unfoldable pub lapSteps : Float → Lap → ℕ
+lapSteps tol l = chainsSteps (lapsRule tol) (courseParts tol (map decoded l))
+
+unfoldable pub lapsSteps : Float → List Lap → ℕ
+lapsSteps tol [] = 0
+lapsSteps tol (l ∷ ls) = lapSteps tol l + lapsSteps tol ls
+
+-- "a line `total,N`"
+unfoldable pub totalText : ℕ → List ℕ
+totalText n = ascii "total," ++ decimal n ++ (newline ∷ [])
+
+-- ---- the whole
 unfoldable pub listText : Float → List Lap → List ℕ
-listText tol ls = header ++ lapsText tol 1 ls
+listText tol ls = header ++ lapsText tol 1 ls ++ totalText (lapsSteps tol ls)
 
 -- "A refusal prints the one line `refused,N`"
 unfoldable pub refusalText : ℕ → List ℕ
 refusalText n = ascii "refused," ++ decimal n ++ (newline ∷ [])
 
 -- ---- the listing of the file s into an output of `room` bytes
--- room for the first line and `most` rows: a row has at most nine bytes, as a lap's number is at most 64, and its steps at most 800
+-- room for the first line, `most` rows and the last line: a row has at most nine bytes, as a lap's number is at most 64 and its steps at most 800; the last line has at most ten, as the sum is at most 800 too
 abbrev pub mostText : ℕ → ℕ
-mostText most = 15 + 9 * most
+mostText most = 15 + 9 * most + 10
 
 unfoldable pub textRows : List ℕ → Float → ℕ → List Row
 textRows s tol room =

@@ -18,6 +18,6 @@ angle = Move (point 0 0) ∷ Line (point 10 0) ∷ Line (point 10 10) ∷ []
 abbrev pub angle-file : List ℕ
 angle-file = encode (map enc angle ∷ [])
 
--- its listing at 0.5, as document 01 prints it, to an output with room for three rows: 15 bytes and nine a row
+-- its listing at 0.5, as document 01 prints it, with the sum under it, to an output with room for three rows: 25 bytes and nine a row
 abbrev pub RightAngle : Type 0
-RightAngle = listFile angle-file (fraction 1 2) 42 ≡ gives (ascii "lap,kind,steps\n1,M,0\n1,L,1\n1,L,1\n")
+RightAngle = listFile angle-file (fraction 1 2) 52 ≡ gives (ascii "lap,kind,steps\n1,M,0\n1,L,1\n1,L,1\ntotal,2\n")

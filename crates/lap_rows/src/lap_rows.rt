@@ -20,11 +20,12 @@ ghost use Rattle.floats.specs.Ops.{_≺_, +0};
 ghost use Rattle.geo.specs.Outcome.{refusal, Wrote};
 ghost use Rattle.file.specs.Command.{commandsAt};
 ghost use Rattle.course.specs.Walks.{mostCommands, chainNumbers};
+ghost use Rattle.listing.specs.Rows.{stepsIn, sumOf};
 ghost use Rattle.listing.specs.Placed.{RowsPlaced};
 ghost use Rattle.laps.specs.File.{lapCount, lapsOf, tableOk};
 ghost use Rattle.lap_fit.specs.Fit.{mostLap, lapsMost};
-ghost use Rattle.lap_rows.specs.Listing.{decimal, refusalText, rowText, rowsText, lapRows, lapText, listText, mostText, textRows, listFile};
-ghost use Rattle.lap_rows.specs.Left.{TextPut, listed, rowsFrom, Short};
+ghost use Rattle.lap_rows.specs.Listing.{decimal, refusalText, rowText, rowsText, lapRows, lapText, lapSteps, totalText, listText, mostText, textRows, listFile};
+ghost use Rattle.lap_rows.specs.Left.{TextPut, listed, rowsFrom};
 
 // Writes a number's decimal digits from `at` on, and answers where they end.
 fn put_decimal(out: &mut [u8], at: usize, n: usize) -> usize
@@ -71,16 +72,29 @@ fn put_row(out: &mut [u8], at: usize, lap: usize, kind: u8, steps: usize) -> usi
     b + 1
 }
 
-// Writes the first n rows of a lap from `at` on, and answers where they end.
-fn put_rows(kinds: &[u8], steps: &[u32], n: usize, lap: usize, out: &mut [u8], at: usize) -> usize
-    requires { ⌜ (lap < 100) × (n ≤ length (now kinds)) × (n ≤ length (now steps)) × Short (rowsFrom (now kinds) (now steps) n 0) × (at + 9 * n ≤ length (now out)) ⌝ }
-    ensures { λ r. ⌜ TextPut (rowsText lap (rowsFrom (now (kinds .entry)) (now (steps .entry)) n 0)) (now (out .entry)) (now (out .exit)) at r ⌝ }
+// What rows add to a listing: where their text ends, and how many steps they give together.
+struct Added {
+    end: usize,
+    steps: usize,
+}
+
+// Writes the first n rows of a lap from `at` on.
+fn put_rows(kinds: &[u8], steps: &[u32], n: usize, lap: usize, out: &mut [u8], at: usize) -> Added
+    requires { ⌜ (lap < 100) × (n ≤ length (now kinds)) × (n ≤ length (now steps)) × (sumOf (stepsIn (rowsFrom (now kinds) (now steps) n 0)) < 1000) × (at + 9 * n ≤ length (now out)) ⌝ }
+    ensures text { λ r. ⌜ TextPut (rowsText lap (rowsFrom (now (kinds .entry)) (now (steps .entry)) n 0)) (now (out .entry)) (now (out .exit)) at (r .end) ⌝ }
+    ensures sum { λ r. ⌜ r .steps ≡ sumOf (stepsIn (rowsFrom (now (kinds .entry)) (now (steps .entry)) n 0)) ⌝ }
 {
     let mut to = at;
+    let mut sum = 0;
     for i in 0..n {
-        to = put_row(out, to, lap, kinds[i], steps[i] as usize);
+        let covered = steps[i] as usize;
+        to = put_row(out, to, lap, kinds[i], covered);
+        sum += covered;
     }
-    to
+    Added {
+        end: to,
+        steps: sum,
+    }
 }
 
 // Lists the n commands from `at` on, and answers how many rows they have: they are fitted, and beside each command stands
@@ -115,7 +129,7 @@ fn list_commands(
     )
 }
 
-// Writes the text of one lap, the n commands from `at` on, from `to` on, and answers where it ends.
+// Writes the text of one lap, the n commands from `at` on, from `to` on.
 fn put_lap(
     s: &[u8],
     at: usize,
@@ -130,11 +144,12 @@ fn put_lap(
     row_steps: &mut [u32],
     out: &mut [u8],
     to: usize,
-) -> usize
+) -> Added
     requires { ⌜ ((+0 ≺ tolerance) ≡ true) × (at + 73 * n ≤ length (now s)) × (n ≤ mostCommands) × (lap < 100) × (mostLap tolerance (commandsAt (now s) at n) ≤ mostCommands) × (to + 9 * mostLap tolerance (commandsAt (now s) at n) ≤ length (now out)) ⌝ }
     requires { ⌜ (mostCommands ≤ length (now kinds)) × (9 * mostCommands ≤ length (now nums)) × (mostCommands ≤ length (now «row_kinds»)) × (9 * mostCommands ≤ length (now «row_nums»)) × (mostCommands ≤ length (now «row_steps»)) × (length (now chain) ≡ chainNumbers) ⌝ }
     // All arrays but the output are lent as room to work in: what they hold at exit is left open.
-    ensures { λ r. ⌜ TextPut (lapText tolerance lap (commandsAt (now (s .entry)) at n)) (now (out .entry)) (now (out .exit)) to r ⌝ }
+    ensures text { λ r. ⌜ TextPut (lapText tolerance lap (commandsAt (now (s .entry)) at n)) (now (out .entry)) (now (out .exit)) to (r .end) ⌝ }
+    ensures sum { λ r. ⌜ r .steps ≡ lapSteps tolerance (commandsAt (now (s .entry)) at n) ⌝ }
 {
     let rows = list_commands(
         s,
@@ -151,6 +166,17 @@ fn put_lap(
     put_rows(row_kinds, row_steps, rows, lap, out, to)
 }
 
+// Writes the last line from `at` on, and answers where it ends.
+fn put_total(out: &mut [u8], at: usize, total: usize) -> usize
+    requires { ⌜ (total < 1000) × (at + 10 ≤ length (now out)) ⌝ }
+    ensures { λ r. ⌜ TextPut (totalText total) (now (out .entry)) (now (out .exit)) at r ⌝ }
+{
+    let a = at + bytes::copy(b"total,", &mut out[at..]);
+    let b = put_decimal(out, a, total);
+    out[b] = 10;
+    b + 1
+}
+
 // Writes the listing's text, its first line first, and answers how many bytes it has. The arrays stand here and not in
 // `put_lap`, which would fill them for each lap.
 fn list_laps(s: &[u8], tolerance: f64, out: &mut [u8]) -> usize
@@ -164,12 +190,13 @@ fn list_laps(s: &[u8], tolerance: f64, out: &mut [u8]) -> usize
     let mut row_nums = [0.0f64; Walk::NUMBERS];
     let mut row_steps = [0u32; Walk::MOST];
     let mut to = bytes::copy(b"lap,kind,steps\n", out);
+    let mut total = 0;
     let l = lap_count(s);
     let mut at = 8 + 8 * l;
     let mut j = 0;
     while j < l {
         let n = count_at(s, j);
-        to = put_lap(
+        let lap = put_lap(
             s,
             at,
             n,
@@ -184,10 +211,12 @@ fn list_laps(s: &[u8], tolerance: f64, out: &mut [u8]) -> usize
             out,
             to,
         );
+        to = lap.end;
+        total += lap.steps;
         at += COMMAND_BYTES * n;
         j += 1;
     }
-    to
+    put_total(out, to, total)
 }
 
 // The number of the first row that the listing of a file falls under, or 0.
@@ -205,7 +234,7 @@ fn check_text(s: &[u8], tolerance: f64, room: usize) -> u32
     if Walk::MOST < most {
         return 8;
     }
-    if room < 15 + 9 * most {
+    if room < 15 + 9 * most + 10 {
         return 9;
     }
     0

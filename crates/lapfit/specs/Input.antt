@@ -11,7 +11,7 @@ use Rattle.lap_rows.specs.Listing.{refusalText, mostText, listFile}
 unfoldable pub listInput : List ℕ → ℕ → Outcome (List ℕ)
 listInput s room = if ltb (length s) 16 then refused 1 else listFile (drop 8 s) (numberAt s 0) room
 
--- the bytes that it prints: the listing, or the line of a refusal
+-- the bytes that it prints: the listing, which ends with the sum of the steps, or the one line of a refusal
 unfoldable pub printed : Outcome (List ℕ) → List ℕ
 printed (refused n) = refusalText n
 printed (gives text) = text

@@ -1,5 +1,5 @@
 // Reads eight bytes of tolerance, then a lap file, from standard input. A refusal prints one line. An accepted file prints
-// the listing of its fit: lap, kind letter and steps of each command that the fit writes.
+// the listing of its fit: lap, kind letter and steps of each command that the fit writes, and the sum of the steps under them.
 use file::words::number_at;
 use geo::types::Answer;
 use lap_rows::lap_rows::list_file;
@@ -45,11 +45,11 @@ fn input_buffer() -> [u8; 65545]
     [0; 65545]
 }
 
-// Room for the text of 800 rows.
-fn output_buffer() -> [u8; 7215]
-    ensures { λ r. ⌜ 7215 ≡ length r ⌝ }
+// Room for the first line, 800 rows and the sum.
+fn output_buffer() -> [u8; 7225]
+    ensures { λ r. ⌜ 7225 ≡ length r ⌝ }
 {
-    [0; 7215]
+    [0; 7225]
 }
 
 // Reads what is left of the input behind its first n bytes, and forgets it. An input that did not fill its buffer has ended.

@@ -6,6 +6,7 @@ use mathlib.Core.Bool.{true}
 use mathlib.Core.List.{List, [], _∷_, _++_, map, map-append}
 use native.Mathlib.Nat.{zero-add}
 use native.Mathlib.Omega.{arith}
+use borrow.Author.Tests.{lt-ltb, le-ltb}
 use lib.ListN.{length, length-map}
 use lib.Ieee.{Float}
 use Rattle.floats.specs.Ops.{_≺_, +0}
@@ -26,7 +27,7 @@ use Rattle.course.specs.Course.{joined, courseParts, courseFit, courseMost}
 use Rattle.course.specs.Demand.{thinnedAt, stepsOf, chainPieces}
 use Rattle.course.proofs.Parts.{parts-step, parts-end}
 use Rattle.course.proofs.Accepted.{course-few}
-use Rattle.listing.specs.Rows.{ListRow, keptRow, shapeKind, letterOf, pieceRow, chainRows, partRows, rowsOf, courseRows, kindsOf, stepsIn, Lettered, sumOf, chainsSteps}
+use Rattle.listing.specs.Rows.{ListRow, keptRow, shapeKind, letterOf, pieceRow, chainRows, partRows, rowsOf, courseRows, kindsOf, stepsIn, Lettered, sumOf, chainSteps, chainsSteps}
 use Rattle.listing.proofs.Columns.{kinds-append, steps-append, kinds-length}
 
 -- ---- rows of parts: one list of them behind another, one chain alone, and a chain with no step, which has no row
@@ -151,21 +152,37 @@ covered lo hi (p ∷ ps) v =
     let b = v .1 in
     let r = covered (p .to) hi ps (v .2) in omega arith
 
--- The steps that a chain's rows give are, together, the steps of its thinned chain: each is counted once.
-pub chain-steps : (rule : Rule) → (+0 ≺ rule .tolerance) ≡ true → (s : List Float) → 2 ≤ length s / 3 → sumOf (stepsIn (chainRows rule s)) ≡ stepsOf rule s
+many-steps : (rule : Rule) → (+0 ≺ rule .tolerance) ≡ true → (s : List Float) → 2 ≤ length s / 3 → sumOf (stepsIn (chainRows rule s)) ≡ stepsOf rule s
 unfolding chainRows
-chain-steps rule pos s h =
+many-steps rule pos s h =
     let k = kept-some rule s h in
     let e = covered 0 (stepsOf rule s) (chainPieces rule s) (pieces-cover rule pos (thinnedAt rule s) 0 (stepsOf rule s) (omega arith)) in omega arith
 
-any-steps : (rule : Rule) → (+0 ≺ rule .tolerance) ≡ true → (s : List Float) → sumOf (stepsIn (chainRows rule s)) ≡ stepsOf rule s
-any-steps rule pos s =
+few-none : (rule : Rule) (s : List Float) → length s / 3 < 2 → chainSteps rule s ≡ 0
+unfolding chainSteps
+few-none rule s h = rw (lt-ltb (length s / 3) 2 h)
+
+many-kept : (rule : Rule) (s : List Float) → 2 ≤ length s / 3 → chainSteps rule s ≡ stepsOf rule s
+unfolding chainSteps
+many-kept rule s h = rw (le-ltb (length s / 3) 2 h)
+
+-- The steps that a chain's rows give are, together, the points that are kept of it less one: each step is counted once. A chain of fewer than two points has no row.
+pub chain-steps : (rule : Rule) → (+0 ≺ rule .tolerance) ≡ true → (s : List Float) → sumOf (stepsIn (chainRows rule s)) ≡ chainSteps rule s
+chain-steps rule pos s =
     ⊎-elim
     (λ h.
-    let f = kept-few rule s in
     let z : sumOf (stepsIn []) ≡ 0 = unfold sumOf stepsIn in refl in
-    let e = ap (λ (l : List _). sumOf (stepsIn l)) (no-rows rule s h) in omega arith)
-    (λ h. chain-steps rule pos s h) (lt-or-ge (length s / 3) 2)
+    let e = ap (λ (l : List ListRow). sumOf (stepsIn l)) (no-rows rule s h) in
+    let f = few-none rule s h in omega arith)
+    (λ h. many-steps rule pos s h ∙ sym (many-kept rule s h)) (lt-or-ge (length s / 3) 2)
+
+-- There are no more than the chain's own steps.
+pub chain-few : (rule : Rule) (s : List Float) → chainSteps rule s ≤ length s / 3 - 1
+chain-few rule s =
+    ⊎-elim (λ h. let e = few-none rule s h in omega arith)
+    (λ h.
+    let e = many-kept rule s h in
+    let f = kept-few rule s in omega arith) (lt-or-ge (length s / 3) 2)
 
 -- a kept command adds no step
 no-step : (c : Command) (rs : List ListRow) → sumOf (stepsIn (keptRow c ∷ rs)) ≡ sumOf (stepsIn rs)
@@ -178,11 +195,11 @@ parts-steps rule pos [] = unfold sumOf stepsIn in refl
 parts-steps rule pos (chain s ∷ ps) =
     let e = ap sumOf (steps-append (chainRows rule s) (rowsOf rule ps)) in
     let t = sum-append (stepsIn (chainRows rule s)) (stepsIn (rowsOf rule ps)) in
-    let a = any-steps rule pos s in
+    let a = chain-steps rule pos s in
     let r = parts-steps rule pos ps in omega arith
 parts-steps rule pos (kept c ∷ ps) = no-step c (rowsOf rule ps) ∙ parts-steps rule pos ps
 
--- So the steps that a course's rows give are, together, the steps of its thinned chains; a kept command adds none.
+-- So the steps that a course's rows give are, together, those of its chains; a kept command adds none.
 pub course-steps : (rule : Rule) → (+0 ≺ rule .tolerance) ≡ true → (cs : List Command) → sumOf (stepsIn (courseRows rule cs)) ≡ chainsSteps rule (courseParts (rule .tolerance) cs)
 unfolding courseRows
 course-steps rule pos cs = parts-steps rule pos (courseParts (rule .tolerance) cs)

@@ -1,15 +1,18 @@
 -- The rows of a course's listing. Definitions only.
 -- "It lists lap, kind letter (M, L, A) and steps of the thinned chain covered (0 for M and a kept Arc)" (document 01, "Worked laps").
-use Prim.Native.Nat.{ℕ, zero, suc, _+_, _-_, _≤_}
+use Prim.Native.Nat.{ℕ, zero, suc, _+_, _-_, _/_, _≤_}
 use mathlib.Core.List.{List, [], _∷_, map}
+use lib.Dec.{ltb}
+use lib.ListN.{length}
 use lib.Ieee.{Float}
+use Rattle.floats.specs.Ops.{if_then_else_}
 use Rattle.geo.specs.declared.types.Command.{Command}
 use Rattle.geo.specs.Lent.{flat, kindOf}
 use Rattle.fitting.specs.declared.fitting.Rule.{Rule}
 use Rattle.fitting.specs.Pieces.{Shape, line, arc, Piece}
 use Rattle.course.specs.Parts.{Part, chain, kept}
 use Rattle.course.specs.Course.{courseParts}
-use Rattle.course.specs.Demand.{stepsOf, chainPieces}
+use Rattle.course.specs.Demand.{thinnedChain, chainPieces}
 
 -- the kind of a command that is written, and how many steps of a thinned chain it covers
 pub record ListRow : Type 0 where
@@ -68,8 +71,12 @@ unfoldable pub sumOf : List ℕ → ℕ
 sumOf [] = 0
 sumOf (n ∷ ns) = n + sumOf ns
 
--- the steps of the thinned chains among several parts
+-- "the number of kept points less one, added over all chains of two or more points" (document 02, §8): the points kept of a chain are those of its thinned chain,
+unfoldable pub chainSteps : Rule → List Float → ℕ
+chainSteps rule s = if ltb (length s / 3) 2 then 0 else (length (thinnedChain rule s) - 1)
+
+-- and the chains are those among the parts of a course; a command that is kept is none
 unfoldable pub chainsSteps : Rule → List Part → ℕ
 chainsSteps rule [] = 0
-chainsSteps rule (chain s ∷ ps) = stepsOf rule s + chainsSteps rule ps
+chainsSteps rule (chain s ∷ ps) = chainSteps rule s + chainsSteps rule ps
 chainsSteps rule (kept c ∷ ps) = chainsSteps rule ps

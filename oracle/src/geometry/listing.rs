@@ -29,6 +29,10 @@ const GIVEN: &str = "target/oracle/release/lapfit";
 
 const HEAD: &str = "lap,kind,steps\n";
 
+fn last_line(total: usize) -> String {
+    format!("total,{total}\n")
+}
+
 // ---- a Rust program that does the same, with nothing spent on comparing
 
 /// What was made of a lap so far.
@@ -37,6 +41,7 @@ struct Rows<'a> {
     tolerance: f64,
     chain: Vec<Point3D>,
     text: &'a mut String,
+    total: &'a mut usize,
 }
 
 impl Rows<'_> {
@@ -48,6 +53,7 @@ impl Rows<'_> {
     fn flush(&mut self) {
         if self.chain.len() > 1 {
             let kept = simplify::simplify_polyline_3d(&self.chain, self.tolerance);
+            *self.total += kept.len() - 1;
             let mut at = 0;
             for command in fitting::fit_points_with_primitives(&kept, self.tolerance) {
                 let end = command.end_point();
@@ -96,20 +102,46 @@ pub fn program(input: &[u8]) -> String {
     match super::bench_laps::checked(file, tolerance) {
         Err(number) => format!("refused,{number}\n"),
         Ok(laps) => {
-            let mut text = HEAD.to_string();
+            let (mut text, mut total) = (HEAD.to_string(), 0);
             for (i, lap) in laps.iter().enumerate() {
-                Rows { lap: i + 1, tolerance, chain: Vec::new(), text: &mut text }.list(lap);
+                Rows { lap: i + 1, tolerance, chain: Vec::new(), text: &mut text, total: &mut total }.list(lap);
             }
-            text
+            text + &last_line(total)
         }
     }
 }
 
 // ---- the comparison
 
-/// The listing by the Rust's way through each lap, and where its arc trials stand.
+/// The chains of a lap: each begins where a Move or an Arc ends, and takes in the Lines and the steps of the Beziers behind it.
+fn chains_of(lap: &[Command], tolerance: f64) -> Vec<Vec<Point3D>> {
+    let (mut chains, mut last): (Vec<Vec<Point3D>>, _) = (vec![], Point3D::new(0.0, 0.0, 0.0));
+    for command in lap {
+        let end = command.end_point();
+        match command {
+            Command::Move { .. } | Command::Arc { .. } => chains.push(vec![end]),
+            Command::Line { .. } => chains.last_mut().expect("a lap starts with a Move").push(end),
+            Command::Bezier { control1, control2, .. } => {
+                let steps = linearize_bezier_from_params(end, *control1, *control2, last, tolerance * 0.25);
+                chains.last_mut().expect("a lap starts with a Move").extend(steps.iter().map(|step| step.1));
+            }
+        }
+        last = end;
+    }
+    chains
+}
+
+/// Document 02, section 8: "the number of kept points less one, added over all chains of two or more points". It is
+/// worked out from the chains that the given Rust thins, and knows nothing of the rows.
+fn steps_kept(lap: &[Command], tolerance: f64) -> usize {
+    let chains = chains_of(lap, tolerance);
+    let long = chains.iter().filter(|chain| chain.len() > 1);
+    long.map(|chain| simplify::simplify_polyline_3d(chain, tolerance).len() - 1).sum()
+}
+
+/// The listing by the Rust's way through each lap with the sum under it, and where its arc trials stand.
 fn listing(file: &[u8], tolerance: f64) -> (String, Stands) {
-    let (mut text, mut stands) = (HEAD.to_string(), Stands::UNTRIED);
+    let (mut text, mut total, mut stands) = (HEAD.to_string(), 0, Stands::UNTRIED);
     for (i, lap) in laps_of(file).expect("a table that was accepted").iter().enumerate() {
         let data = lap.given();
         let answer = fitting::fit_arcs(&data, tolerance);
@@ -118,9 +150,10 @@ fn listing(file: &[u8], tolerance: f64) -> (String, Stands) {
             let letter = ["M", "L", "A"][parts(command).0 as usize];
             writeln!(text, "{},{letter},{steps}", i + 1).expect("a string takes all");
         }
+        total += steps_kept(&data, tolerance);
         stands = stands.and(way.stands(&answer));
     }
-    (text, stands)
+    (text + &last_line(total), stands)
 }
 
 /// What a program writes where this is its input.
@@ -173,7 +206,9 @@ fn draw_listing(draw: &mut Draw) -> Compared {
     let given = Outcome { number, lent: vec![Lent::bytes(text.as_bytes())] };
     let proved = Outcome { number: number_in(&printed), lent: vec![Lent::bytes(&printed)] };
     let mut call = Compared { function: "lapfit", arguments: vec![argument("input", &input)], proved, given };
-    let open = stands.margins == Margins::Outside && call.proved != call.given;
+    // the rows may differ there, and their sum may not: it hangs on no arc trial
+    let sums_agree = printed.rsplit(|byte| *byte == b',').next() == text.as_bytes().rsplit(|byte| *byte == b',').next();
+    let open = stands.margins == Margins::Outside && call.proved != call.given && sums_agree;
     if open {
         call.given = call.proved.clone();
     }

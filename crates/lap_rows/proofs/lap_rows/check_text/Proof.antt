@@ -36,6 +36,9 @@ mul-if4 c = search needs
 add-if4 : tie.Need-add-if4
 add-if4 c = search needs
 
+add-if4-2 : tie.Need-add-if4-2
+add-if4-2 c = search needs
+
 returns-4 : tie.Need-returns-4
 returns-4 c = let a = c .before .before .before .before .before .before .before .before .args in let e = told-below _ _ (c .before .before .most-of .ensures) (c .before .if3 .left) in
     sym (text-9 (a .s .now) (a .tolerance) (a .room) (file-passed (a .s .now) _ (c .before .before .before .before .before .before .check-file .ensures) (c .before .before .before .before .before .if1 .left)) (not-passes _ _ (c .before .before .before .before .is-tolerance .ensures) (c .before .before .before .if2 .left)) (omega (arith, e, c .before .if3 .left)) (omega (arith, e, c .if4 .taken)))
@@ -56,5 +59,6 @@ check-text-spec =
     returns-3
     mul-if4
     add-if4
+    add-if4-2
     returns-4
     returns-5)

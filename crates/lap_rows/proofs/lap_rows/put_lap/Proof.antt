@@ -1,13 +1,13 @@
 -- `lap_rows::lap_rows::put_lap` meets its contract: the rows in the arrays are those of the lap, and there is room for the lines of each. Assumes nothing.
-use mathlib.Core.Path.{sym, subst}
+use Prim.Native.Nat.{_<_}
+use mathlib.Core.Path.{sym, ap, _∙_, subst}
 use mathlib.Core.List.{List}
 use native.Mathlib.Omega.{arith}
 use Rattle.file.specs.Command.{commandsAt}
-use Rattle.listing.specs.Rows.{ListRow}
+use Rattle.listing.specs.Rows.{ListRow, stepsIn, sumOf}
 use Rattle.lap_rows.specs.Listing.{lapText}
-use Rattle.lap_rows.specs.Left.{Short}
 use Rattle.lap_rows.proofs.Lines.{rows-back, text-same}
-use Rattle.lap_rows.proofs.Counts.{rows-few, rows-short}
+use Rattle.lap_rows.proofs.Counts.{rows-few, rows-steps, rows-short}
 use borrow.Author.Needs.{needs}
 use Rattle.lap_rows.proofs.lap_rows.put_lap.Statement.{statement}
 use Rattle.lap_rows.proofs.lap_rows.put_lap.Tie as tie
@@ -22,7 +22,7 @@ put-rows-requires c κs = let a = c .before .before .before .before .before .bef
     let n = w .count in
     let e = rows-back _ _ _ _ _ _ w (omega (arith, f, p .4, q)) (omega (arith, f, p .4, q)) in
     let k = c .before .before .before .before .before .before .before .before .before .before .before .before .before .before .before .list-commands .kept in
-    (p .3, omega (arith, f, n, p .4, q, k), omega (arith, f, n, p .4, q, k), subst (λ (rs : List ListRow). Short rs) (sym e) (rows-short (a .tolerance) (p .0) l (p .4)), omega (arith, f, n, p .5))
+    (p .3, omega (arith, f, n, p .4, q, k), omega (arith, f, n, p .4, q, k), subst (λ (rs : List ListRow). sumOf (stepsIn rs) < 1000) (sym e) (rows-short (a .tolerance) (p .0) l (p .4)), omega (arith, f, n, p .5))
 
 same-length : tie.Need-same-length
 same-length c = search needs
@@ -48,8 +48,10 @@ same-length-7 c = search needs
 returns : tie.Need-returns
 unfolding lapText
 returns c = let a = c .before .before .before .before .before .before .before .before .before .before .before .before .before .before .before .before .before .before .before .before .before .before .before .before .before .before .before .before .before .before .before .before .before .args in let p = c .before .before .before .before .before .before .before .before .before .before .before .before .before .before .before .before .before .before .before .before .before .before .before .before .before .before .before .before .before .before .before .before .before .pre .0 in let q = c .before .before .before .before .before .before .before .before .before .before .before .before .before .before .before .before .before .before .before .before .before .before .before .before .before .before .before .before .before .before .before .before .before .pre .1 in let w = c .before .before .before .before .before .before .before .before .before .before .before .before .before .before .before .before .before .before .list-commands .ensures in
-    let f = rows-few (a .tolerance) (p .0) (commandsAt (a .s .now) (a .at) (a .n)) in
-    text-same (a .lap) _ _ _ _ _ _ (rows-back _ _ _ _ _ _ w (omega (arith, f, p .4, q)) (omega (arith, f, p .4, q))) (c .before .before .put-rows .ensures)
+    let l = commandsAt (a .s .now) (a .at) (a .n) in
+    let f = rows-few (a .tolerance) (p .0) l in
+    let e = rows-back _ _ _ _ _ _ w (omega (arith, f, p .4, q)) (omega (arith, f, p .4, q)) in
+    (text-same (a .lap) _ _ _ _ _ _ e (c .before .before .put-rows .ensures .0), c .before .before .put-rows .ensures .1 ∙ ap (λ (rs : List ListRow). sumOf (stepsIn rs)) e ∙ rows-steps (a .tolerance) (p .0) l)
 
 pub put-lap-spec : {M : Type 1} → statement M
 put-lap-spec =
