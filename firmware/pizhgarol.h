@@ -2,8 +2,8 @@
 
    LENT MEMORY. A list passes as a pointer and its length in elements (bytes for a file, numbers for points and commands,
    not points or commands). The functions keep no pointer after they return, allocate nothing and have no state of their
-   own, so two threads may call them at once on different memory; of other libraries they need memset alone. The archive
-   (rt staticlib exports) is for x86-64. The caller sees to it that
+   own, so two threads may call them at once on different memory; of other libraries they need memset and memcpy
+   alone. The archive (rt staticlib exports) is for x86-64 and no other processor. The caller sees to it that
    - each pointer is valid for its length and aligned for its type (8 bytes for numbers and for size_t),
    - what is written (outputs and `count`) overlaps nothing else that is passed to the same call.
    Any contents are allowed: every call ends, reads and writes only what was lent, and unfit input meets a refusal.

@@ -103,7 +103,7 @@ pub fn judged(mut call: Compared, stands: Stands, rooms: Rooms) -> Judged {
         left[0] = Lent::room(rooms.numbers).written(&call.proved.lent[0].words()[..9 * written]);
         left[1] = left[1].written(&[count]);
         left[2] = Lent::byte_room(rooms.kinds, &kinds);
-        // the ranges are twice the pieces less one, whatever the pieces are
+        // the ranges are twice the pieces less one, whatever the pieces are; a course tells none
         if call.function == "fit_points_with_primitives" {
             left[4] = left[4].written(&[(2 * count).saturating_sub(1)]);
         }
