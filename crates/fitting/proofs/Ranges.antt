@@ -180,9 +180,9 @@ module _ (r : Rule) (at : ℕ → Point3D) (w w′ : Stand) (ends ends′ ks ks�
 
 -- ---- a turn of the loop
 module _ (r : Rule) (pos : (+0 ≺ r .tolerance) ≡ true) (at : ℕ → Point3D) (start end place : ℕ) (w w′ : Stand) (ends ends′ ks₀ ks ks′ : List ℕ) (ns₀ ns ns′ : List Float) (ss₀ ss ss′ : List ℕ)
-    (q : Looked r at w w′ ends ends′ ks ks′ ns ns′ ss ss′) (h : Stands start end place ends w) (some : w .lo < end) (room : end ≤ length ends) (most : end < 2048) where
+    (q : Looked r at w w′ ends ends′ ks ks′ ns ns′ ss ss′) (h : Stands start end place ends w) (some : w .lo < end) (room : end - start ≤ length ends) (most : end < 2048) where
   few-wait : w .waiting < length ends
-  few-wait = let f = ascend-few ends (w .waiting) (w .hi) end (h .ascend) in let l = h .some some in omega arith
+  few-wait = let f = ascend-few ends (w .waiting) (w .hi) end (h .ascend) in let l = h .some some in let g = h .from in omega arith
 
   pub turn-stands : Stands start end place ends′ w′
   turn-stands =

@@ -158,6 +158,9 @@ struct Stand {
 }
 
 impl Stand {
+    // So many steps or fewer are few.
+    const FEW: usize = 32;
+
     // Behind a piece: the next part ends where the last of the waiting ends stands.
     fn next(self, place: usize, ends: &[u16]) -> Self
         requires { ⌜ self .waiting ≤ length (now ends) ⌝ }
@@ -267,7 +270,30 @@ fn fit_next(
     }
 }
 
-// Writes the commands for the points from start to end, from place `at` on, and answers how many they are.
+// Writes the commands for the points of a fit that stands at its beginning, and answers how many they are.
+fn fit_parts(
+    rule: Rule,
+    points: &[f64],
+    first: Stand,
+    ends: &mut [u16],
+    kinds: &mut [u8],
+    nums: &mut [f64],
+    steps: &mut [u32],
+) -> usize
+    requires { ⌜ ((+0 ≺ rule .tolerance) ≡ true) × (first ≡ record { lo = first .lo; hi = first .hi; waiting = 0; place = first .place }) × ((first .lo < first .hi) × (first .hi < 2048) × (3 * first .hi + 2 < length (now points)) × (first .hi - first .lo ≤ length (now ends)) × (first .place + (first .hi - first .lo) ≤ length (now kinds)) × (9 * (first .place + (first .hi - first .lo)) ≤ length (now nums))) ⌝ }
+    // The ends are lent as room to work in: what they hold at exit is left open.
+    ensures { λ r. ⌜ NotedPlaced (notedIn rule (pointAt (now (points .entry))) (first .lo) (first .hi)) (first .place) r (now (kinds .entry)) (now (kinds .exit)) (now (nums .entry)) (now (nums .exit)) (now (steps .entry)) (now (steps .exit)) ⌝ }
+{
+    let end = first.hi;
+    let mut w = first;
+    while w.lo < end {
+        w = fit_next(rule, points, w, ends, kinds, nums, steps);
+    }
+    w.place - first.place
+}
+
+// Writes the commands for the points from start to end, from place `at` on, and answers how many they are. Few points wait in a
+// small array, which is filled sooner than a large one.
 pub fn fit_range(
     rule: Rule,
     points: &[f64],
@@ -281,17 +307,18 @@ pub fn fit_range(
     requires { ⌜ ((+0 ≺ rule .tolerance) ≡ true) × ((start < end) × (end < 2048) × (3 * end + 2 < length (now points)) × (at + (end - start) ≤ length (now kinds)) × (9 * (at + (end - start)) ≤ length (now nums))) ⌝ }
     ensures { λ r. ⌜ NotedPlaced (notedIn rule (pointAt (now (points .entry))) start end) at r (now (kinds .entry)) (now (kinds .exit)) (now (nums .entry)) (now (nums .exit)) (now (steps .entry)) (now (steps .exit)) ⌝ }
 {
-    let mut ends = [0u16; MOST_POINTS];
-    let mut w = Stand {
+    let w = Stand {
         lo: start,
         hi: end,
         waiting: 0,
         place: at,
     };
-    while w.lo < end {
-        w = fit_next(rule, points, w, &mut ends, kinds, nums, steps);
+    if end - start <= Stand::FEW {
+        let mut ends = [0u16; Stand::FEW];
+        return fit_parts(rule, points, w, &mut ends, kinds, nums, steps);
     }
-    w.place - at
+    let mut ends = [0u16; MOST_POINTS];
+    fit_parts(rule, points, w, &mut ends, kinds, nums, steps)
 }
 
 // Fits a chain: it is thinned in place, and what is kept is fitted. A course of at most 800 commands has no longer chain than 801 points.
