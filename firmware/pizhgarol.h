@@ -215,6 +215,18 @@ uint32_t rt_read_course(
     const uint8_t *text, size_t text_bytes,
     uint8_t *out, size_t out_bytes, size_t *count);
 
+/* Finds, for printed maps, the fewest Lines from the first point to the last, forward through points of the list, each pair's line
+   deviation below the tolerance: a search in layers, in which each pair tested costs one of the budget. Each Line's end goes to
+   `out`, three numbers each, in order; *count is the Lines, *tested the pairs, and *bound a lower bound: the true fewest lies from
+   *bound to *count, and they are equal if the budget is at least n * (n - 1) / 2 (32,640 is enough for any list). Any budget is
+   accepted, 0 too. Refusals: PZ_NOT_WHOLE (points or out not whole points), PZ_TOO_MANY (fewer than 2 points, or more than
+   PZ_MOST_STRAIGHT_POINTS), PZ_BAD_NUMBER, PZ_BAD_TOLERANCE, PZ_NO_ROOM (out below n - 1 points). */
+#define PZ_MOST_STRAIGHT_POINTS 256u
+
+uint32_t rt_fewest_straights(
+    const double *points, size_t points_length, double tolerance, uint64_t budget,
+    double *out, size_t out_length, size_t *count, uint64_t *tested, size_t *bound);
+
 #ifdef __cplusplus
 }
 #endif
