@@ -20,20 +20,23 @@
    - a fit of a file: 8 + 8 * L + 73 * most bytes, most as for a course; at most 58,920 bytes in all (64 laps, 800 commands);
    - a replacement: the same, with the new lap's most plus the fitted file's commands in all other laps;
    - an Arc drawn by Lines: 4,096 commands.
+   - the fewest straights of n points: n - 1 points;
    - a course read from path data: 8 + 8 * L + 73 * commands bytes, a lap for each M.
 
    STACK. Measured, not proved: firmware/stack.c fills a thread's stack with a pattern and runs the zigzags that are cut
-   most often (2,048 points, or 800 commands, each cut taking one point off): thinning recurses as deep as it cuts, a fit
+   most often (2,048 points, or 800 commands, each cut taking one point off): thinning recurses as deep as it cuts, and so
+   does the cut of the fewest straights (256 points); a fit
    does not. And the greatest circle drawn by Lines. firmware/run prints what it finds. On x86-64 Linux it was, in bytes, for the archive that this header came with:
      rt_simplify_polyline            231328 bytes
      rt_simplify_polyline_3d         231328 bytes
      rt_simplify_data                117200 bytes
      rt_fit_points_with_primitives     4480 bytes
      rt_fit_arcs                     111648 bytes
-     rt_fit_file                     228576 bytes
-     rt_replace_lap                  228512 bytes
+     rt_fit_file                     228496 bytes
+     rt_replace_lap                  228432 bytes
      rt_flatten_arc                    4992 bytes
      rt_read_course                     696 bytes
+     rt_fewest_straights              41976 bytes
    No input recurses deeper, since each cut takes a point off. What the innermost call takes beside that was measured on
    these zigzags alone, and bytes that a call reserves but never writes do not show: leave a margin of some KiB. */
 #ifndef PIZHGAROL_H
