@@ -20,10 +20,12 @@
    - a fit of a file: 8 + 8 * L + 73 * most bytes, most as for a course; at most 58,920 bytes in all (64 laps, 800 commands);
    - a replacement: the same, with the new lap's most plus the fitted file's commands in all other laps;
    - an Arc drawn by Lines: 4,096 commands.
+   - the fewest straights of n points: n - 1 points;
    - a course read from path data: 8 + 8 * L + 73 * commands bytes, a lap for each M.
 
    STACK. Measured, not proved: firmware/stack.c fills a thread's stack with a pattern and runs the zigzags that are cut
-   most often (2,048 points, or 800 commands, each cut taking one point off): thinning recurses as deep as it cuts, a fit
+   most often (2,048 points, or 800 commands, each cut taking one point off): thinning recurses as deep as it cuts, and so
+   does the cut of the fewest straights (256 points); a fit
    does not. And the greatest circle drawn by Lines. firmware/run prints what it finds. On x86-64 Linux it was, in bytes, for the archive that this header came with:
      rt_simplify_polyline            231328 bytes
      rt_simplify_polyline_3d         231328 bytes
@@ -34,6 +36,7 @@
      rt_replace_lap                  228432 bytes
      rt_flatten_arc                    4992 bytes
      rt_read_course                     696 bytes
+     rt_fewest_straights              41976 bytes
    No input recurses deeper, since each cut takes a point off. What the innermost call takes beside that was measured on
    these zigzags alone, and bytes that a call reserves but never writes do not show: leave a margin of some KiB. */
 #ifndef PIZHGAROL_H
@@ -214,6 +217,18 @@ uint32_t rt_flatten_arc(
 uint32_t rt_read_course(
     const uint8_t *text, size_t text_bytes,
     uint8_t *out, size_t out_bytes, size_t *count);
+
+/* Finds, for printed maps, the fewest Lines from the first point to the last, forward through points of the list, each pair's line
+   deviation below the tolerance: a search in layers, in which each pair tested costs one of the budget. Each Line's end goes to
+   `out`, three numbers each, in order; *count is the Lines, *tested the pairs, and *bound a lower bound: the true fewest lies from
+   *bound to *count, and they are equal if the budget is at least n * (n - 1) / 2 (32,640 is enough for any list). Any budget is
+   accepted, 0 too. Refusals: PZ_NOT_WHOLE (points or out not whole points), PZ_TOO_MANY (fewer than 2 points, or more than
+   PZ_MOST_STRAIGHT_POINTS), PZ_BAD_NUMBER, PZ_BAD_TOLERANCE, PZ_NO_ROOM (out below n - 1 points). */
+#define PZ_MOST_STRAIGHT_POINTS 256u
+
+uint32_t rt_fewest_straights(
+    const double *points, size_t points_length, double tolerance, uint64_t budget,
+    double *out, size_t out_length, size_t *count, uint64_t *tested, size_t *bound);
 
 #ifdef __cplusplus
 }

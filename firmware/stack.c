@@ -120,6 +120,14 @@ static void *read_course(void *a)
     return a;
 }
 
+/* No budget: the answer is the recursive cut. */
+static void *find_straights(void *a)
+{
+    uint64_t tested;
+    answer = rt_fewest_straights(points, 3 * PZ_MOST_STRAIGHT_POINTS, 0.5, 0, out_nums, 3 * PZ_MOST_STRAIGHT_POINTS, &count, &tested, &ranges);
+    return a;
+}
+
 /* How many bytes of the thread's stack were touched. */
 static size_t depth(void *(*call)(void *))
 {
@@ -173,5 +181,6 @@ int main(void)
     missing |= row("rt_replace_lap", replace);
     missing |= row("rt_flatten_arc", draw_arc);
     missing |= row("rt_read_course", read_course);
+    missing |= row("rt_fewest_straights", find_straights);
     return missing;
 }

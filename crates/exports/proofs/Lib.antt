@@ -2,3 +2,4 @@ pub mod Answers
 pub mod Plain
 pub mod Runs
 pub mod LiveThinner
+pub mod Fewest

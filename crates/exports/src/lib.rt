@@ -16,3 +16,4 @@ pub mod live_thinner;
 pub mod numbers;
 pub mod points;
 pub mod simplifies;
+pub mod straights;

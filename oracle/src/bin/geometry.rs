@@ -6,6 +6,7 @@ geometry bezier COUNT SEED | geometry arc COUNT SEED | geometry grid | geometry 
 geometry simplify COUNT SEED | geometry grid-simplify | geometry bench-simplify
 geometry fit COUNT SEED | geometry recordings COUNT SEED | geometry grid-fit | geometry bench-fit | geometry zigzag-in KIB
 geometry flatten COUNT SEED | geometry bench-flatten
+geometry fewest COUNT SEED | geometry bench-fewest
 geometry course COUNT SEED | geometry laps COUNT SEED | geometry bench-laps
 geometry lapfit COUNT SEED | geometry bench-lapfit
 geometry live COUNT SEED | geometry bench-live
@@ -16,7 +17,7 @@ geometry list COUNT SEED";
 #[cfg(given)]
 fn run(words: &[String]) -> Option<bool> {
     use oracle::geometry::{
-        arc, bench_bezier, bench_fit, bench_flatten, bench_laps, bench_live, bench_simplify, bezier, course, fit,
+        arc, bench_bezier, bench_fewest, bench_fit, bench_flatten, bench_laps, bench_live, bench_simplify, bezier, course, fewest, fit,
         flatten, frame, grid, grid_fit, grid_simplify, laps, list, listing, live, simplify, svg,
     };
     use std::io::{BufWriter, stdout};
@@ -29,6 +30,8 @@ fn run(words: &[String]) -> Option<bool> {
         ("fit", [count, seed]) => Some(frame::run(&fit::FUNCTIONS, *count, *seed)),
         ("flatten", [count, seed]) => Some(frame::run(&flatten::FUNCTIONS, *count, *seed)),
         ("bench-flatten", []) => Some(bench_flatten::run()),
+        ("fewest", [count, seed]) => Some(frame::run(&fewest::FUNCTIONS, *count, *seed)),
+        ("bench-fewest", []) => Some(bench_fewest::run()),
         ("course", [count, seed]) => Some(frame::run(&course::FUNCTIONS, *count, *seed)),
         ("laps", [count, seed]) => Some(frame::run(&laps::FUNCTIONS, *count, *seed)),
         ("lapfit", [count, seed]) => Some(frame::run(&listing::FUNCTIONS, *count, *seed)),

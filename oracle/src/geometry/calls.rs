@@ -293,6 +293,18 @@ unsafe extern "C" {
         count: *mut usize,
     ) -> u32;
 
+    pub fn rt_fewest_straights(
+        points: *const f64,
+        length: usize,
+        tolerance: f64,
+        budget: u64,
+        out: *mut f64,
+        room: usize,
+        count: *mut usize,
+        tested: *mut u64,
+        bound: *mut usize,
+    ) -> u32;
+
     pub fn rt_fit_arcs(
         kinds: *const u8,
         count_kinds: usize,

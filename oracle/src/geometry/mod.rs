@@ -5,6 +5,7 @@
 pub mod arc;
 pub mod bench;
 pub mod bench_bezier;
+pub mod bench_fewest;
 pub mod bench_fit;
 pub mod bench_flatten;
 pub mod bench_laps;
@@ -16,6 +17,7 @@ pub mod calls;
 pub mod circle;
 pub mod course;
 pub mod draw;
+pub mod fewest;
 pub mod fit;
 pub mod flatten;
 pub mod frame;

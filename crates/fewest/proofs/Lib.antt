@@ -1,0 +1,4 @@
+pub mod Cut
+pub mod Trace
+pub mod Whole
+pub mod Straights

@@ -1,0 +1,4 @@
+pub mod Straights
+pub mod Calls
+pub mod Laws
+pub mod Lent
