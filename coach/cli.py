@@ -38,6 +38,14 @@ def change(word):
     return float(time), float(tolerance)
 
 
+def pairs(word):
+    """A budget: a whole number of 64 bits."""
+    found = int(word)
+    if not 0 <= found < 2 ** 64:
+        raise ValueError(word)
+    return found
+
+
 def columns(word):
     """Names of columns; '-' skips one."""
     names = word.split(",")
@@ -82,6 +90,8 @@ COMMANDS = {
     "advise": (commands.advise, "which tolerance to take, from the receiver's noise", ("workout",), ("reading", "to", "force")),
     "live": (commands.live, "play a recording as the watch draws it: where each end of a straight came out, and how late",
              ("workout", "tolerance"), ("reading", "to", "force")),
+    "map": (commands.print_map, "a map to print: the fewest straights of a lap, over its positions",
+            ("workout", "lap", "tolerance", "drawing"), ("reading", "force")),
     "replace": (commands.replace, "put another recording in the place of a lap, and fit it",
                 ("lap", "new_lap", "tolerance", "workout", "fitted", "new_workout", "new_fitted"), ("reading", "force")),
     "lines": (commands.lines, "a fitted file for older screens: every Arc as Lines", ("tolerance", "fitted", "lines"), ("force",)),
@@ -125,6 +135,9 @@ def special(name, parser):
     if name == "live":
         parser.add_argument("--change", type=change, action="append", default=[], metavar="TIME:TOLERANCE",
                             help="a new tolerance at a time of the workout, in its lap from then on; may be given several times")
+    if name == "map":
+        parser.add_argument("--budget", type=pairs, default=32640, metavar="PAIRS",
+                            help="how many pairs may be tested (default %(default)s, which is enough for any lap)")
     if name == "gpx":
         parser.add_argument("--workout", help="the recording, for times and the place on the earth")
         parser.add_argument("--origin", type=numbers(2, 3), metavar="LAT,LON", help="where (0, 0) is on the earth")

@@ -12,6 +12,7 @@ from geometry import strokes_of
 from gpx import gpx_text
 from lapfile import BEZIER, commands_of, file_of
 from live import live_text
+from maps import map_of
 from page import page_of
 from pathdata import path_data
 from picture import picture_of, svg_of
@@ -119,6 +120,16 @@ def advise(files, words):
 def live(files, words):
     workout = recording(files, words.workout, words)
     files.save((words.to, live_text(workout, words.tolerance, words.change, label(words.workout)).encode()))
+
+
+def print_map(files, words):
+    """The fewest straights of one lap, drawn over its positions."""
+    workout = recording(files, words.workout, words)
+    if not 1 <= words.lap <= len(workout.laps):
+        raise Refused(7)
+    picture, line = map_of(workout.laps[words.lap - 1], words.lap, words.tolerance, words.budget, f"{label(words.workout)}, lap {words.lap}")
+    files.save((words.drawing, picture.encode()))
+    return told(line, words.drawing)
 
 
 def replace(files, words):

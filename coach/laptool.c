@@ -240,6 +240,28 @@ static int live(char **words)
     return fflush(stdout) ? fail(strerror(errno), "standard output") : (int)refused;
 }
 
+/* The fewest straights through the points of standard input: a line with count, pairs tested and bound, and then the ends. */
+static int straights(char **words)
+{
+    static double points[3 * (PZ_MOST_STRAIGHT_POINTS + 1)], ends[3 * PZ_MOST_STRAIGHT_POINTS];
+    char line[256];
+    size_t n = 0, count = 0, bound = 0;
+    uint64_t tested = 0;
+    while (n <= PZ_MOST_STRAIGHT_POINTS && fgets(line, sizeof line, stdin)) {
+        double *at = points + 3 * n++;
+        if (sscanf(line, "%lf %lf %lf", at, at + 1, at + 2) != 3) {
+            fail("is no point", line);
+        }
+    }
+    uint32_t refused = rt_fewest_straights(points, 3 * n, number(words[0]), strtoull(words[1], NULL, 10),
+        ends, sizeof ends / sizeof *ends, &count, &tested, &bound);
+    if (!refused) {
+        printf("%zu %llu %zu\n", count, (unsigned long long)tested, bound);
+        print_ends(0, ends, count);
+    }
+    return fflush(stdout) ? fail(strerror(errno), "standard output") : (int)refused;
+}
+
 static void put_u32(unsigned char *at, size_t value)
 {
     for (int i = 0; i < 4; i++) {
@@ -353,6 +375,9 @@ int main(int argc, char **argv)
     if (argc == 3 && !strcmp(argv[1], "live")) {
         return live(argv + 2);
     }
+    if (argc == 4 && !strcmp(argv[1], "straights")) {
+        return straights(argv + 2);
+    }
     if (argc == 5 && !strcmp(argv[1], "lines")) {
         return lines(argv + 2, force);
     }
@@ -362,6 +387,7 @@ int main(int argc, char **argv)
     fprintf(stderr, "laptool [--force] fit TOLERANCE RECORDED FITTED\n"
         "laptool [--force] replace RECORDED FITTED LAP NEW_LAP TOLERANCE OUT\n"
         "laptool live TOLERANCE\n"
+        "laptool straights TOLERANCE BUDGET\n"
         "laptool [--force] lines TOLERANCE FITTED OUT\n"
         "laptool [--force] read TEXT RECORDED\n");
     return OTHER;

@@ -74,3 +74,15 @@ def live_ends(tolerance, calls, name):
         raise Refused(refused, name)
     ends = (line.split() for line in written.decode().splitlines())
     return [(int(call) - 1, tuple(map(float, place))) for call, *place in ends]
+
+
+def fewest_straights(tolerance, budget, places, name):
+    """The ends of the fewest straights that the budget finds, the pairs tested, and the lower bound of their count."""
+    lines = "".join(" ".join(map(repr, map(float, place))) + "\n" for place in places)
+    written, refused = run(["straights", tolerance, budget], lines.encode())
+    if refused == 2:
+        raise Refused(refused, name + ": a map takes laps of 2 to 256 positions; this one has " + str(len(places)))
+    if refused:
+        raise Refused(refused, name)
+    head, *ends = (line.split() for line in written.decode().splitlines())
+    return [tuple(map(float, end[1:])) for end in ends], int(head[1]), int(head[2])
