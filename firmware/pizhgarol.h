@@ -30,10 +30,10 @@
      rt_simplify_polyline            231328 bytes
      rt_simplify_polyline_3d         231328 bytes
      rt_simplify_data                117200 bytes
-     rt_fit_points_with_primitives     4480 bytes
-     rt_fit_arcs                     111648 bytes
-     rt_fit_file                     228496 bytes
-     rt_replace_lap                  228432 bytes
+     rt_fit_points_with_primitives     4608 bytes
+     rt_fit_arcs                     113728 bytes
+     rt_fit_file                     230576 bytes
+     rt_replace_lap                  230512 bytes
      rt_flatten_arc                    4992 bytes
      rt_read_course                     696 bytes
      rt_fewest_straights              41976 bytes
