@@ -2,7 +2,7 @@
 use Prim.Native.Nat.{ℕ, zero, suc, _+_}
 use mathlib.Core.Path.{_≡_, sym, ap, _∙_}
 use mathlib.Core.Logic.{⊎-elim}
-use mathlib.Core.Bool.{false}
+use mathlib.Core.Bool.{true, false}
 use lib.Ieee.{Float, lt}
 use Rattle.floats.specs.Ops.{_⊖_}
 use Rattle.floats.specs.Root.{rootOf}
@@ -15,6 +15,8 @@ use Rattle.circle.specs.declared.circle.Deviation.{Deviation}
 use Rattle.circle.specs.Worst.{worse}
 use Rattle.circle.specs.Three.{radiusFrom}
 use Rattle.trial.specs.declared.trial.Spoke.{Spoke}
+use Rattle.trial.specs.declared.trial.Measured.the-variants.{Within, Outside}
+use Rattle.trial.specs.Trial.{measuredBy}
 use Rattle.trial.specs.Deviation.{spokeOf, stepOf, stepBetween}
 
 -- d is the deviation of the step from p′ to q′, by spokes and a length that were worked out
@@ -50,5 +52,15 @@ far-stays f zero i w tol h = h
 far-stays f (suc n) i w tol h = far-stays f n (i + 1) (worse (f i) i w) tol (stays (f i) i w tol h)
 
 -- the walk may end as soon as the greatest so far is not below the tolerance
-pub too-far : (f : ℕ → Float) (n i : ℕ) (w all : Deviation) (tol : Float) → lt (w .dist) tol ≡ false → fold (walk f) n i w ≡ all → false ≡ lt (all .dist) tol
-too-far f n i w all tol h e = sym (ap (λ (x : Deviation). lt (x .dist) tol) (sym e) ∙ far-stays f n i w tol h)
+pub too-far : (f : ℕ → Float) (n i : ℕ) (w all : Deviation) (tol : Float) → lt (w .dist) tol ≡ false → fold (walk f) n i w ≡ all → Outside ≡ measuredBy all tol
+unfolding measuredBy
+too-far f n i w all tol h e = let g : lt (all .dist) tol ≡ false = ap (λ (x : Deviation). lt (x .dist) tol) (sym e) ∙ far-stays f n i w tol h in rw g
+
+-- at its end the greatest is that of all, by the test
+pub all-within : (w all : Deviation) (tol : Float) → w ≡ all → lt (w .dist) tol ≡ true → Within (w .index) ≡ measuredBy all tol
+unfolding measuredBy
+all-within w all tol e h = rw (← e, h)
+
+pub not-within : (w all : Deviation) (tol : Float) → w ≡ all → lt (w .dist) tol ≡ false → Outside ≡ measuredBy all tol
+unfolding measuredBy
+not-within w all tol e h = rw (← e, h)

@@ -1,4 +1,5 @@
--- The arc of a range is that of the first trial, else that of the second, and an arc that either found passes: by the tests of the definitions. Assumes nothing.
+-- The arc of a range is that of the first trial, else that of the second; an arc that either found passes, and its worst step is its deviation's: by the tests of the
+-- definitions. Assumes nothing.
 use Prim.Native.Nat.{ℕ, _+_, _-_}
 use mathlib.Core.Path.{_≡_, refl, sym, _∙_, subst}
 use mathlib.Core.Logic.{⊎-elim}
@@ -18,20 +19,20 @@ use Rattle.trial.specs.declared.trial.Trial.{Trial}
 use Rattle.trial.specs.declared.trial.Trial.the-variants.{Arc, None}
 use Rattle.trial.specs.Deviation.{arcDeviation}
 use Rattle.trial.specs.Traversal.{traverses}
-use Rattle.trial.specs.Trial.{sharpAt, closedRange, trialRound, trialOf, ofCircle, ofCenter, trialThree, trialLeast, threeTried, leastTried, orElse, tryArcs}
+use Rattle.trial.specs.Trial.{sharpAt, closedRange, measuredBy, goingRound, ofMeasured, trialRound, trialOf, ofCircle, ofCenter, trialThree, trialLeast, threeTried, leastTried, orElse, tryArcs}
 use Rattle.trial.specs.Laws.{ArcPasses}
 
--- ---- what a trial found passes
+-- ---- what a trial found passes, and its worst step is the first of its greatest deviation
 abbrev Found : Float → (ℕ → Point3D) → ℕ → ℕ → Trial → Type 0
-Found tol at lo hi (Arc c d) = ArcPasses tol at lo hi c d
+Found tol at lo hi (Arc c d w) = ArcPasses tol at lo hi c d × (w ≡ arcDeviation c (radiusFrom c (at lo)) at lo hi .index)
 Found tol at lo hi None = Unit
 
 module _ (tol : Float) (at : ℕ → Point3D) (lo hi : ℕ) where
   found-round : (c : Point) → Found tol at lo hi (trialRound at lo hi tol c)
-  unfolding trialRound
+  unfolding trialRound measuredBy ofMeasured goingRound
   found-round c =
       ⊎-elim
-      (λ h. rw h (⊎-elim (λ g. rw g (record { deviation = h; traversal = g; direction = refl })) (λ g. rw g tt) (either (traverses c at lo hi))))
+      (λ h. rw h (⊎-elim (λ g. rw g (record { deviation = h; traversal = g; direction = refl }, refl)) (λ g. rw g tt) (either (traverses c at lo hi))))
       (λ h. rw h tt) (either (lt (arcDeviation c (radiusFrom c (at lo)) at lo hi .dist) tol))
 
   found-circle : (c : Option Circle) → Found tol at lo hi (ofCircle at lo hi tol c)
@@ -62,12 +63,12 @@ module _ (tol : Float) (at : ℕ → Point3D) (lo hi : ℕ) where
       (either (sharpAt at lo hi k))
 
   -- An arc that the trial by three points found passes,
-  pub three-passes : (k : ℕ) (c : Point) (d : Bool) → threeTried at lo hi k tol ≡ Arc c d → ArcPasses tol at lo hi c d
-  three-passes k c d e = subst (Found tol at lo hi) e (found-three k)
+  pub three-passes : (k : ℕ) (c : Point) (d : Bool) (w : ℕ) → threeTried at lo hi k tol ≡ Arc c d w → ArcPasses tol at lo hi c d
+  three-passes k c d w e = subst (Found tol at lo hi) e (found-three k) .0
 
   -- and so does one that the trial by least squares found.
-  pub least-passes : (k : ℕ) (c : Point) (d : Bool) → leastTried at lo hi k tol ≡ Arc c d → ArcPasses tol at lo hi c d
-  least-passes k c d e = subst (Found tol at lo hi) e (found-least k)
+  pub least-passes : (k : ℕ) (c : Point) (d : Bool) (w : ℕ) → leastTried at lo hi k tol ≡ Arc c d w → ArcPasses tol at lo hi c d
+  least-passes k c d w e = subst (Found tol at lo hi) e (found-least k) .0
 
 -- ---- the first that passes
 module _ (at : ℕ → Point3D) (lo hi k : ℕ) (tol : Float) where
@@ -83,9 +84,9 @@ module _ (at : ℕ → Point3D) (lo hi k : ℕ) (tol : Float) where
       go false false false p q r = rw (p, q, r)
 
   -- Where the trial by three points gives an Arc, that is the range's arc,
-  pub first-tried : (c : Point) (d : Bool) → threeTried at lo hi k tol ≡ Arc c d → tryArcs at lo hi k tol ≡ Arc c d
+  pub first-tried : (c : Point) (d : Bool) (w : ℕ) → threeTried at lo hi k tol ≡ Arc c d w → tryArcs at lo hi k tol ≡ Arc c d w
   unfolding orElse
-  first-tried c d e = tried-both ∙ rw e
+  first-tried c d w e = tried-both ∙ rw e
 
   -- where it fails, what the trial by least squares gives,
   pub second-tried : threeTried at lo hi k tol ≡ None → tryArcs at lo hi k tol ≡ leastTried at lo hi k tol
@@ -98,5 +99,16 @@ module _ (at : ℕ → Point3D) (lo hi k : ℕ) (tol : Float) where
   none-tried e = neither (threeTried at lo hi k tol) (leastTried at lo hi k tol) (sym tried-both ∙ e)
     where
       neither : (a b : Trial) → orElse a b ≡ None → (a ≡ None) × (b ≡ None)
-      neither (Arc m d) b e = absurd (let z : _≡_ {A = ℕ} 0 1 = cc in omega arith)
+      neither (Arc m d w) b e = absurd (let z : _≡_ {A = ℕ} 0 1 = cc in omega arith)
       neither None b e = (refl, e)
+
+  found-or : (t u : Trial) → Found tol at lo hi t → Found tol at lo hi u → Found tol at lo hi (orElse t u)
+  unfolding orElse
+  found-or (Arc c d w) u p q = p
+  found-or None u p q = q
+
+  -- The worst step of the range's arc is the first that reaches the arc's deviation, 0 where that is 0.
+  pub tried-worst : (c : Point) (d : Bool) (w : ℕ) → tryArcs at lo hi k tol ≡ Arc c d w → w ≡ arcDeviation c (radiusFrom c (at lo)) at lo hi .index
+  tried-worst c d w e =
+      subst (Found tol at lo hi) (sym tried-both ∙ e)
+      (found-or (threeTried at lo hi k tol) (leastTried at lo hi k tol) (found-three tol at lo hi k) (found-least tol at lo hi k)) .1

@@ -49,7 +49,8 @@ unfoldable pub stepBetween : Point → Float → Point3D → Point3D → Float
 unfolding stepOf spokeOf
 stepBetween m r p q = stepOf r (lengthOf (q .x ⊖ p .x) (q .y ⊖ p .y)) (spokeOf m p) (spokeOf m q)
 
--- the greatest deviation of a step of the points from lo to hi, and the first step that has it
+-- The greatest deviation of a step of the points from lo to hi, and the index "of the first step that reaches" it, a step's index being that of the point it starts at:
+-- "0 if there are no steps or it is 0" (document 02, §5). The walk begins with 0 at index 0, and only what is above takes its place.
 unfoldable pub arcDeviation : Point → Float → (ℕ → Point3D) → ℕ → ℕ → Deviation
 unfolding worst stepBetween
-arcDeviation m r at lo hi = worst (λ i. stepBetween m r (at i) (at (i + 1))) (hi - lo) lo (record { dist = +0; index = lo })
+arcDeviation m r at lo hi = worst (λ i. stepBetween m r (at i) (at (i + 1))) (hi - lo) lo (record { dist = +0; index = 0 })

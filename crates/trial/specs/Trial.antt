@@ -14,6 +14,9 @@ use Rattle.floats.specs.Limits.{millionth}
 use Rattle.circle.specs.Three.{Circle, radiusFrom, throughThree}
 use Rattle.circle.specs.Kasa.{kasaCenter}
 use Rattle.circle.specs.Bisector.{projected}
+use Rattle.circle.specs.declared.circle.Deviation.{Deviation}
+use Rattle.trial.specs.declared.trial.Measured.{Measured}
+use Rattle.trial.specs.declared.trial.Measured.the-variants.{Within, Outside}
 use Rattle.trial.specs.declared.trial.Trial.{Trial}
 use Rattle.trial.specs.declared.trial.Trial.the-variants.{Arc, None}
 use Rattle.trial.specs.Deviation.{noDirection, arcDeviation}
@@ -45,13 +48,23 @@ sharpAt at lo hi k = ltb lo k && (ltb k hi && sharpTurn (at (k - 1)) (at k) (at 
 unfoldable pub closedRange : Point3D → Point3D → Bool
 closedRange a b = lengthOf (a .x ⊖ b .x) (a .y ⊖ b .y) ≺ closedWithin
 
+-- a deviation w below the tolerance, with its worst step; or not
+unfoldable pub measuredBy : Deviation → Float → Measured
+measuredBy w tol = if w .dist ≺ tol then Within (w .index) else Outside
+
+-- the arc round m whose worst step is k: it passes where it goes less than a whole turn
+unfoldable pub goingRound : (ℕ → Point3D) → ℕ → ℕ → Point → ℕ → Trial
+goingRound at lo hi m k = if traverses m at lo hi then Arc m (clockwise (λ i. flatten (at i)) lo hi m) k else None
+
+-- a measured arc round m
+unfoldable pub ofMeasured : (ℕ → Point3D) → ℕ → ℕ → Point → Measured → Trial
+ofMeasured at lo hi m (Within k) = goingRound at lo hi m k
+ofMeasured at lo hi m Outside = None
+
 -- the arc round m, which is on the bisector already: its deviation is below the tolerance, and it goes less than a whole turn.
 -- The radius is measured again, from m to the first point.
 unfoldable pub trialRound : (ℕ → Point3D) → ℕ → ℕ → Float → Point → Trial
-trialRound at lo hi tol m =
-    if arcDeviation m (radiusFrom m (at lo)) at lo hi .dist ≺ tol
-    then (if traverses m at lo hi then Arc m (clockwise (λ i. flatten (at i)) lo hi m) else None)
-    else None
+trialRound at lo hi tol m = ofMeasured at lo hi m (measuredBy (arcDeviation m (radiusFrom m (at lo)) at lo hi) tol)
 
 -- the arc round a fitted centre, projected to the bisector of the range's ends
 unfoldable pub trialOf : (ℕ → Point3D) → ℕ → ℕ → Float → Point → Trial
@@ -90,7 +103,7 @@ leastTried at lo hi k tol =
 
 -- ---- both, the first that passes
 unfoldable pub orElse : Trial → Trial → Trial
-orElse (Arc m d) u = Arc m d
+orElse (Arc m d k) u = Arc m d k
 orElse None u = u
 
 -- The arc of the first trial that passes. A sharp turn or a closed range blocks both; the trial by three points is made for three points only.

@@ -16,7 +16,6 @@ use geo::types::Point3D;
 ghost use mathlib.Core.Path.{_≡_};
 ghost use Prim.Native.Nat.{_+_, _*_, _<_, _≤_};
 ghost use lib.ListN.{length};
-ghost use lib.Ieee.{lt};
 ghost use lib.Signed.{mag};
 ghost use Rattle.floats.specs.Ops.{_⊖_};
 ghost use Rattle.floats.specs.Root.{rootOf};
@@ -26,7 +25,7 @@ ghost use Rattle.arc.specs.Direction.{clockwise};
 ghost use Rattle.circle.specs.Three.{radiusFrom};
 ghost use Rattle.trial.specs.Deviation.{spokeOf, sagittaOf, endsOf, stepOf, arcDeviation};
 ghost use Rattle.trial.specs.Traversal.{offsetOf, cross2, dot2, atCentre, halfOf, turned, justBehind, justAhead, passesBy, traverses};
-ghost use Rattle.trial.specs.Trial.{sharpTurn, sharpAt, closedRange, trialOf, trialThree, trialLeast, orElse, tryArcs};
+ghost use Rattle.trial.specs.Trial.{sharpTurn, sharpAt, closedRange, measuredBy, goingRound, trialOf, trialThree, trialLeast, orElse, tryArcs};
 
 // A point seen from a centre: its offset and its distance.
 pub struct Spoke {
@@ -107,15 +106,15 @@ fn deviation_of_step(p: Point3D, q: Point3D, s: Spoke, t: Spoke, r: f64, square:
     step_deviation(sqrt(l), s, t, r)
 }
 
-// The greatest deviation of a step from the arc, and the first step that has it. A point's distance from the centre is
-// worked out once: it serves the step before and the step after.
+// The greatest deviation of a step from the arc, and the first step that has it, 0 where there is none above 0. A
+// point's distance from the centre is worked out once: it serves the step before and the step after.
 pub fn arc_deviation(points: &[f64], start: usize, end: usize, m: Point, r: f64) -> Deviation
     requires { ⌜ (start ≤ end) × (3 * end + 2 < length (now points)) ⌝ }
     ensures { λ w. ⌜ w ≡ arcDeviation m r (pointAt (now (points .entry))) start end ⌝ }
 {
     let mut worst = Deviation {
         dist: 0.0,
-        index: start,
+        index: 0,
     };
     let mut p = point_at(points, start);
     let mut s = Spoke::new(m, p);
@@ -130,22 +129,28 @@ pub fn arc_deviation(points: &[f64], start: usize, end: usize, m: Point, r: f64)
     worst
 }
 
-// Whether that deviation is below the tolerance, where `first` is the first point's spoke and its length the radius: the
-// walk ends at the first step that is not.
-fn is_arc_within(
+// What the walk along an arc's steps found: each is below the tolerance, and which is the worst; or one is not.
+enum Measured {
+    Within(usize),
+    Outside,
+}
+
+// Whether that deviation is below the tolerance, and its step, where `first` is the first point's spoke and its length
+// the radius: the walk ends at the first step that is not.
+fn measure_arc(
     points: &[f64],
     start: usize,
     end: usize,
     m: Point,
     first: Spoke,
     tolerance: f64,
-) -> bool
+) -> Measured
     requires { ⌜ (first ≡ spokeOf m (pointAt (now points) start)) × ((start ≤ end) × (3 * end + 2 < length (now points))) ⌝ }
-    ensures { λ b. ⌜ b ≡ lt (arcDeviation m (radiusFrom m (pointAt (now (points .entry)) start)) (pointAt (now (points .entry))) start end .dist) tolerance ⌝ }
+    ensures { λ t. ⌜ t ≡ measuredBy (arcDeviation m (radiusFrom m (pointAt (now (points .entry)) start)) (pointAt (now (points .entry))) start end) tolerance ⌝ }
 {
     let mut worst = Deviation {
         dist: 0.0,
-        index: start,
+        index: 0,
     };
     let mut p = point_at(points, start);
     let mut s = first;
@@ -157,12 +162,15 @@ fn is_arc_within(
         worst = worst.or(deviation_of_step(p, q, s, t, r, square), i);
         let ok = worst.dist < tolerance;
         if !ok {
-            return false;
+            return Measured::Outside;
         }
         p = q;
         s = t;
     }
-    worst.dist < tolerance
+    if worst.dist < tolerance {
+        return Measured::Within(worst.index);
+    }
+    Measured::Outside
 }
 
 fn offset(m: Point, p: Point3D) -> Point
@@ -341,9 +349,13 @@ fn is_sharp(points: &[f64], start: usize, end: usize, split: usize) -> bool
     false
 }
 
-// What an arc trial found: the arc's centre and direction, or nothing.
+// What an arc trial found: the arc's centre, its direction and its worst step, or nothing.
 pub enum Trial {
-    Arc { center: Point, clockwise: bool },
+    Arc {
+        center: Point,
+        clockwise: bool,
+        worst: usize,
+    },
     None,
 }
 
@@ -360,6 +372,22 @@ impl Trial {
     // How near the last point may come to the first, as a share of a radius.
     const NEAR: f64 = 0.001;
 
+    // The arc round a centre from which every step is within the tolerance: it passes where it goes less than a whole turn.
+    fn going(points: &[f64], start: usize, end: usize, center: Point, worst: usize) -> Self
+        requires { ⌜ (start ≤ end) × (end < 2048) × (3 * end + 2 < length (now points)) ⌝ }
+        ensures { λ r. ⌜ r ≡ goingRound (pointAt (now (points .entry))) start end center worst ⌝ }
+    {
+        if !traversal_passes(points, start, end, center) {
+            return Trial::None;
+        }
+        let clockwise = goes_clockwise(points, start, end, center);
+        Trial::Arc {
+            center,
+            clockwise,
+            worst,
+        }
+    }
+
     // The arc round a fitted centre, moved to the bisector of the range's ends. Its radius is measured again from there.
     fn round(points: &[f64], start: usize, end: usize, tolerance: f64, fitted: Point) -> Self
         requires { ⌜ (start ≤ end) × (end < 2048) × (3 * end + 2 < length (now points)) ⌝ }
@@ -368,14 +396,11 @@ impl Trial {
         let a = point_at(points, start);
         let center = to_bisector(a, point_at(points, end), fitted);
         let first = Spoke::new(center, a);
-        if !is_arc_within(points, start, end, center, first, tolerance) {
-            return Trial::None;
+        let t = measure_arc(points, start, end, center, first, tolerance);
+        match t {
+            Measured::Within(worst) => Trial::going(points, start, end, center, worst),
+            Measured::Outside => Trial::None,
         }
-        if !traversal_passes(points, start, end, center) {
-            return Trial::None;
-        }
-        let clockwise = goes_clockwise(points, start, end, center);
-        Trial::Arc { center, clockwise }
     }
 
     // By the circle through the range's first, second and last point.
@@ -414,7 +439,15 @@ impl Trial {
     {
         let t = Trial::of_three(points, start, end, tolerance);
         match t {
-            Trial::Arc { center, clockwise } => Trial::Arc { center, clockwise },
+            Trial::Arc {
+                center,
+                clockwise,
+                worst,
+            } => Trial::Arc {
+                center,
+                clockwise,
+                worst,
+            },
             Trial::None => Trial::of_least_squares(points, start, end, tolerance),
         }
     }

@@ -1,9 +1,8 @@
 -- `trial::trial::Trial::round` meets its contract: the callees' promises, in the order of the tests. Assumes nothing.
 use mathlib.Core.Path.{ap, _∙_}
 use native.Mathlib.Omega.{arith}
-use borrow.Author.Tests.{not-true, not-false}
 use Rattle.trial.specs.Deviation.{spokeOf}
-use Rattle.trial.specs.Trial.{trialOf, trialRound}
+use Rattle.trial.specs.Trial.{ofMeasured, trialRound, trialOf}
 use borrow.Author.Needs.{needs}
 use Rattle.trial.proofs.trial.Trial.round.Statement.{statement}
 use Rattle.trial.proofs.trial.Trial.round.Tie as tie
@@ -20,29 +19,27 @@ to-bisector-requires c κs = search needs
 new-requires : tie.Need-new-requires
 new-requires c κs = search needs
 
-is-arc-within-requires : tie.Need-is-arc-within-requires
-is-arc-within-requires c κs = (c .new .ensures ∙ ap (spokeOf _) (c .before .before .before .point-at .ensures), (omega arith, omega arith))
+measure-arc-requires : tie.Need-measure-arc-requires
+measure-arc-requires c κs = (c .new .ensures ∙ ap (spokeOf _) (c .before .before .before .point-at .ensures), (omega arith, omega arith))
+
+enum-known-t : tie.Need-enum-known-t
+enum-known-t c = search needs
+
+going-requires : tie.Need-going-requires
+going-requires c κs = search needs
+
+enum-told : tie.Need-enum-told
+enum-told c = search needs
 
 returns : tie.Need-returns
-unfolding trialOf trialRound
-returns c = let e = rw (c .before .before .before .before .before .point-at .ensures, c .before .before .before .before .point-at2 .ensures) at (c .before .before .before .to-bisector .ensures) in
-    rw (← e, ← c .before .is-arc-within .ensures, not-true (c .before .is-arc-within .result) (c .if1 .taken))
-
-traversal-passes-requires : tie.Need-traversal-passes-requires
-traversal-passes-requires c κs = search needs
+unfolding trialOf trialRound ofMeasured
+returns c = let e = rw (c .before .before .before .before .before .before .before .before .point-at .ensures, c .before .before .before .before .before .before .before .point-at2 .ensures) at (c .before .before .before .before .before .before .to-bisector .ensures) in
+    rw (← e, ← c .before .before .before .before .measure-arc .ensures, c .before .before .t .given .1) (c .going .ensures)
 
 returns-2 : tie.Need-returns-2
-unfolding trialOf trialRound
-returns-2 c = let e = rw (c .before .before .before .before .before .before .before .point-at .ensures, c .before .before .before .before .before .before .point-at2 .ensures) at (c .before .before .before .before .before .to-bisector .ensures) in
-    rw (← e, ← c .before .before .before .is-arc-within .ensures, not-false (c .before .before .before .is-arc-within .result) (c .before .before .if1 .left), ← c .before .traversal-passes .ensures, not-true (c .before .traversal-passes .result) (c .if2 .taken))
-
-goes-clockwise-requires : tie.Need-goes-clockwise-requires
-goes-clockwise-requires c κs = search needs
-
-returns-3 : tie.Need-returns-3
-unfolding trialOf trialRound
-returns-3 c = let e = rw (c .before .before .before .before .before .before .before .before .point-at .ensures, c .before .before .before .before .before .before .before .point-at2 .ensures) at (c .before .before .before .before .before .before .to-bisector .ensures) in
-    rw (← e, ← c .before .before .before .before .is-arc-within .ensures, not-false (c .before .before .before .before .is-arc-within .result) (c .before .before .before .if1 .left), ← c .before .before .traversal-passes .ensures, not-false (c .before .before .traversal-passes .result) (c .before .if2 .left), c .goes-clockwise .ensures)
+unfolding trialOf trialRound ofMeasured
+returns-2 c = let e = rw (c .before .before .before .before .before .before .point-at .ensures, c .before .before .before .before .before .point-at2 .ensures) at (c .before .before .before .before .to-bisector .ensures) in
+    rw (← e, ← c .before .before .measure-arc .ensures, c .enum-told .given .1)
 
 pub round-spec : {M : Type 1} → statement M
 round-spec =
@@ -52,9 +49,9 @@ round-spec =
     point-at-requires-2
     to-bisector-requires
     new-requires
-    is-arc-within-requires
+    measure-arc-requires
+    enum-known-t
+    going-requires
+    enum-told
     returns
-    traversal-passes-requires
-    returns-2
-    goes-clockwise-requires
-    returns-3)
+    returns-2)

@@ -1,4 +1,4 @@
--- `trial::trial::is_arc_within` meets its contract: as for `arc_deviation`, with the length of the spoke that is handed in for a radius; and a greatest deviation that is not below the tolerance stays so, so the walk may end there. Assumes nothing.
+-- `trial::trial::measure_arc` meets its contract: as for `arc_deviation`, with the length of the spoke that is handed in for a radius; and a greatest deviation that is not below the tolerance stays so, so the walk may end there. Assumes nothing.
 use mathlib.Core.Path.{_≡_, refl, ap, _∙_}
 use Prim.Native.Nat.{_+_, _-_, _≤_}
 use native.Mathlib.Omega.{arith}
@@ -12,9 +12,9 @@ use Rattle.circle.specs.declared.circle.Deviation.{Deviation}
 use Rattle.circle.specs.Worst.{worse, worst as worstOf}
 use Rattle.circle.specs.Three.{radiusFrom}
 use Rattle.trial.specs.Deviation.{spokeOf, stepBetween, arcDeviation}
-use Rattle.trial.proofs.Steps.{walk, step-is, spoke-length, spoke-root, too-far}
-use Rattle.trial.proofs.trial.is_arc_within.Statement.{statement}
-use Rattle.trial.proofs.trial.is_arc_within.Tie as tie
+use Rattle.trial.proofs.Steps.{walk, step-is, spoke-length, spoke-root, too-far, all-within, not-within}
+use Rattle.trial.proofs.trial.measure_arc.Statement.{statement}
+use Rattle.trial.proofs.trial.measure_arc.Tie as tie
 
 abbrev Inv-loop : tie.InvT-loop
 Inv-loop points start end m tolerance worst₀ p₀ s₀ r square i₀ worst p s i = (start ≤ i) × (i ≤ end) × (p ≡ pointAt points i) × (s ≡ spokeOf m (pointAt points i)) × (fold (walk (λ j. stepBetween m r (pointAt points j) (pointAt points (j + 1)))) (end - i) i worst ≡ arcDeviation m (radiusFrom m (pointAt points start)) (pointAt points) start end)
@@ -71,11 +71,15 @@ loop-again c = let a = c .before .before .before .before .before .before .before
     (omega arith, omega arith, c .before .before .before .before .before .point-at2 .ensures, c .before .before .before .before .new .ensures ∙ ap (spokeOf _) (c .before .before .before .before .before .point-at2 .ensures), f)
 
 returns-2 : tie.Need-returns-2 Inv-loop μ-loop
-returns-2 c = let a = c .before .before .before .before .before .before .before .args in
-    ap (λ (w : Deviation). lt (w .dist) (a .tolerance)) (fold-done _ (a .end) _ _ _ (c .before .loop-test .left) (c .before .before .loop .inv .4))
+returns-2 c = let a = c .before .before .before .before .before .before .before .before .args in
+    all-within _ _ (a .tolerance) (fold-done _ (a .end) _ _ _ (c .before .before .loop-test .left) (c .before .before .before .loop .inv .4)) (c .if2 .taken)
 
-pub is-arc-within-spec : {M : Type 1} → statement M
-is-arc-within-spec =
+returns-3 : tie.Need-returns-3 Inv-loop μ-loop
+returns-3 c = let a = c .before .before .before .before .before .before .before .before .args in
+    not-within _ _ (a .tolerance) (fold-done _ (a .end) _ _ _ (c .before .before .loop-test .left) (c .before .before .before .loop .inv .4)) (c .if2 .left)
+
+pub measure-arc-spec : {M : Type 1} → statement M
+measure-arc-spec =
     tie.close
     (tie.spec
     Inv-loop
@@ -91,4 +95,5 @@ is-arc-within-spec =
     add-i
     loop-less
     loop-again
-    returns-2)
+    returns-2
+    returns-3)
