@@ -8,6 +8,7 @@ use native.Mathlib.Omega.{arith}
 use borrow.Author.Tests.{ltb-true, ltb-false, lt-ltb, le-ltb, le-leb, lt-leb, not-false}
 use lib.ListN.{length}
 use lib.Dec.{ltb, leb}
+use lib.Seq.{sets}
 use lib.Ieee.{Float, below}
 use Rattle.floats.specs.Ops.{_≺_, +0}
 use Rattle.floats.proofs.Order.{lt-or-ge}
@@ -17,23 +18,25 @@ use Rattle.geo.specs.declared.types.Answer.{Answer}
 use Rattle.geo.specs.declared.types.Answer.the-variants.{Written}
 use Rattle.geo.specs.Commands.{WroteCommands}
 use Rattle.geo.specs.Lent.{pointAt, flat, numbersOf}
-use Rattle.geo.specs.Outcome.{Row, refusal, unless}
+use Rattle.geo.specs.Outcome.{Row, refusal, unless, left, Wrote}
 use Rattle.geo.proofs.Tolerance.{tolerance-positive}
 use Rattle.geo.proofs.Rows.{row-passes, row-passed, refusal-front, unless-refused, unless-gives}
-use Rattle.geo.proofs.Outcomes.{commands-given, nine}
+use Rattle.geo.proofs.Outcomes.{wrote-given, commands-given, nine}
 use Rattle.geo.proofs.Flat.{flat-length}
 use Rattle.simplify.specs.Measure.{lineSq}
 use Rattle.circle.specs.declared.circle.Deviation.{Deviation}
 use Rattle.circle.specs.Calls.{pointsRows}
 use Rattle.circle.specs.Worst.{worst}
 use Rattle.trial.specs.Deviation.{arcDeviation}
+use Rattle.fitting.specs.declared.fitting.Rule.{Rule}
 use Rattle.fitting.specs.Pieces.{pointsRule, lineDeviation, piecesBy}
 use Rattle.fitting.specs.declared.fitting.LineDeviation as measured
 use Rattle.fitting.specs.declared.fitting.ArcDeviation as around
-use Rattle.fitting.specs.Commands.{fitIn}
-use Rattle.fitting.specs.Written.{FitPlaced}
-use Rattle.fitting.specs.Calls.{lineRows, lineCall, lineAnswer, arcRows, arcCall, arcAnswer, fitRows, fitCall}
-use Rattle.fitting.proofs.Fitted.{fit-length}
+use Rattle.fitting.specs.Commands.{fitIn, worstIn}
+use Rattle.fitting.specs.Written.{notedIn, NotedPlaced}
+use Rattle.fitting.specs.Calls.{lineRows, lineCall, lineAnswer, arcRows, arcCall, arcAnswer, fitRows, fitCall, worstCall}
+use Rattle.fitting.proofs.Fitted.{noted-fit, noted-worst, fit-length, worst-length, worst-count}
+use Rattle.fitting.proofs.Writing.{commands-placed}
 
 -- ---- r is what the check of the points found
 module _ (s : List Float) (ts : List Row) (r : ℕ) (e : r ≡ refusal (pointsRows s)) where
@@ -69,13 +72,14 @@ line-accepted s lo hi r q z =
 inside-points : (lo hi n : ℕ) → (ltb lo hi && not (ltb hi n)) ≡ false → lo < hi → hi < n
 inside-points lo hi n h l = ltb-true hi n (not-false _ (subst (λ (b : Bool). (b && not (ltb hi n)) ≡ false) (lt-ltb lo hi l) h))
 
-module _ (s : List Float) (tol : Float) (lo hi kinds numbers r : ℕ) (q : r ≡ refusal (fitRows s tol lo hi kinds numbers)) (z : r ≡ 0) where
+module _ (s : List Float) (tol : Float) (lo hi kinds numbers places r : ℕ) (q : r ≡ refusal (fitRows s tol lo hi kinds numbers places)) (z : r ≡ 0) where
   pub record Accepted : Type 0 where
     pub few : length s / 3 ≤ 2048
     pub above-zero : (+0 ≺ tol) ≡ true
     pub ends-inside : lo < hi → hi < length s / 3
     pub room-kinds : hi - lo ≤ kinds
     pub room-numbers : hi - lo ≤ numbers / 9
+    pub room-places : hi - lo ≤ places
 
   pub fit-accepted : Accepted
   unfolding fitRows pointsRows
@@ -88,41 +92,66 @@ module _ (s : List Float) (tol : Float) (lo hi kinds numbers r : ℕ) (q : r ≡
       let e = row-passed 6 _ _ (d .1) in
       let f = row-passed 8 _ _ (e .1) in
       let g = row-passed 8 _ _ (f .1) in
+      let h = row-passed 8 _ _ (g .1) in
       record {
         few = ltb-false _ _ (b .0);
         above-zero = tolerance-positive tol (not-false _ (d .0));
         ends-inside = inside-points lo hi _ (e .0);
         room-kinds = ltb-false _ _ (f .0);
         room-numbers = ltb-false _ _ (g .0);
+        room-places = ltb-false _ _ (h .0);
       }
 
 -- ---- what an accepted fit answers and leaves
-module _ (s : List Float) (tol : Float) (lo hi : ℕ) (ks ks′ : List ℕ) (ns ns′ : List Float) (r k : ℕ)
-    (q : r ≡ refusal (fitRows s tol lo hi (length ks) (length ns))) (z : r ≡ 0) where
-  pub wrote-fit : lo < hi → FitPlaced (fitIn (pointsRule tol) (pointAt s) lo hi) 0 k ks ks′ ns ns′
-      → WroteCommands (fitCall s tol lo hi (length ks) (length ns)) ks ks′ ns ns′ (Written k)
-  unfolding fitCall
+module _ (s : List Float) (tol : Float) (lo hi : ℕ) (ks ks′ : List ℕ) (ns ns′ : List Float) (ws ws′ : List ℕ) (r k : ℕ)
+    (q : r ≡ refusal (fitRows s tol lo hi (length ks) (length ns) (length ws))) (z : r ≡ 0) where
+  abbrev rule : Rule
+  rule = pointsRule tol
+
+  -- its commands and their worst steps
+  abbrev pub WroteFit : Type 0
+  WroteFit =
+      WroteCommands (fitCall s tol lo hi (length ks) (length ns) (length ws)) ks ks′ ns ns′ (Written k)
+      × Wrote (λ ns. ns) (worstCall s tol lo hi (length ks) (length ns) (length ws)) ws ws′ (Written k)
+
+  pub wrote-fit : lo < hi → NotedPlaced (notedIn rule (pointAt s) lo hi) 0 k ks ks′ ns ns′ ws ws′ → WroteFit
+  unfolding fitCall worstCall
   wrote-fit some p =
-      let xs = fitIn (pointsRule tol) (pointAt s) lo hi in
-      let a = fit-accepted s tol lo hi (length ks) (length ns) r q z in
-      let l = fit-length (pointsRule tol) (a .above-zero) (pointAt s) lo hi some in
+      let xs = fitIn rule (pointAt s) lo hi in
+      let vs = worstIn rule (pointAt s) lo hi in
+      let c = commands-placed (notedIn rule (pointAt s) lo hi) xs 0 k ks ks′ ns ns′ ws ws′ (noted-fit rule (pointAt s) lo hi) p in
+      let a = fit-accepted s tol lo hi (length ks) (length ns) (length ws) r q z in
+      let l = fit-length rule (a .above-zero) (pointAt s) lo hi some in
+      let v = worst-length rule (a .above-zero) (pointAt s) lo hi some in
       let rk = a .room-kinds in
       let rn = a .room-numbers in
-      commands-given _ r q xs ks ks′ ns ns′ k z (p .count) (omega arith) (omega (arith, flat-length numbersOf 9 nine xs)) (p .kinds) (p .numbers)
+      let rw′ = a .room-places in (
+        commands-given _ r q xs ks ks′ ns ns′ k z (c .count) (omega arith) (omega (arith, flat-length numbersOf 9 nine xs)) (c .kinds) (c .numbers),
+        wrote-given _ r q (λ ns. ns) vs ws ws′ k z (c .count ∙ worst-count rule (pointAt s) lo hi) (omega arith)
+            (p .notes ∙ ap (sets ws 0) (noted-worst rule refl (pointAt s) lo hi)),
+      )
 
   -- a range with no step
-  pub wrote-no-fit : hi ≤ lo → ks′ ≡ ks → ns′ ≡ ns → WroteCommands (fitCall s tol lo hi (length ks) (length ns)) ks ks′ ns ns′ (Written 0)
-  unfolding fitCall fitIn piecesBy flat
-  wrote-no-fit none p o =
+  pub wrote-no-fit : hi ≤ lo → k ≡ 0 → ks′ ≡ ks → ns′ ≡ ns → ws′ ≡ ws → WroteFit
+  unfolding fitCall worstCall fitIn worstIn piecesBy flat
+  wrote-no-fit none g p o v =
       let d : hi - lo ≡ 0 = omega arith in
-      let e : fitIn (pointsRule tol) (pointAt s) lo hi ≡ [] = rw d in
-      subst (λ (xs : List Command). WroteCommands (unless (refusal (fitRows s tol lo hi (length ks) (length ns))) xs) ks ks′ ns ns′ (Written 0)) (sym e)
-      (commands-given _ r q [] ks ks′ ns ns′ 0 z refl (omega arith) (omega (arith, flat-length numbersOf 9 nine [])) p o)
+      let e : fitIn rule (pointAt s) lo hi ≡ [] = rw d in
+      let f : worstIn rule (pointAt s) lo hi ≡ [] = rw d in (
+        subst (λ (xs : List Command). WroteCommands (unless (refusal (fitRows s tol lo hi (length ks) (length ns) (length ws))) xs) ks ks′ ns ns′ (Written k)) (sym e)
+            (commands-given _ r q [] ks ks′ ns ns′ k z g (omega arith) (omega (arith, flat-length numbersOf 9 nine [])) p o),
+        subst (λ (xs : List ℕ). Wrote (λ ns. ns) (unless (refusal (fitRows s tol lo hi (length ks) (length ns) (length ws))) xs) ws ws′ (Written k)) (sym f)
+            (wrote-given _ r q (λ ns. ns) [] ws ws′ k z g (omega arith) v),
+      )
 
 -- to the index that the code worked out
-pub wrote-to : (s : List Float) (tol : Float) (k hi kinds numbers : ℕ) (ks ks′ : List ℕ) (ns ns′ : List Float) (r : Answer) → k ≡ hi
-    → WroteCommands (fitCall s tol 0 k kinds numbers) ks ks′ ns ns′ r → WroteCommands (fitCall s tol 0 hi kinds numbers) ks ks′ ns ns′ r
-wrote-to s tol k hi kinds numbers ks ks′ ns ns′ r e w = subst (λ (i : ℕ). WroteCommands (fitCall s tol 0 i kinds numbers) ks ks′ ns ns′ r) e w
+module _ (s : List Float) (tol : Float) (k hi kinds numbers places : ℕ) (r : Answer) (e : k ≡ hi) where
+  pub wrote-to : (ks ks′ : List ℕ) (ns ns′ : List Float)
+      → WroteCommands (fitCall s tol 0 k kinds numbers places) ks ks′ ns ns′ r → WroteCommands (fitCall s tol 0 hi kinds numbers places) ks ks′ ns ns′ r
+  wrote-to ks ks′ ns ns′ w = subst (λ (i : ℕ). WroteCommands (fitCall s tol 0 i kinds numbers places) ks ks′ ns ns′ r) e w
+
+  pub left-to : (ws ws′ : List ℕ) → Wrote (λ ns. ns) (worstCall s tol 0 k kinds numbers places) ws ws′ r → ws′ ≡ left (λ ns. ns) ws (worstCall s tol 0 hi kinds numbers places)
+  left-to ws ws′ w = subst (λ (i : ℕ). ws′ ≡ left (λ ns. ns) ws (worstCall s tol 0 i kinds numbers places)) e (w .leaves)
 
 -- ---- the answers of both deviations; r is what the call's checks found
 module _ (s : List Float) (lo hi r : ℕ) (q : r ≡ refusal (lineRows s lo hi)) where
@@ -137,18 +166,18 @@ module _ (s : List Float) (lo hi r : ℕ) (q : r ≡ refusal (lineRows s lo hi))
 module _ (s : List Float) (m : Point) (d : Float) (r : ℕ) (q : r ≡ refusal (arcRows s m d)) where
   pub arc-refused-answer : (r ≡ 0 → ⊥) → around.the-variants.Refused r ≡ arcAnswer (arcCall s m d)
   unfolding arcCall arcAnswer
-  arc-refused-answer h = subst (λ (k : ℕ). around.the-variants.Refused r ≡ arcAnswer (unless k (arcDeviation m d (pointAt s) 0 (length s / 3 - 1) .dist))) q (sym (ap arcAnswer (unless-refused r _ (omega (arith, h)))))
+  arc-refused-answer h = subst (λ (k : ℕ). around.the-variants.Refused r ≡ arcAnswer (unless k (arcDeviation m d (pointAt s) 0 (length s / 3 - 1)))) q (sym (ap arcAnswer (unless-refused r _ (omega (arith, h)))))
 
-  pub arc-given-answer : {w : Deviation} → r ≡ 0 → w ≡ arcDeviation m d (pointAt s) 0 (length s / 3 - 1) → around.the-variants.Is (w .dist) ≡ arcAnswer (arcCall s m d)
+  pub arc-given-answer : {w : Deviation} → r ≡ 0 → w ≡ arcDeviation m d (pointAt s) 0 (length s / 3 - 1) → around.the-variants.Is w ≡ arcAnswer (arcCall s m d)
   unfolding arcCall arcAnswer
-  arc-given-answer z e = ap (λ (w : Deviation). around.the-variants.Is (w .dist)) e ∙ sym (ap arcAnswer (unless-gives _ _ (sym q ∙ z)))
+  arc-given-answer z e = ap around.the-variants.Is e ∙ sym (ap arcAnswer (unless-gives _ _ (sym q ∙ z)))
 
   no-step : (n : ℕ) → n ≡ 0 → record { dist = +0; index = 0 } ≡ arcDeviation m d (pointAt s) 0 n
   unfolding arcDeviation worst
   no-step n e = rw e
 
   -- below two points there is no step
-  pub arc-no-step : r ≡ 0 → length s / 3 < 2 → around.the-variants.Is +0 ≡ arcAnswer (arcCall s m d)
+  pub arc-no-step : r ≡ 0 → length s / 3 < 2 → around.the-variants.Is (record { dist = +0; index = 0 }) ≡ arcAnswer (arcCall s m d)
   arc-no-step z l = arc-given-answer z (no-step (length s / 3 - 1) (omega arith))
 
 -- ---- the tests of a fit, as its rows have them

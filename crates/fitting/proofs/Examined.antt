@@ -45,9 +45,9 @@ module _ (s : List Float) (tol : Float) where
 -- Of every accepted call.
 pub ranges-of-the-call : RangesExamined
 unfolding fitCall
-ranges-of-the-call s tol kinds numbers xs e =
-    let g = unless-given (refusal (fitRows s tol 0 (length s / 3 - 1) kinds numbers)) _ xs e in
-    let pos = fit-accepted s tol 0 (length s / 3 - 1) kinds numbers 0 (g .0) refl .above-zero in
+ranges-of-the-call s tol kinds numbers places xs e =
+    let g = unless-given (refusal (fitRows s tol 0 (length s / 3 - 1) kinds numbers places)) _ xs e in
+    let pos = fit-accepted s tol 0 (length s / 3 - 1) kinds numbers places 0 (g .0) refl .above-zero in
     record {
       none = no-ranges s tol;
       some = some-ranges s tol pos;
@@ -56,19 +56,19 @@ ranges-of-the-call s tol kinds numbers xs e =
     }
 
 -- ---- the answer, by what the fit of the range answers
-module _ (s : List Float) (tol : Float) (kinds numbers : ℕ) where
-  twice-written : (xs : List Command) → primitivesCall s tol kinds numbers ≡ gives xs → examined s tol ≡ 2 * length xs - 1
+module _ (s : List Float) (tol : Float) (kinds numbers places : ℕ) where
+  twice-written : (xs : List Command) → primitivesCall s tol kinds numbers places ≡ gives xs → examined s tol ≡ 2 * length xs - 1
   twice-written xs e =
-      let w = ranges-of-the-call s tol kinds numbers xs e in
+      let w = ranges-of-the-call s tol kinds numbers places xs e in
       let p = w .pieces in
       ⊎-elim (λ h. let a = w .none h in let b = no-pieces s tol h in omega arith) (λ h. let a = w .some h in omega arith) (lt-or-ge (length s / 3) 2)
 
-  pub answer-fitted : (a : Answer) (n ranges : ℕ) → a ≡ answer (primitivesCall s tol kinds numbers) → a ≡ counted.Written n → ranges ≡ 2 * n - 1
-      → Fitted n ranges ≡ primitivesAnswer (primitivesCall s tol kinds numbers) (examined s tol)
+  pub answer-fitted : (a : Answer) (n ranges : ℕ) → a ≡ answer (primitivesCall s tol kinds numbers places) → a ≡ counted.Written n → ranges ≡ 2 * n - 1
+      → Fitted n ranges ≡ primitivesAnswer (primitivesCall s tol kinds numbers places) (examined s tol)
   unfolding answer primitivesAnswer
-  answer-fitted a n ranges e q r = go (primitivesCall s tol kinds numbers) refl
+  answer-fitted a n ranges e q r = go (primitivesCall s tol kinds numbers places) refl
     where
-      go : (o : Outcome (List Command)) → primitivesCall s tol kinds numbers ≡ o → Fitted n ranges ≡ primitivesAnswer (primitivesCall s tol kinds numbers) (examined s tol)
+      go : (o : Outcome (List Command)) → primitivesCall s tol kinds numbers places ≡ o → Fitted n ranges ≡ primitivesAnswer (primitivesCall s tol kinds numbers places) (examined s tol)
       go (refused k) h = let d : counted.Written n ≡ counted.Refused k = sym q ∙ e ∙ ap answer h in let z : _≡_ {A = ℕ} 0 1 = cc in absurd (omega arith)
       go (gives xs) h =
           let d : counted.Written n ≡ counted.Written (length xs) = sym q ∙ e ∙ ap answer h in
@@ -77,30 +77,30 @@ module _ (s : List Float) (tol : Float) (kinds numbers : ℕ) where
           let k : ranges ≡ examined s tol = omega arith in
           ap (λ (m : ℕ). Fitted m ranges) z ∙ ap (λ (m : ℕ). Fitted (length xs) m) k ∙ sym (ap (λ (o : Outcome (List Command)). primitivesAnswer o (examined s tol)) h)
 
-  pub answer-refused : (a : Answer) (n : ℕ) → a ≡ answer (primitivesCall s tol kinds numbers) → a ≡ counted.Refused n
-      → Refused n ≡ primitivesAnswer (primitivesCall s tol kinds numbers) (examined s tol)
+  pub answer-refused : (a : Answer) (n : ℕ) → a ≡ answer (primitivesCall s tol kinds numbers places) → a ≡ counted.Refused n
+      → Refused n ≡ primitivesAnswer (primitivesCall s tol kinds numbers places) (examined s tol)
   unfolding answer primitivesAnswer
-  answer-refused a n e q = go (primitivesCall s tol kinds numbers) refl
+  answer-refused a n e q = go (primitivesCall s tol kinds numbers places) refl
     where
-      go : (o : Outcome (List Command)) → primitivesCall s tol kinds numbers ≡ o → Refused n ≡ primitivesAnswer (primitivesCall s tol kinds numbers) (examined s tol)
+      go : (o : Outcome (List Command)) → primitivesCall s tol kinds numbers places ≡ o → Refused n ≡ primitivesAnswer (primitivesCall s tol kinds numbers places) (examined s tol)
       go (refused k) h =
           let d : counted.Refused n ≡ counted.Refused k = sym q ∙ e ∙ ap answer h in
           let z : n ≡ k = cc in ap Refused z ∙ sym (ap (λ (o : Outcome (List Command)). primitivesAnswer o (examined s tol)) h)
       go (gives xs) h = let d : counted.Refused n ≡ counted.Written (length xs) = sym q ∙ e ∙ ap answer h in let z : _≡_ {A = ℕ} 0 1 = cc in absurd (omega arith)
 
   -- an accepted call has at most 2,047 pieces
-  pub answer-few : (a : Answer) (n : ℕ) → a ≡ answer (primitivesCall s tol kinds numbers) → a ≡ counted.Written n → n ≤ 2048
+  pub answer-few : (a : Answer) (n : ℕ) → a ≡ answer (primitivesCall s tol kinds numbers places) → a ≡ counted.Written n → n ≤ 2048
   unfolding answer fitCall
-  answer-few a n e q = go (primitivesCall s tol kinds numbers) refl
+  answer-few a n e q = go (primitivesCall s tol kinds numbers places) refl
     where
-      go : (o : Outcome (List Command)) → primitivesCall s tol kinds numbers ≡ o → n ≤ 2048
+      go : (o : Outcome (List Command)) → primitivesCall s tol kinds numbers places ≡ o → n ≤ 2048
       go (refused k) h = let d : counted.Written n ≡ counted.Refused k = sym q ∙ e ∙ ap answer h in let z : _≡_ {A = ℕ} 0 1 = cc in absurd (omega arith)
       go (gives xs) h =
           let d : counted.Written n ≡ counted.Written (length xs) = sym q ∙ e ∙ ap answer h in
           let z : n ≡ length xs = cc in
-          let g = unless-given (refusal (fitRows s tol 0 (length s / 3 - 1) kinds numbers)) _ xs h in
-          let acc = fit-accepted s tol 0 (length s / 3 - 1) kinds numbers 0 (g .0) refl in
-          let w = ranges-of-the-call s tol kinds numbers xs h in
+          let g = unless-given (refusal (fitRows s tol 0 (length s / 3 - 1) kinds numbers places)) _ xs h in
+          let acc = fit-accepted s tol 0 (length s / 3 - 1) kinds numbers places 0 (g .0) refl in
+          let w = ranges-of-the-call s tol kinds numbers places xs h in
           let p = w .pieces in
           let f = acc .few in
           ⊎-elim (λ l. let b = no-pieces s tol l in omega arith)

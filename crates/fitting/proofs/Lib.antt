@@ -7,3 +7,4 @@ pub mod Ranges
 pub mod Accepted
 pub mod Chain
 pub mod Examined
+pub mod WorstStep

@@ -2,15 +2,15 @@
 -- same steps. Assumes nothing.
 use Prim.Native.Nat.{ℕ, zero, suc, _+_, _-_, _*_, _/_, _≤_, _<_}
 use mathlib.Core.Path.{_≡_, refl, sym, ap, _∙_, subst}
-use mathlib.Core.Logic.{⊎-elim}
-use mathlib.Core.Bool.{Bool}
+use mathlib.Core.Logic.{_⊎_, inl, inr, ⊎-elim}
+use mathlib.Core.Bool.{Bool, true}
 use mathlib.Core.List.{List, [], _∷_}
 use native.Mathlib.Omega.{arith}
 use lib.ListN.{length}
-use lib.Ieee.{Float}
+use lib.Ieee.{Float, lt, ofBits}
 use Rattle.floats.specs.Ops.{_⊕_, _≺_, +0}
 use Rattle.floats.specs.Root.{rootOf}
-use Rattle.floats.proofs.Order.{either}
+use Rattle.floats.proofs.Order.{either, lt-trans}
 use Rattle.geo.specs.declared.types.Point.{Point}
 use Rattle.geo.specs.declared.types.Point3D.{Point3D}
 use Rattle.geo.specs.Vector.{flatten}
@@ -27,7 +27,7 @@ use Rattle.simplify.specs.declared.simplify.Farthest.{Farthest}
 use Rattle.simplify.specs.Measure.{Measure, lineSq}
 use Rattle.simplify.specs.Farthest.{farther, farthestOf, farthestIn}
 use Rattle.fitting.specs.Pieces.{rooted, lineDeviation}
-use Rattle.fitting.specs.Laws.{ownPoints, ownPairs, shifted}
+use Rattle.fitting.specs.Laws.{ownPoints, ownPairs, shifted, shiftedWorst}
 use Rattle.fitting.specs.Calls.{lineRows, lineCall, arcRows, arcCall}
 
 -- ---- a list laid out has its points in their places
@@ -143,14 +143,31 @@ module _ (at : ℕ → Point3D) (lo hi : ℕ) (some : lo < hi) where
   line-own m = ap rooted (farthest-own m)
 
   -- ---- the Arc's
+  abbrev none : Deviation
+  none = record { dist = +0; index = 0 }
+
   worse-shifted : (i : ℕ) (d : Float) (w : Deviation) → worse d (lo + i) (shifted lo w) ≡ shifted lo (worse d i w)
   unfolding worse
   worse-shifted i d w = ⊎-elim (λ e. rw e refl) (λ e. rw e refl) (either (w .dist ≺ d))
 
-  pub arc-own : (c : Point) (r : Float) → arcDeviation c r at lo hi ≡ shifted lo (arcDeviation c r (pointAt (ownPoints at lo hi)) 0 (hi - lo))
+  -- both walks found nothing above 0 so far, or the same step
+  abbrev Alike : Deviation → Deviation → Type 0
+  Alike x y = ((x ≡ none) × (y ≡ none)) ⊎ ((x ≡ shifted lo y) × ((+0 ≺ y .dist) ≡ true))
+
+  alike-step : (i : ℕ) (d : Float) (x y : Deviation) → Alike x y → Alike (worse d (lo + i) x) (worse d i y)
+  unfolding worse
+  alike-step i d x y h =
+      ⊎-elim (λ z. rw (z .0, z .1) (⊎-elim (λ e. inr (rw e refl, rw e e)) (λ e. inl (rw e refl, rw e refl)) (either (+0 ≺ d))))
+      (λ s. inr (ap (worse d (lo + i)) (s .0) ∙ worse-shifted i d y, ⊎-elim (λ e. rw e (lt-trans +0 (y .dist) d (s .1) e)) (λ e. rw e (s .1)) (either (y .dist ≺ d)))) h
+
+  alike-same : (x y : Deviation) → Alike x y → x ≡ shiftedWorst lo y
+  unfolding lt ofBits
+  alike-same x y h = ⊎-elim (λ z. z .0 ∙ rw (z .1) refl) (λ s. s .0 ∙ rw (s .1)) h
+
+  -- The Arc's deviation of a range is that of its own points, the index of a step above 0 shifted.
+  pub arc-own : (c : Point) (r : Float) → arcDeviation c r at lo hi ≡ shiftedWorst lo (arcDeviation c r (pointAt (ownPoints at lo hi)) 0 (hi - lo))
   unfolding arcDeviation worst
   arc-own c r =
-      let z : lo + 0 ≡ lo = omega arith in
       let n : hi - lo - 0 ≡ hi - lo = omega arith in
       let f : ℕ → Float = λ i. stepBetween c r (at i) (at (i + 1)) in
       let g : ℕ → Float = λ i. stepBetween c r (own i) (own (i + 1)) in
@@ -158,13 +175,12 @@ module _ (at : ℕ → Point3D) (lo hi : ℕ) (some : lo < hi) where
       λ k h. let e : lo + (k + 1) ≡ lo + k + 1 = omega arith in
       sym (ap (λ (p : Point3D). stepBetween c r p (own (k + 1))) (own-point k (omega arith))
       ∙ ap (stepBetween c r (at (lo + k))) (own-point (k + 1) (omega arith) ∙ ap at e)) in
-      let w : Deviation = record { dist = +0; index = 0 } in
-      ap (λ (j : ℕ). worst f (hi - lo) lo (record { dist = +0; index = j })) (sym z)
-      ∙ fold-alike (λ (x y : Deviation). x ≡ shifted lo y) (λ j. worse (f j) j) (λ j. worse (g j) j) (hi - lo) lo 0 (shifted lo w) w
+      alike-same (worst f (hi - lo) lo none) (worst g (hi - lo) 0 none)
+      (fold-alike Alike (λ j. worse (f j) j) (λ j. worse (g j) j) (hi - lo) lo 0 none none
       (λ k h x y e. let o : 0 + k ≡ k = omega arith in
-      ap (worse (f (lo + k)) (lo + k)) e ∙ ap (λ (d : Float). worse d (lo + k) (shifted lo y)) (same k h) ∙ worse-shifted k (g k) y
-      ∙ ap (λ (j : ℕ). shifted lo (worse (g j) j y)) (sym o)) refl
-      ∙ ap (λ (j : ℕ). shifted lo (worst g j 0 w)) (sym n)
+      subst (λ (d : Float). Alike (worse d (lo + k) x) (worse (g (0 + k)) (0 + k) y)) (sym (same k h))
+      (subst (λ (j : ℕ). Alike (worse (g k) (lo + k) x) (worse (g j) j y)) (sym o) (alike-step k (g k) x y e))) (inl (refl, refl)))
+      ∙ ap (λ (j : ℕ). shiftedWorst lo (worst g j 0 none)) (sym n)
 
   -- ---- and the direction
   abbrev ownFlat : ℕ → Point
@@ -198,11 +214,11 @@ module _ (at : ℕ → Point3D) (lo hi : ℕ) (some : lo < hi) where
   line-answered w e =
       ap (λ (v : Deviation). v .dist) (line-own lineSq) ∙ ap (λ (v : Deviation). v .dist) (unless-given (refusal (lineRows (ownPoints at lo hi) 0 (hi - lo))) _ w e .1)
 
-  pub arc-answered : (c : Point) (r v : Float) → arcCall (ownPoints at lo hi) c r ≡ gives v → arcDeviation c r at lo hi .dist ≡ v
+  pub arc-answered : (c : Point) (r : Float) (v : Deviation) → arcCall (ownPoints at lo hi) c r ≡ gives v → arcDeviation c r at lo hi ≡ shiftedWorst lo v
   unfolding arcCall
   arc-answered c r v e =
-      ap (λ (w : Deviation). w .dist) (arc-own c r) ∙ ap (λ (j : ℕ). arcDeviation c r own 0 j .dist) (sym own-count)
-      ∙ unless-given (refusal (arcRows (ownPoints at lo hi) c r)) _ v e .1
+      arc-own c r ∙ ap (λ (j : ℕ). shiftedWorst lo (arcDeviation c r own 0 j)) (sym own-count)
+      ∙ ap (shiftedWorst lo) (unless-given (refusal (arcRows (ownPoints at lo hi) c r)) _ v e .1)
 
   pub direction-answered : (c : Point) (b : Bool) → directionCall (ownPairs at lo hi) c ≡ gives b → clockwise (λ i. flatten (at i)) lo hi c ≡ b
   unfolding directionCall

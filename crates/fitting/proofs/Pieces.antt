@@ -13,6 +13,7 @@ use Rattle.floats.proofs.Order.{either, lt-or-ge}
 use Rattle.geo.specs.declared.types.Point.{Point}
 use Rattle.geo.specs.declared.types.Point3D.{Point3D}
 use Rattle.geo.specs.declared.types.Command as command
+use Rattle.circle.specs.declared.circle.Deviation.{Deviation}
 use Rattle.circle.specs.Three.{radiusFrom}
 use Rattle.trial.specs.declared.trial.Trial.{Trial}
 use Rattle.trial.specs.declared.trial.Trial.the-variants.{Arc, None}
@@ -74,14 +75,14 @@ exactly-one i lo hi (p ∷ ps) v h g =
 
 -- ---- the trials as a rule counts them
 module _ (r : Rule) (at : ℕ → Point3D) (lo hi k : ℕ) where
-  counted-some : (t : Trial) (c : Point) (d : Bool) → counted r t ≡ Arc c d → (r .arcs ≡ true) × (t ≡ Arc c d)
-  counted-some t c d e =
-      ⊎-elim (λ h. (h, subst (λ (b : Bool). (if b then t else None) ≡ Arc c d) h e))
-      (λ h. let g : None ≡ Arc c d = subst (λ (b : Bool). (if b then t else None) ≡ Arc c d) h e in let z : _≡_ {A = ℕ} 0 1 = cc in absurd (omega arith)) (either (r .arcs))
+  counted-some : (t : Trial) (c : Point) (d : Bool) (w : ℕ) → counted r t ≡ Arc c d w → (r .arcs ≡ true) × (t ≡ Arc c d w)
+  counted-some t c d w e =
+      ⊎-elim (λ h. (h, subst (λ (b : Bool). (if b then t else None) ≡ Arc c d w) h e))
+      (λ h. let g : None ≡ Arc c d w = subst (λ (b : Bool). (if b then t else None) ≡ Arc c d w) h e in let z : _≡_ {A = ℕ} 0 1 = cc in absurd (omega arith)) (either (r .arcs))
 
   -- Where the first gives an Arc, that is the range's arc; where it fails, what the second gives.
-  counted-first : (c : Point) (d : Bool) → counted r (threeTried at lo hi k (r .tolerance)) ≡ Arc c d → counted r (tryArcs at lo hi k (r .tolerance)) ≡ Arc c d
-  counted-first c d e = let f = counted-some (threeTried at lo hi k (r .tolerance)) c d e in rw (f .0, first-tried at lo hi k (r .tolerance) c d (f .1))
+  counted-first : (c : Point) (d : Bool) (w : ℕ) → counted r (threeTried at lo hi k (r .tolerance)) ≡ Arc c d w → counted r (tryArcs at lo hi k (r .tolerance)) ≡ Arc c d w
+  counted-first c d w e = let f = counted-some (threeTried at lo hi k (r .tolerance)) c d w e in rw (f .0, first-tried at lo hi k (r .tolerance) c d w (f .1))
 
   counted-second : counted r (threeTried at lo hi k (r .tolerance)) ≡ None → counted r (tryArcs at lo hi k (r .tolerance)) ≡ counted r (leastTried at lo hi k (r .tolerance))
   counted-second e =
@@ -105,7 +106,7 @@ module _ (r : Rule) (at : ℕ → Point3D) (lo hi : ℕ) (some : lo < hi) where
       record {
         written = turned d;
         passes = p;
-        answered = λ v e. subst (λ (x : Float). (x ≺ r .tolerance) ≡ true) (arc-answered at lo hi some c (radiusFrom c (at lo)) v e) (p .deviation);
+        answered = λ v e. subst (λ (x : Deviation). (x .dist ≺ r .tolerance) ≡ true) (arc-answered at lo hi some c (radiusFrom c (at lo)) v e) (p .deviation);
         turning = λ b e. p .direction ∙ direction-answered at lo hi some c b e;
       }
     where
@@ -119,10 +120,10 @@ module _ (r : Rule) (at : ℕ → Point3D) (lo hi : ℕ) (some : lo < hi) where
   unfolding choice chooseBy
   chosen-line h = rw h
 
-  chosen-arc : LineFails r at lo hi → (c : Point) (d : Bool) → counted r (tryArcs at lo hi (lineDeviation (distance r) at lo hi .index) (r .tolerance)) ≡ Arc c d
+  chosen-arc : LineFails r at lo hi → (c : Point) (d : Bool) (w : ℕ) → counted r (tryArcs at lo hi (lineDeviation (distance r) at lo hi .index) (r .tolerance)) ≡ Arc c d w
       → choice r at lo hi ≡ whole (arc c d)
   unfolding choice chooseBy arcOrCut
-  chosen-arc h c d e = rw (h, e)
+  chosen-arc h c d w e = rw (h, e)
 
   chosen-cut : AllFail r at lo hi → choice r at lo hi ≡ cutAt (lineDeviation (distance r) at lo hi .index)
   unfolding choice chooseBy arcOrCut
@@ -138,14 +139,14 @@ module _ (r : Rule) (at : ℕ → Point3D) (lo hi : ℕ) (some : lo < hi) where
 
   by-trials : LineFails r at lo hi → (t u : Trial) → counted r (threeTried at lo hi (lineDeviation (distance r) at lo hi .index) (r .tolerance)) ≡ t
       → counted r (leastTried at lo hi (lineDeviation (distance r) at lo hi .index) (r .tolerance)) ≡ u → Whole ⊎ AllFail r at lo hi
-  by-trials h (Arc c d) u e f =
+  by-trials h (Arc c d w) u e f =
       let k = lineDeviation (distance r) at lo hi .index in
-      let p = three-passes (r .tolerance) at lo hi k c d (counted-some r at lo hi k _ c d e .1) in
-      inl (record { shape = arc c d; chosen = chosen-arc h c d (counted-first r at lo hi k c d e); written = as-first c d h e (new-arc c d p) })
-  by-trials h None (Arc c d) e f =
+      let p = three-passes (r .tolerance) at lo hi k c d w (counted-some r at lo hi k _ c d w e .1) in
+      inl (record { shape = arc c d; chosen = chosen-arc h c d w (counted-first r at lo hi k c d w e); written = as-first c d w h e (new-arc c d p) })
+  by-trials h None (Arc c d w) e f =
       let k = lineDeviation (distance r) at lo hi .index in
-      let p = least-passes (r .tolerance) at lo hi k c d (counted-some r at lo hi k _ c d f .1) in
-      inl (record { shape = arc c d; chosen = chosen-arc h c d (counted-second r at lo hi k e ∙ f); written = as-second c d h e f (new-arc c d p) })
+      let p = least-passes (r .tolerance) at lo hi k c d w (counted-some r at lo hi k _ c d w f .1) in
+      inl (record { shape = arc c d; chosen = chosen-arc h c d w (counted-second r at lo hi k e ∙ f); written = as-second c d w h e f (new-arc c d p) })
   by-trials h None None e f = inr (record { line-fails = h; three-fails = e; least-fails = f })
 
   whole-or-cut : Whole ⊎ AllFail r at lo hi

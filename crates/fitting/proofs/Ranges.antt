@@ -1,13 +1,15 @@
 -- A fit that looks at one range after another, the ends of those behind waiting: what is left shrinks by what is written, and ends with nothing. Assumes nothing.
 use Prim.Native.Nat.{ℕ, zero, suc, _+_, _-_, _*_, _≤_, _<_}
 use mathlib.Core.Path.{_≡_, refl, sym, ap, _∙_, subst}
+use mathlib.Core.Logic.{⊎-elim}
 use mathlib.Core.Bool.{Bool, true, false}
 use mathlib.Core.List.{List, [], _∷_, _++_, map, map-append, append-assoc, append-nil}
 use native.Mathlib.Omega.{arith}
 use lib.ListN.{length, getD, set}
 use lib.Seq.{getD-set-same, getD-set-other}
 use lib.Ieee.{Float, lt}
-use Rattle.floats.specs.Ops.{_≺_, +0}
+use Rattle.floats.specs.Ops.{_≺_, if_then_else_, +0}
+use Rattle.floats.proofs.Order.{either}
 use Rattle.geo.specs.declared.types.Point.{Point}
 use Rattle.geo.specs.declared.types.Point3D.{Point3D}
 use Rattle.geo.specs.declared.types.Command.{Command}
@@ -15,11 +17,12 @@ use Rattle.circle.specs.declared.circle.Deviation.{Deviation}
 use Rattle.trial.specs.declared.trial.Trial.{Trial}
 use Rattle.trial.specs.declared.trial.Trial.the-variants.{Arc, None}
 use Rattle.trial.specs.Trial.{tryArcs}
+use Rattle.trial.proofs.Tried.{tried-worst}
 use Rattle.fitting.specs.declared.fitting.Rule.{Rule}
 use Rattle.fitting.specs.declared.fitting.Stand.{Stand}
 use Rattle.fitting.specs.Pieces.{distance, lineDeviation, Shape, line, arc, Piece, Choice, whole, cutAt, counted, arcOrCut, chooseBy, choice, follow, piecesBy, piecesIn}
-use Rattle.fitting.specs.Commands.{shaped, pieceCommand}
-use Rattle.fitting.specs.Written.{Noted, noted, pieceNoted, notedIn, NotedPlaced}
+use Rattle.fitting.specs.Commands.{shaped, pieceCommand, worstStep, pieceWorst}
+use Rattle.fitting.specs.Written.{Noted, noted, noteBy, pieceNoted, notedIn, NotedPlaced}
 use Rattle.fitting.specs.Ranges.{behind, leftIn, stepNoted, stepEnds, nextFrom, stepStand, Ascend, Stands, Looked}
 use Rattle.fitting.proofs.Recursion.{Inside, inside, pieces-follow}
 use Rattle.fitting.proofs.Writing.{none-noted, Progress, progress-start, progress-step}
@@ -56,7 +59,7 @@ module _ (r : Rule) (pos : (+0 ≺ r .tolerance) ≡ true) (at : ℕ → Point3D
 
   -- what is left before a step is what it writes, and what is left behind it
   step-left : (c : Choice) → choice r at (w .lo) (w .hi) ≡ c → w .lo < w .hi → w .waiting < length ends
-      → leftIn r at ends w ≡ stepNoted at w c ++ leftIn r at (stepEnds ends w c) (stepStand ends w c)
+      → leftIn r at ends w ≡ stepNoted r at w c ++ leftIn r at (stepEnds ends w c) (stepStand ends w c)
   unfolding leftIn stepNoted stepEnds stepStand follow
   step-left (whole s) e h l =
       let f : piecesIn r at (w .lo) (w .hi) ≡ record { from = w .lo; to = w .hi; shape = s } ∷ [] = pieces-follow r pos at (w .lo) (w .hi) h ∙ rw e in
@@ -68,7 +71,7 @@ module _ (r : Rule) (pos : (+0 ≺ r .tolerance) ≡ true) (at : ℕ → Point3D
       let g : getD (set ends (w .waiting) (w .hi)) (w .waiting) 0 ≡ w .hi = getD-set-same ends (w .waiting) (w .hi) 0 l in
       let q : behind (piecesIn r at) (set ends (w .waiting) (w .hi)) (w .waiting + 1) k ≡ piecesIn r at k (w .hi) ++ rest =
       rw (p, g, behind-set (piecesIn r at) ends (w .waiting) (w .hi) (w .waiting) (w .hi) (omega arith)) in
-      ap (map (pieceNoted at))
+      ap (map (pieceNoted r at))
       (ap (λ (ps : List Piece). ps ++ rest) f ∙ append-assoc (piecesIn r at (w .lo) k) (piecesIn r at k (w .hi)) rest ∙ ap (λ (ps : List Piece). piecesIn r at (w .lo) k ++ ps) (sym q))
 
   next-stands : (n : ℕ) → n ≡ w .waiting → Stands start end place ends w → w .lo < w .hi → Stands start end place ends (nextFrom ends (w .hi) (w .place + 1) n)
@@ -113,7 +116,7 @@ module _ (r : Rule) (at : ℕ → Point3D) (start end place : ℕ) (ends : List 
 
   left-first : leftIn r at ends (record { lo = start; hi = end; waiting = 0; place = place }) ≡ notedIn r at start end
   unfolding leftIn notedIn
-  left-first = ap (map (pieceNoted at)) (append-nil (piecesIn r at start end))
+  left-first = ap (map (pieceNoted r at)) (append-nil (piecesIn r at start end))
 
   pub progress-first : (ks : List ℕ) (ns : List Float) (ss : List ℕ)
       → Progress (notedIn r at start end) (leftIn r at ends (record { lo = start; hi = end; waiting = 0; place = place })) place (place - place) ks ks ns ns ss ss
@@ -156,9 +159,17 @@ module _ (r : Rule) (at : ℕ → Point3D) (lo hi : ℕ) (d : Deviation) (e : d 
         let g : lt (lineDeviation (distance r) at lo hi .dist) (r .tolerance) ≡ false = subst (λ (v : Deviation). lt (v .dist) (r .tolerance) ≡ false) e h in
         rw (g, ← e, ← is)
 
-    pub takes-arc : (c : Point) (b : Bool) → t ≡ Arc c b → choice r at lo hi ≡ whole (arc c b)
+    pub takes-arc : (c : Point) (b : Bool) (k : ℕ) → t ≡ Arc c b k → choice r at lo hi ≡ whole (arc c b)
     unfolding arcOrCut
-    takes-arc c b z = takes ∙ rw z
+    takes-arc c b k z = takes ∙ rw z
+
+    -- its worst step is that of the piece
+    pub takes-worst : (c : Point) (b : Bool) (k : ℕ) → t ≡ Arc c b k → k ≡ worstStep at lo hi (arc c b)
+    unfolding worstStep
+    takes-worst c b k z =
+        ⊎-elim (λ a. tried-worst at lo hi (d .index) (r .tolerance) c b k (sym (ap (λ (x : Bool). if x then tryArcs at lo hi (d .index) (r .tolerance) else None) a) ∙ sym is ∙ z))
+        (λ a. let g : None ≡ Arc c b k = sym (ap (λ (x : Bool). if x then tryArcs at lo hi (d .index) (r .tolerance) else None) a) ∙ sym is ∙ z in
+        let q : _≡_ {A = ℕ} 0 1 = cc in absurd (omega arith)) (either (r .arcs))
 
     pub takes-cut : t ≡ None → choice r at lo hi ≡ cutAt (d .index)
     unfolding arcOrCut
@@ -166,11 +177,12 @@ module _ (r : Rule) (at : ℕ → Point3D) (lo hi : ℕ) (d : Deviation) (e : d 
 
 -- ---- what was looked at, the choice being known
 module _ (r : Rule) (at : ℕ → Point3D) (w w′ : Stand) (ends ends′ ks ks′ : List ℕ) (ns ns′ : List Float) (ss ss′ : List ℕ) where
-  pub looked-whole : (s : Shape) (c : Command) → choice r at (w .lo) (w .hi) ≡ whole s → c ≡ shaped (at (w .lo)) (at (w .hi)) s → ends′ ≡ ends
-      → w′ ≡ nextFrom ends (w .hi) (w .place + 1) (w .waiting) → NotedPlaced (noted c (w .hi - w .lo) ∷ []) (w .place) 1 ks ks′ ns ns′ ss ss′
+  pub looked-whole : (s : Shape) (c : Command) (n k : ℕ) → choice r at (w .lo) (w .hi) ≡ whole s → c ≡ shaped (at (w .lo)) (at (w .hi)) s
+      → n ≡ noteBy (r .note) (w .hi - w .lo) k → k ≡ worstStep at (w .lo) (w .hi) s → ends′ ≡ ends
+      → w′ ≡ nextFrom ends (w .hi) (w .place + 1) (w .waiting) → NotedPlaced (noted c n ∷ []) (w .place) 1 ks ks′ ns ns′ ss ss′
       → Looked r at w w′ ends ends′ ks ks′ ns ns′ ss ss′
-  unfolding stepStand stepEnds stepNoted pieceNoted pieceCommand
-  looked-whole s c e q z f p = record { stands = rw e f; put = rw e z; wrote = rw (e, ← q) p }
+  unfolding stepStand stepEnds stepNoted pieceNoted pieceCommand pieceWorst
+  looked-whole s c n k e q g v z f p = record { stands = rw e f; put = rw e z; wrote = rw (e, ← q, ← v, ← g) p }
 
   pub looked-cut : (k : ℕ) → choice r at (w .lo) (w .hi) ≡ cutAt k → ends′ ≡ set ends (w .waiting) (w .hi)
       → w′ ≡ record { lo = w .lo; hi = k; waiting = w .waiting + 1; place = w .place } → ks′ ≡ ks → ns′ ≡ ns → ss′ ≡ ss
@@ -194,7 +206,7 @@ module _ (r : Rule) (pos : (+0 ≺ r .tolerance) ≡ true) (at : ℕ → Point3D
   next-place zero = refl
   next-place (suc m) = refl
 
-  step-place : (c : Choice) → stepStand ends w c .place ≡ w .place + length (stepNoted at w c)
+  step-place : (c : Choice) → stepStand ends w c .place ≡ w .place + length (stepNoted r at w c)
   unfolding stepStand stepNoted
   step-place (whole s) = next-place (w .waiting)
   step-place (cutAt k) = omega arith
@@ -203,14 +215,14 @@ module _ (r : Rule) (pos : (+0 ≺ r .tolerance) ≡ true) (at : ℕ → Point3D
       → Progress (notedIn r at start end) (leftIn r at ends′ w′) place (w′ .place - place) ks₀ ks′ ns₀ ns′ ss₀ ss′
   turn-progress p =
       let c = choice r at (w .lo) (w .hi) in
-      let n = length (stepNoted at w c) in
-      let e : leftIn r at ends w ≡ stepNoted at w c ++ leftIn r at ends′ w′ =
+      let n = length (stepNoted r at w c) in
+      let e : leftIn r at ends w ≡ stepNoted r at w c ++ leftIn r at ends′ w′ =
       step-left r pos at start end place ends w c refl (h .some some) few-wait ∙ rw (q .stands, q .put) in
       let a = h .placed in
       let b : w′ .place ≡ w .place + n = ap (λ (v : Stand). v .place) (q .stands) ∙ step-place c in
       let z : w .place - place + n ≡ w′ .place - place = omega arith in
       subst (λ (k : ℕ). Progress (notedIn r at start end) (leftIn r at ends′ w′) place k ks₀ ks′ ns₀ ns′ ss₀ ss′) z
-      (progress-step (notedIn r at start end) (leftIn r at ends w) place ks₀ ns₀ ss₀ (w .place - place) ks ns ss p (stepNoted at w c) (leftIn r at ends′ w′) (w .place) n ks′ ns′ ss′ e (omega arith) (q .wrote))
+      (progress-step (notedIn r at start end) (leftIn r at ends w) place ks₀ ns₀ ss₀ (w .place - place) ks ns ss p (stepNoted r at w c) (leftIn r at ends′ w′) (w .place) n ks′ ns′ ss′ e (omega arith) (q .wrote))
 
   -- the range grows shorter, or what is left of all does
   next-less : (n : ℕ) → n ≡ w .waiting

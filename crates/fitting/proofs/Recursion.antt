@@ -40,7 +40,7 @@ module _ (r : Rule) (pos : (+0 ≺ r .tolerance) ≡ true) (at : ℕ → Point3D
 
   inside-or : (t : Trial) (lo k hi : ℕ) → lo < k → k < hi → Inside lo hi (arcOrCut t k)
   unfolding arcOrCut
-  inside-or (Arc c d) lo k hi g h = tt
+  inside-or (Arc c d w) lo k hi g h = tt
   inside-or None lo k hi g h = (g, h)
 
   pub inside : (lo hi : ℕ) → Inside lo hi (choice r at lo hi)

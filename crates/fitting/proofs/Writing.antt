@@ -20,7 +20,7 @@ commands-length xs = length-map xs (λ (x : Noted). x .command)
 
 pub notes-length : (xs : List Noted) → length (notesOf xs) ≡ length xs
 unfolding notesOf
-notes-length xs = length-map xs (λ (x : Noted). x .steps)
+notes-length xs = length-map xs (λ (x : Noted). x .note)
 
 pub commands-append : (xs ys : List Noted) → commandsOf (xs ++ ys) ≡ commandsOf xs ++ commandsOf ys
 unfolding commandsOf
@@ -28,7 +28,7 @@ commands-append xs ys = map-append (λ (x : Noted). x .command) xs ys
 
 pub notes-append : (xs ys : List Noted) → notesOf (xs ++ ys) ≡ notesOf xs ++ notesOf ys
 unfolding notesOf
-notes-append xs ys = map-append (λ (x : Noted). x .steps) xs ys
+notes-append xs ys = map-append (λ (x : Noted). x .note) xs ys
 
 -- ---- commands alone
 both-placed : (xs ys : List Command) (at n m : ℕ) (ks ks₁ ks₂ : List ℕ) (ns ns₁ ns₂ : List Float)

@@ -18,7 +18,7 @@ use Rattle.fitting.specs.declared.fitting.LineDeviation as measured
 use Rattle.fitting.specs.declared.fitting.ArcDeviation as around
 use Rattle.fitting.specs.declared.fitting.Primitives as primitives
 use Rattle.fitting.specs.Pieces.{pointsRule, lineDeviation, rangesIn}
-use Rattle.fitting.specs.Commands.{fitIn}
+use Rattle.fitting.specs.Commands.{fitIn, worstIn}
 
 -- ---- get_polyline_line_deviation: both indices lie inside the points
 unfoldable pub lineRows : List Float → ℕ → ℕ → List Row
@@ -31,34 +31,43 @@ unfoldable pub lineAnswer : Outcome Deviation → measured.LineDeviation
 lineAnswer (refused n) = measured.the-variants.Refused n
 lineAnswer (gives w) = measured.the-variants.Is w
 
--- ---- get_polyline_arc_deviation: +0 below two points, which have no step
+-- ---- get_polyline_arc_deviation: the greatest deviation and the first step that reaches it, +0 and 0 below two points, which have no step
 unfoldable pub arcRows : List Float → Point → Float → List Row
 arcRows s m r = pointsRows s ++ (row 5 (not (centre (m .x))) ∷ row 5 (not (centre (m .y))) ∷ row 5 (not (radius r)) ∷ [])
 
-unfoldable pub arcCall : List Float → Point → Float → Outcome Float
-arcCall s m r = unless (refusal (arcRows s m r)) (arcDeviation m r (pointAt s) 0 (length s / 3 - 1) .dist)
+unfoldable pub arcCall : List Float → Point → Float → Outcome Deviation
+arcCall s m r = unless (refusal (arcRows s m r)) (arcDeviation m r (pointAt s) 0 (length s / 3 - 1))
 
-unfoldable pub arcAnswer : Outcome Float → around.ArcDeviation
+unfoldable pub arcAnswer : Outcome Deviation → around.ArcDeviation
 arcAnswer (refused n) = around.the-variants.Refused n
-arcAnswer (gives d) = around.the-variants.Is d
+arcAnswer (gives w) = around.the-variants.Is w
 
--- ---- fit_points_recursive: of the points s from lo to hi, to outputs of `kinds` kinds and `numbers` numbers. Its most is hi - lo, 0 where lo is not below hi
-unfoldable pub fitRows : List Float → Float → ℕ → ℕ → ℕ → ℕ → List Row
-fitRows s tol lo hi kinds numbers =
+-- ---- fit_points_recursive: of the points s from lo to hi, to outputs of `kinds` kinds, `numbers` numbers and `places` worst steps. Its most is hi - lo, 0 where lo is not
+-- below hi
+unfoldable pub fitRows : List Float → Float → ℕ → ℕ → ℕ → ℕ → ℕ → List Row
+fitRows s tol lo hi kinds numbers places =
     row 1 (not (whole 9 numbers))
     ∷ (pointsRows s
     ++ (row 6 (not (tolerance tol))
     ∷ row 7 (ltb lo hi && not (ltb hi (length s / 3)))
     ∷ row 9 (ltb kinds (hi - lo))
     ∷ row 9 (ltb (numbers / 9) (hi - lo))
+    ∷ row 9 (ltb places (hi - lo))
     ∷ []))
 
-unfoldable pub fitCall : List Float → Float → ℕ → ℕ → ℕ → ℕ → Outcome (List Command)
-fitCall s tol lo hi kinds numbers = unless (refusal (fitRows s tol lo hi kinds numbers)) (fitIn (pointsRule tol) (pointAt s) lo hi)
+unfoldable pub fitCall : List Float → Float → ℕ → ℕ → ℕ → ℕ → ℕ → Outcome (List Command)
+fitCall s tol lo hi kinds numbers places = unless (refusal (fitRows s tol lo hi kinds numbers places)) (fitIn (pointsRule tol) (pointAt s) lo hi)
+
+-- the worst step of each command, for the list that is lent for them: it is left alone where the call is refused
+unfoldable pub worstCall : List Float → Float → ℕ → ℕ → ℕ → ℕ → ℕ → Outcome (List ℕ)
+worstCall s tol lo hi kinds numbers places = unless (refusal (fitRows s tol lo hi kinds numbers places)) (worstIn (pointsRule tol) (pointAt s) lo hi)
 
 -- ---- fit_points_with_primitives: all points, from the first to the last. Their last index is inside them, so row 7 refuses none
-abbrev pub primitivesCall : List Float → Float → ℕ → ℕ → Outcome (List Command)
-primitivesCall s tol kinds numbers = fitCall s tol 0 (length s / 3 - 1) kinds numbers
+abbrev pub primitivesCall : List Float → Float → ℕ → ℕ → ℕ → Outcome (List Command)
+primitivesCall s tol kinds numbers places = fitCall s tol 0 (length s / 3 - 1) kinds numbers places
+
+abbrev pub primitivesWorst : List Float → Float → ℕ → ℕ → ℕ → Outcome (List ℕ)
+primitivesWorst s tol kinds numbers places = worstCall s tol 0 (length s / 3 - 1) kinds numbers places
 
 -- It reports how many ranges it examined, counted by the fit's definition,
 abbrev pub examined : List Float → Float → ℕ

@@ -1,4 +1,4 @@
--- The commands of the pieces of a fit. Definitions only.
+-- The commands of the pieces of a fit, and the worst step of each. Definitions only.
 use Prim.Native.Nat.{ℕ, _-_, _/_}
 use mathlib.Core.Bool.{Bool, true, false}
 use mathlib.Core.List.{List, map}
@@ -9,6 +9,8 @@ use Rattle.geo.specs.declared.types.Point3D.{Point3D}
 use Rattle.geo.specs.declared.types.Command.{Command}
 use Rattle.geo.specs.declared.types.Command.the-variants.{Line, Arc}
 use Rattle.geo.specs.Lent.{pointAt, triple, flat}
+use Rattle.circle.specs.Three.{radiusFrom}
+use Rattle.trial.specs.Deviation.{arcDeviation}
 use Rattle.simplify.specs.Thin.{thinnedPoints}
 use Rattle.fitting.specs.declared.fitting.Rule.{Rule}
 use Rattle.fitting.specs.Pieces.{distance, Shape, line, arc, Piece, piecesIn}
@@ -29,6 +31,19 @@ pieceCommand at p = shaped (at (p .from)) (at (p .to)) (p .shape)
 -- one command for each piece, in order
 unfoldable pub fitIn : Rule → (ℕ → Point3D) → ℕ → ℕ → List Command
 fitIn r at lo hi = map (pieceCommand at) (piecesIn r at lo hi)
+
+-- ---- the worst step of each piece, counted in the points: "for each Arc this index, [...] and 0 for each Line" (document 02, §5). An Arc's deviation is that of its trial's centre,
+-- with the radius from there to the piece's first point
+unfoldable pub worstStep : (ℕ → Point3D) → ℕ → ℕ → Shape → ℕ
+worstStep at lo hi line = 0
+worstStep at lo hi (arc m clockwise) = arcDeviation m (radiusFrom m (at lo)) at lo hi .index
+
+unfoldable pub pieceWorst : (ℕ → Point3D) → Piece → ℕ
+pieceWorst at p = worstStep at (p .from) (p .to) (p .shape)
+
+-- "one number a command", in order
+unfoldable pub worstIn : Rule → (ℕ → Point3D) → ℕ → ℕ → List ℕ
+worstIn r at lo hi = map (pieceWorst at) (piecesIn r at lo hi)
 
 -- what thinning keeps of a chain of points, lent as the triples s
 abbrev pub keptOf : Rule → List Float → List Point3D

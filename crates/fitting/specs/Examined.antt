@@ -22,4 +22,4 @@ pub record RangesOf (s : List Float) (tol : Float) (xs : List Command) : Type 0 
   pub pieces : length xs ≡ piecesOf s tol
 
 abbrev pub RangesExamined : Type 0
-RangesExamined = (s : List Float) (tol : Float) (kinds numbers : ℕ) (xs : List Command) → primitivesCall s tol kinds numbers ≡ gives xs → RangesOf s tol xs
+RangesExamined = (s : List Float) (tol : Float) (kinds numbers places : ℕ) (xs : List Command) → primitivesCall s tol kinds numbers places ≡ gives xs → RangesOf s tol xs

@@ -45,6 +45,10 @@ ownPairs at lo hi = flat pair (listFrom (λ i. flatten (at i)) (hi - lo + 1) lo)
 abbrev pub shifted : ℕ → Deviation → Deviation
 shifted lo w = record { dist = w .dist; index = lo + w .index }
 
+-- the same of an Arc's deviation, whose index is 0 where it is 0
+abbrev pub shiftedWorst : ℕ → Deviation → Deviation
+shiftedWorst lo w = record { dist = w .dist; index = if +0 ≺ w .dist then lo + w .index else 0 }
+
 -- ---- what a piece is written as
 -- "A deviation is the deviation function's over the piece": the Line's is below the tolerance, and so is whatever `get_polyline_line_deviation`, which measures to the
 -- endless line, answers of the piece's own points
@@ -62,17 +66,17 @@ pub record NewArc (tol : Float) (at : ℕ → Point3D) (lo hi : ℕ) (c : Point)
       ≡ command.the-variants.Arc (at hi) (record { x = c .x ⊖ at lo .x; y = c .y ⊖ at lo .y; z = +0 }) (record { x = +0; y = +0; z = if d then neg one else one })
   pub passes : ArcPasses tol at lo hi c d
   -- whatever `get_polyline_arc_deviation` and `is_arc_clockwise` answer of the piece's own points
-  pub answered : (v : Float) → arcCall (ownPoints at lo hi) c (radiusFrom c (at lo)) ≡ gives v → (v ≺ tol) ≡ true
+  pub answered : (v : Deviation) → arcCall (ownPoints at lo hi) c (radiusFrom c (at lo)) ≡ gives v → (v .dist ≺ tol) ≡ true
   pub turning : (b : Bool) → directionCall (ownPairs at lo hi) c ≡ gives b → d ≡ b
 
 -- "An uncut range is a piece, written to its last point as a Line if that passes, else as the Arc of the first arc trial that does": x is that command for the points from lo
--- to hi, the first trial being by three points, the second by least squares
+-- to hi, the first trial being by three points, the second by least squares. A trial tells its worst step w too
 pub data WrittenAs (r : Rule) (at : ℕ → Point3D) (lo hi : ℕ) (x : command.Command) : Type 0 where
   as-line : LinePasses r at lo hi → x ≡ command.the-variants.Line (at hi) → WrittenAs r at lo hi x
-  as-first : (c : Point) (d : Bool) → LineFails r at lo hi → counted r (threeTried at lo hi (lineDeviation (distance r) at lo hi .index) (r .tolerance)) ≡ Arc c d
+  as-first : (c : Point) (d : Bool) (w : ℕ) → LineFails r at lo hi → counted r (threeTried at lo hi (lineDeviation (distance r) at lo hi .index) (r .tolerance)) ≡ Arc c d w
       → NewArc (r .tolerance) at lo hi c d x → WrittenAs r at lo hi x
-  as-second : (c : Point) (d : Bool) → LineFails r at lo hi → counted r (threeTried at lo hi (lineDeviation (distance r) at lo hi .index) (r .tolerance)) ≡ None
-      → counted r (leastTried at lo hi (lineDeviation (distance r) at lo hi .index) (r .tolerance)) ≡ Arc c d → NewArc (r .tolerance) at lo hi c d x → WrittenAs r at lo hi x
+  as-second : (c : Point) (d : Bool) (w : ℕ) → LineFails r at lo hi → counted r (threeTried at lo hi (lineDeviation (distance r) at lo hi .index) (r .tolerance)) ≡ None
+      → counted r (leastTried at lo hi (lineDeviation (distance r) at lo hi .index) (r .tolerance)) ≡ Arc c d w → NewArc (r .tolerance) at lo hi c d x → WrittenAs r at lo hi x
 
 -- one command for each piece, in order
 abbrev pub AllWritten : Rule → (ℕ → Point3D) → List Piece → List command.Command → Type 0

@@ -5,3 +5,4 @@ pub mod Ranges
 pub mod Laws
 pub mod Calls
 pub mod Examined
+pub mod WorstStep

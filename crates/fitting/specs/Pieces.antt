@@ -17,16 +17,17 @@ use Rattle.simplify.specs.declared.simplify.Farthest.{Farthest}
 use Rattle.simplify.specs.declared.simplify.Ruler.the-variants.{Line}
 use Rattle.simplify.specs.Measure.{Measure, measureOf}
 use Rattle.simplify.specs.Farthest.{farthestIn}
+use Rattle.fitting.specs.declared.fitting.Note.the-variants.{Steps, Worst}
 use Rattle.fitting.specs.declared.fitting.Rule.{Rule}
 
--- ---- by which rule a range is judged: a distance, whether arcs are tried, and a tolerance
+-- ---- by which rule a range is judged: a distance, whether arcs are tried, and a tolerance; and what is noted beside each command
 -- that of the functions that take points
 abbrev pub pointsRule : Float → Rule
-pointsRule tol = record { ruler = Line; arcs = true; tolerance = tol }
+pointsRule tol = record { ruler = Line; arcs = true; tolerance = tol; note = Worst }
 
 -- that of `fit_arcs`, and of the fit of a file and the replacement of a lap, which rest on it
 abbrev pub lapsRule : Float → Rule
-lapsRule tol = record { ruler = Line; arcs = true; tolerance = tol }
+lapsRule tol = record { ruler = Line; arcs = true; tolerance = tol; note = Steps }
 
 abbrev pub distance : Rule → Measure Point3D
 distance r = measureOf (r .ruler)
@@ -57,7 +58,7 @@ pub data Choice : Type 0 where
 
 -- the arc that a trial found, else a cut at k
 unfoldable pub arcOrCut : Trial → ℕ → Choice
-arcOrCut (Arc m clockwise) k = whole (arc m clockwise)
+arcOrCut (Arc m clockwise w) k = whole (arc m clockwise)
 arcOrCut None k = cutAt k
 
 -- a trial as a rule counts it: failed where no arcs are tried

@@ -18,12 +18,12 @@ behind inside ends (suc n) hi = inside hi (getD ends n 0) ++ behind inside ends 
 
 -- what is left to write: the pieces of the range that is looked at, and of those behind
 unfoldable pub leftIn : Rule → (ℕ → Point3D) → List ℕ → Stand → List Noted
-leftIn r at ends w = map (pieceNoted at) (piecesIn r at (w .lo) (w .hi) ++ behind (piecesIn r at) ends (w .waiting) (w .hi))
+leftIn r at ends w = map (pieceNoted r at) (piecesIn r at (w .lo) (w .hi) ++ behind (piecesIn r at) ends (w .waiting) (w .hi))
 
 -- ---- one range: what is written of it, which ends wait then, and where the fit stands
-unfoldable pub stepNoted : (ℕ → Point3D) → Stand → Choice → List Noted
-stepNoted at w (whole s) = pieceNoted at (record { from = w .lo; to = w .hi; shape = s }) ∷ []
-stepNoted at w (cutAt k) = []
+unfoldable pub stepNoted : Rule → (ℕ → Point3D) → Stand → Choice → List Noted
+stepNoted r at w (whole s) = pieceNoted r at (record { from = w .lo; to = w .hi; shape = s }) ∷ []
+stepNoted r at w (cutAt k) = []
 
 unfoldable pub stepEnds : List ℕ → Stand → Choice → List ℕ
 stepEnds ends w (whole s) = ends
@@ -56,4 +56,4 @@ pub record Stands (start end at : ℕ) (ends : List ℕ) (w : Stand) : Type 0 wh
 pub record Looked (r : Rule) (at : ℕ → Point3D) (w w′ : Stand) (ends ends′ ks ks′ : List ℕ) (ns ns′ : List Float) (ss ss′ : List ℕ) : Type 0 where
   pub stands : w′ ≡ stepStand ends w (choice r at (w .lo) (w .hi))
   pub put : ends′ ≡ stepEnds ends w (choice r at (w .lo) (w .hi))
-  pub wrote : NotedPlaced (stepNoted at w (choice r at (w .lo) (w .hi))) (w .place) (length (stepNoted at w (choice r at (w .lo) (w .hi)))) ks ks′ ns ns′ ss ss′
+  pub wrote : NotedPlaced (stepNoted r at w (choice r at (w .lo) (w .hi))) (w .place) (length (stepNoted r at w (choice r at (w .lo) (w .hi)))) ks ks′ ns ns′ ss ss′

@@ -26,21 +26,29 @@ ghost use lib.ListN.{length, set};
 ghost use lib.Dec.{ltb};
 ghost use Rattle.floats.specs.Ops.{_≺_, +0};
 ghost use Rattle.geo.specs.Lent.{pointAt, flat, kindOf, numbersOf};
-ghost use Rattle.geo.specs.Outcome.{refusal, left};
+ghost use Rattle.geo.specs.Outcome.{refusal, left, Wrote};
 ghost use Rattle.geo.specs.Commands.{WroteCommands};
 ghost use Rattle.simplify.specs.Measure.{measureOf};
 ghost use Rattle.fitting.specs.Pieces.{pointsRule, lapsRule, counted, lineDeviation, arc};
 ghost use Rattle.fitting.specs.Commands.{normalOf, shaped};
-ghost use Rattle.fitting.specs.Written.{noted, notedIn, chainNoted, NotedPlaced};
+ghost use Rattle.fitting.specs.Written.{noted, noteBy, notedIn, chainNoted, NotedPlaced};
 ghost use Rattle.fitting.specs.Ranges.{nextFrom, Looked};
 ghost use Rattle.trial.specs.Trial.{tryArcs};
-ghost use Rattle.fitting.specs.Calls.{lineRows, lineCall, lineAnswer, arcRows, arcCall, arcAnswer, fitRows, fitCall, primitivesCall, examined, primitivesAnswer};
+ghost use Rattle.fitting.specs.Calls.{lineRows, lineCall, lineAnswer, arcRows, arcCall, arcAnswer, fitRows, fitCall, worstCall, primitivesCall, primitivesWorst, examined, primitivesAnswer};
 
-// By which rule a range is judged: which distance of a point counts, whether arcs are tried, and the tolerance.
+// What is noted beside each command of a fit: how many steps it covers, or which step of an Arc is worst, 0 for a Line.
+pub enum Note {
+    Steps,
+    Worst,
+}
+
+// By which rule a range is judged: which distance of a point counts, whether arcs are tried, and the tolerance; and what
+// is noted beside each command.
 pub struct Rule {
     pub ruler: Ruler,
     pub arcs: bool,
     pub tolerance: f64,
+    pub note: Note,
 }
 
 impl Rule {
@@ -52,6 +60,7 @@ impl Rule {
             ruler: Ruler::Line,
             arcs: true,
             tolerance,
+            note: Note::Worst,
         }
     }
 
@@ -63,6 +72,7 @@ impl Rule {
             ruler: Ruler::Line,
             arcs: true,
             tolerance,
+            note: Note::Steps,
         }
     }
 }
@@ -73,9 +83,9 @@ pub enum LineDeviation {
     Refused(u32),
 }
 
-// What get_polyline_arc_deviation answers.
+// What get_polyline_arc_deviation answers: the greatest deviation and the first step that reaches it.
 pub enum ArcDeviation {
-    Is(f64),
+    Is(Deviation),
     Refused(u32),
 }
 
@@ -129,22 +139,22 @@ fn arc_command(a: Point3D, b: Point3D, center: Point, clockwise: bool) -> Comman
     }
 }
 
-// Writes a command at place `at`, and notes beside it how many steps it covers, where the column of steps reaches so
-// far: who wants no steps lends an empty one.
+// Writes a command at place `at`, and a note beside it, where the column of notes reaches so far: who wants no notes
+// lends an empty one.
 pub fn put_noted(
     kinds: &mut [u8],
     nums: &mut [f64],
-    steps: &mut [u32],
+    notes: &mut [u32],
     at: usize,
     c: Command,
-    covered: u32,
+    note: u32,
 )
     requires { ⌜ (at < length (now kinds)) × (9 * at + 8 < length (now nums)) ⌝ }
-    ensures { λ _. ⌜ NotedPlaced (noted c covered ∷ []) at 1 (now (kinds .entry)) (now (kinds .exit)) (now (nums .entry)) (now (nums .exit)) (now (steps .entry)) (now (steps .exit)) ⌝ }
+    ensures { λ _. ⌜ NotedPlaced (noted c note ∷ []) at 1 (now (kinds .entry)) (now (kinds .exit)) (now (nums .entry)) (now (nums .exit)) (now (notes .entry)) (now (notes .exit)) ⌝ }
 {
     put_command(kinds, nums, at, c);
-    if at < steps.len() {
-        steps[at] = covered;
+    if at < notes.len() {
+        notes[at] = note;
     }
 }
 
@@ -216,20 +226,31 @@ fn try_rule(rule: Rule, points: &[f64], start: usize, end: usize, k: usize) -> T
     Trial::None
 }
 
+// What is noted beside a command that covers so many steps, `worst` being the worst of them.
+fn note_of(note: Note, covered: usize, worst: usize) -> u32
+    requires { ⌜ (covered < 2048) × (worst < 2048) ⌝ }
+    ensures { λ r. ⌜ r ≡ noteBy note covered worst ⌝ }
+{
+    match note {
+        Note::Steps => covered as u32,
+        Note::Worst => worst as u32,
+    }
+}
+
 // Writes the piece that is looked at as the command c.
 fn put_piece(
     c: Command,
+    note: u32,
     w: Stand,
     ends: &[u16],
     kinds: &mut [u8],
     nums: &mut [f64],
-    steps: &mut [u32],
+    notes: &mut [u32],
 ) -> Stand
-    requires { ⌜ (w .lo < w .hi) × (w .hi < 2048) × (w .waiting ≤ length (now ends)) × (w .place < length (now kinds)) × (9 * w .place + 8 < length (now nums)) ⌝ }
-    ensures { λ r. ⌜ (r ≡ nextFrom (now (ends .entry)) (w .hi) (w .place + 1) (w .waiting)) × NotedPlaced (noted c (w .hi - w .lo) ∷ []) (w .place) 1 (now (kinds .entry)) (now (kinds .exit)) (now (nums .entry)) (now (nums .exit)) (now (steps .entry)) (now (steps .exit)) ⌝ }
+    requires { ⌜ (w .waiting ≤ length (now ends)) × (w .place < length (now kinds)) × (9 * w .place + 8 < length (now nums)) ⌝ }
+    ensures { λ r. ⌜ (r ≡ nextFrom (now (ends .entry)) (w .hi) (w .place + 1) (w .waiting)) × NotedPlaced (noted c note ∷ []) (w .place) 1 (now (kinds .entry)) (now (kinds .exit)) (now (nums .entry)) (now (nums .exit)) (now (notes .entry)) (now (notes .exit)) ⌝ }
 {
-    let covered = (w.hi - w.lo) as u32;
-    put_noted(kinds, nums, steps, w.place, c, covered);
+    put_noted(kinds, nums, notes, w.place, c, note);
     w.next(w.place + 1, ends)
 }
 
@@ -242,28 +263,37 @@ fn fit_next(
     ends: &mut [u16],
     kinds: &mut [u8],
     nums: &mut [f64],
-    steps: &mut [u32],
+    notes: &mut [u32],
 ) -> Stand
     requires { ⌜ ((+0 ≺ rule .tolerance) ≡ true) × ((w .lo < w .hi) × (w .hi < 2048) × (3 * w .hi + 2 < length (now points)) × (w .waiting < length (now ends)) × (w .place < length (now kinds)) × (9 * w .place + 8 < length (now nums))) ⌝ }
-    ensures { λ r. ⌜ Looked rule (pointAt (now (points .entry))) w r (now (ends .entry)) (now (ends .exit)) (now (kinds .entry)) (now (kinds .exit)) (now (nums .entry)) (now (nums .exit)) (now (steps .entry)) (now (steps .exit)) ⌝ }
+    ensures { λ r. ⌜ Looked rule (pointAt (now (points .entry))) w r (now (ends .entry)) (now (ends .exit)) (now (kinds .entry)) (now (kinds .exit)) (now (nums .entry)) (now (nums .exit)) (now (notes .entry)) (now (notes .exit)) ⌝ }
 {
     let ruler = rule.ruler;
+    let note = rule.note;
     let d = line_deviation(ruler, points, w.lo, w.hi);
     let b = point_at(points, w.hi);
+    let covered = w.hi - w.lo;
     if d.dist < rule.tolerance {
-        return put_piece(Command::Line { end: b }, w, ends, kinds, nums, steps);
+        let n = note_of(note, covered, 0);
+        return put_piece(Command::Line { end: b }, n, w, ends, kinds, nums, notes);
     }
     let t = try_rule(rule, points, w.lo, w.hi, d.index);
     match t {
-        Trial::Arc { center, clockwise } => {
+        Trial::Arc {
+            center,
+            clockwise,
+            worst,
+        } => {
             let a = point_at(points, w.lo);
+            let n = note_of(note, covered, worst);
             put_piece(
                 arc_command(a, b, center, clockwise),
+                n,
                 w,
                 ends,
                 kinds,
                 nums,
-                steps,
+                notes,
             )
         }
         Trial::None => w.cut(d.index, ends),
@@ -278,16 +308,16 @@ fn fit_parts(
     ends: &mut [u16],
     kinds: &mut [u8],
     nums: &mut [f64],
-    steps: &mut [u32],
+    notes: &mut [u32],
 ) -> usize
     requires { ⌜ ((+0 ≺ rule .tolerance) ≡ true) × (first ≡ record { lo = first .lo; hi = first .hi; waiting = 0; place = first .place }) × ((first .lo < first .hi) × (first .hi < 2048) × (3 * first .hi + 2 < length (now points)) × (first .hi - first .lo ≤ length (now ends)) × (first .place + (first .hi - first .lo) ≤ length (now kinds)) × (9 * (first .place + (first .hi - first .lo)) ≤ length (now nums))) ⌝ }
     // The ends are lent as room to work in: what they hold at exit is left open.
-    ensures { λ r. ⌜ NotedPlaced (notedIn rule (pointAt (now (points .entry))) (first .lo) (first .hi)) (first .place) r (now (kinds .entry)) (now (kinds .exit)) (now (nums .entry)) (now (nums .exit)) (now (steps .entry)) (now (steps .exit)) ⌝ }
+    ensures { λ r. ⌜ NotedPlaced (notedIn rule (pointAt (now (points .entry))) (first .lo) (first .hi)) (first .place) r (now (kinds .entry)) (now (kinds .exit)) (now (nums .entry)) (now (nums .exit)) (now (notes .entry)) (now (notes .exit)) ⌝ }
 {
     let end = first.hi;
     let mut w = first;
     while w.lo < end {
-        w = fit_next(rule, points, w, ends, kinds, nums, steps);
+        w = fit_next(rule, points, w, ends, kinds, nums, notes);
     }
     w.place - first.place
 }
@@ -301,11 +331,11 @@ pub fn fit_range(
     end: usize,
     kinds: &mut [u8],
     nums: &mut [f64],
-    steps: &mut [u32],
+    notes: &mut [u32],
     at: usize,
 ) -> usize
     requires { ⌜ ((+0 ≺ rule .tolerance) ≡ true) × ((start < end) × (end < 2048) × (3 * end + 2 < length (now points)) × (at + (end - start) ≤ length (now kinds)) × (9 * (at + (end - start)) ≤ length (now nums))) ⌝ }
-    ensures { λ r. ⌜ NotedPlaced (notedIn rule (pointAt (now (points .entry))) start end) at r (now (kinds .entry)) (now (kinds .exit)) (now (nums .entry)) (now (nums .exit)) (now (steps .entry)) (now (steps .exit)) ⌝ }
+    ensures { λ r. ⌜ NotedPlaced (notedIn rule (pointAt (now (points .entry))) start end) at r (now (kinds .entry)) (now (kinds .exit)) (now (nums .entry)) (now (nums .exit)) (now (notes .entry)) (now (notes .exit)) ⌝ }
 {
     let w = Stand {
         lo: start,
@@ -315,10 +345,10 @@ pub fn fit_range(
     };
     if end - start <= Stand::FEW {
         let mut ends = [0u16; Stand::FEW];
-        return fit_parts(rule, points, w, &mut ends, kinds, nums, steps);
+        return fit_parts(rule, points, w, &mut ends, kinds, nums, notes);
     }
     let mut ends = [0u16; MOST_POINTS];
-    fit_parts(rule, points, w, &mut ends, kinds, nums, steps)
+    fit_parts(rule, points, w, &mut ends, kinds, nums, notes)
 }
 
 // Fits a chain: it is thinned in place, and what is kept is fitted. A course of at most 800 commands has no longer chain than 801 points.
@@ -327,12 +357,12 @@ pub fn flush_chain(
     chain: &mut [f64],
     kinds: &mut [u8],
     nums: &mut [f64],
-    steps: &mut [u32],
+    notes: &mut [u32],
     at: usize,
 ) -> usize
     requires { ⌜ ((+0 ≺ rule .tolerance) ≡ true) × ((length (now chain) / 3 ≤ 801) × (at + (length (now chain) / 3 - 1) ≤ length (now kinds)) × (9 * (at + (length (now chain) / 3 - 1)) ≤ length (now nums))) ⌝ }
     // The chain is lent as room to work in: what it holds at exit is left open.
-    ensures { λ r. ⌜ NotedPlaced (chainNoted rule (now (chain .entry))) at r (now (kinds .entry)) (now (kinds .exit)) (now (nums .entry)) (now (nums .exit)) (now (steps .entry)) (now (steps .exit)) ⌝ }
+    ensures { λ r. ⌜ NotedPlaced (chainNoted rule (now (chain .entry))) at r (now (kinds .entry)) (now (kinds .exit)) (now (nums .entry)) (now (nums .exit)) (now (notes .entry)) (now (notes .exit)) ⌝ }
 {
     let n = chain.len() / 3;
     if n < 2 {
@@ -340,7 +370,7 @@ pub fn flush_chain(
     }
     let ruler = rule.ruler;
     let k = thin_in_place(ruler, chain, n, rule.tolerance * rule.tolerance);
-    fit_range(rule, &chain[..3 * k], 0, k - 1, kinds, nums, steps, at)
+    fit_range(rule, &chain[..3 * k], 0, k - 1, kinds, nums, notes, at)
 }
 
 // The number of the first row that a line's deviation falls under, or 0.
@@ -392,7 +422,8 @@ fn check_arc(points: &[f64], center: Point, radius: f64) -> u32
     0
 }
 
-// Maximum deviation of a polyline from the circle around center.
+// Maximum deviation of a polyline from the circle around center, and the first step that reaches it: 0 where there is
+// none above 0.
 pub fn get_polyline_arc_deviation(points: &[f64], center: Point, radius: f64) -> ArcDeviation
     ensures { λ r. ⌜ r ≡ arcAnswer (arcCall (now (points .entry)) center radius) ⌝ }
 {
@@ -402,9 +433,12 @@ pub fn get_polyline_arc_deviation(points: &[f64], center: Point, radius: f64) ->
     }
     let n = points.len() / 3;
     if n < 2 {
-        return ArcDeviation::Is(0.0);
+        return ArcDeviation::Is(Deviation {
+            dist: 0.0,
+            index: 0,
+        });
     }
-    ArcDeviation::Is(arc_deviation(points, 0, n - 1, center, radius).dist)
+    ArcDeviation::Is(arc_deviation(points, 0, n - 1, center, radius))
 }
 
 // How many steps lie between two indices; none where the first is not below the second.
@@ -435,8 +469,9 @@ fn check_fit(
     end: usize,
     kinds: usize,
     nums: usize,
+    places: usize,
 ) -> u32
-    ensures { λ r. ⌜ r ≡ refusal (fitRows (now (points .entry)) tolerance start end kinds nums) ⌝ }
+    ensures { λ r. ⌜ r ≡ refusal (fitRows (now (points .entry)) tolerance start end kinds nums places) ⌝ }
 {
     if nums % 9 != 0 {
         return 1;
@@ -458,10 +493,14 @@ fn check_fit(
     if nums / 9 < most {
         return 9;
     }
+    if places < most {
+        return 9;
+    }
     0
 }
 
-// Recursively fits primitives to the points from start to end, and writes them to the front of both outputs.
+// Recursively fits primitives to the points from start to end, and writes them to the front of both outputs; beside each
+// the worst step of an Arc, 0 for a Line.
 pub fn fit_points_recursive(
     points: &[f64],
     tolerance: f64,
@@ -469,10 +508,20 @@ pub fn fit_points_recursive(
     end: usize,
     kinds: &mut [u8],
     nums: &mut [f64],
+    worst: &mut [u32],
 ) -> Answer
-    ensures { λ r. ⌜ WroteCommands (fitCall (now (points .entry)) tolerance start end (length (now (kinds .entry))) (length (now (nums .entry)))) (now (kinds .entry)) (now (kinds .exit)) (now (nums .entry)) (now (nums .exit)) r ⌝ }
+    ensures commands { λ r. ⌜ WroteCommands (fitCall (now (points .entry)) tolerance start end (length (now (kinds .entry))) (length (now (nums .entry))) (length (now (worst .entry)))) (now (kinds .entry)) (now (kinds .exit)) (now (nums .entry)) (now (nums .exit)) r ⌝ }
+    ensures worst { λ r. ⌜ Wrote (λ ws. ws) (worstCall (now (points .entry)) tolerance start end (length (now (kinds .entry))) (length (now (nums .entry))) (length (now (worst .entry)))) (now (worst .entry)) (now (worst .exit)) r ⌝ }
 {
-    let refused = check_fit(points, tolerance, start, end, kinds.len(), nums.len());
+    let refused = check_fit(
+        points,
+        tolerance,
+        start,
+        end,
+        kinds.len(),
+        nums.len(),
+        worst.len(),
+    );
     if refused != 0 {
         return Answer::Refused(refused);
     }
@@ -480,7 +529,7 @@ pub fn fit_points_recursive(
         return Answer::Written(0);
     }
     let rule = Rule::of_points(tolerance);
-    Answer::Written(fit_range(rule, points, start, end, kinds, nums, &mut [], 0))
+    Answer::Written(fit_range(rule, points, start, end, kinds, nums, worst, 0))
 }
 
 // How many ranges a fit of n pieces examined: each piece is one, and each cut one more.
@@ -494,19 +543,22 @@ fn ranges_of(n: usize) -> usize
     2 * n - 1
 }
 
-// Fits primitives to all points, and tells how many ranges it examined.
+// Fits primitives to all points, and tells how many ranges it examined; beside each command the worst step of an Arc, 0
+// for a Line.
 pub fn fit_points_with_primitives(
     points: &[f64],
     tolerance: f64,
     kinds: &mut [u8],
     nums: &mut [f64],
+    worst: &mut [u32],
 ) -> Primitives
-    ensures says { λ r. ⌜ r ≡ primitivesAnswer (primitivesCall (now (points .entry)) tolerance (length (now (kinds .entry))) (length (now (nums .entry)))) (examined (now (points .entry)) tolerance) ⌝ }
-    ensures kinds { λ _. ⌜ now (kinds .exit) ≡ left (map kindOf) (now (kinds .entry)) (primitivesCall (now (points .entry)) tolerance (length (now (kinds .entry))) (length (now (nums .entry)))) ⌝ }
-    ensures numbers { λ _. ⌜ now (nums .exit) ≡ left (flat numbersOf) (now (nums .entry)) (primitivesCall (now (points .entry)) tolerance (length (now (kinds .entry))) (length (now (nums .entry)))) ⌝ }
+    ensures says { λ r. ⌜ r ≡ primitivesAnswer (primitivesCall (now (points .entry)) tolerance (length (now (kinds .entry))) (length (now (nums .entry))) (length (now (worst .entry)))) (examined (now (points .entry)) tolerance) ⌝ }
+    ensures kinds { λ _. ⌜ now (kinds .exit) ≡ left (map kindOf) (now (kinds .entry)) (primitivesCall (now (points .entry)) tolerance (length (now (kinds .entry))) (length (now (nums .entry))) (length (now (worst .entry)))) ⌝ }
+    ensures numbers { λ _. ⌜ now (nums .exit) ≡ left (flat numbersOf) (now (nums .entry)) (primitivesCall (now (points .entry)) tolerance (length (now (kinds .entry))) (length (now (nums .entry))) (length (now (worst .entry)))) ⌝ }
+    ensures worst { λ _. ⌜ now (worst .exit) ≡ left (λ ws. ws) (now (worst .entry)) (primitivesWorst (now (points .entry)) tolerance (length (now (kinds .entry))) (length (now (nums .entry))) (length (now (worst .entry)))) ⌝ }
 {
     let last = steps_between(1, points.len() / 3);
-    let a = fit_points_recursive(points, tolerance, 0, last, kinds, nums);
+    let a = fit_points_recursive(points, tolerance, 0, last, kinds, nums, worst);
     match a {
         Answer::Written(n) => Primitives::Fitted {
             count: n,

@@ -60,7 +60,7 @@ module _ (f : ℕ → Float) (i e : ℕ) (b : Float) where
   none-more t a j p q = ⊎-elim (λ z. subst (λ (x : ℕ). (b ≺ f x) ≡ false) z t) (λ l. a j (omega arith) q) (eq-or-lt-of-le p)
 
 -- the search stays where it was, or finds the first of the greatest
-found : (f : ℕ → Float) (n i e : ℕ) (best : Farthest) → e ≡ i + n
+pub found : (f : ℕ → Float) (n i e : ℕ) (best : Farthest) → e ≡ i + n
     → ((farthestOf f n i best ≡ best) × NoneAbove f i e (best .square)) ⊎ FirstAbove f i e (best .square) (farthestOf f n i best)
 unfolding farthestOf
 found f zero i e best q = inl (refl, λ j p l. absurd (omega arith))

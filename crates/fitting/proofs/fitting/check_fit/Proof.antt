@@ -45,7 +45,11 @@ returns-6 c = sym (row-passes _ _ _ (whole-passes 9 _ (c .before .before .before
 
 returns-7 : tie.Need-returns-7
 unfolding fitRows
-returns-7 c = sym (row-passes _ _ _ (whole-passes 9 _ (c .before .before .before .before .before .before .before .before .before .if1 .left)) ∙ points-passed _ _ _ (c .before .before .before .before .before .before .before .before .check-points .ensures) (c .before .before .before .before .before .before .before .if2 .left) ∙ row-passes _ _ _ (not-passes _ _ (c .before .before .before .before .before .before .is-tolerance .ensures) (c .before .before .before .before .before .if3 .left)) ∙ row-passes _ _ _ (sym (c .before .before .before .before .is-outside .ensures) ∙ c .before .before .before .if4 .left) ∙ row-passes _ _ _ (most-passes _ _ _ (c .before .before .steps-between .ensures) (c .before .if5 .left)) ∙ row-passes _ _ _ (most-passes _ _ _ (c .before .before .steps-between .ensures) (c .if6 .left)) ∙ done)
+returns-7 c = sym (row-passes _ _ _ (whole-passes 9 _ (c .before .before .before .before .before .before .before .before .before .before .if1 .left)) ∙ points-passed _ _ _ (c .before .before .before .before .before .before .before .before .before .check-points .ensures) (c .before .before .before .before .before .before .before .before .if2 .left) ∙ row-passes _ _ _ (not-passes _ _ (c .before .before .before .before .before .before .before .is-tolerance .ensures) (c .before .before .before .before .before .before .if3 .left)) ∙ row-passes _ _ _ (sym (c .before .before .before .before .before .is-outside .ensures) ∙ c .before .before .before .before .if4 .left) ∙ row-passes _ _ _ (most-passes _ _ _ (c .before .before .before .steps-between .ensures) (c .before .before .if5 .left)) ∙ row-passes _ _ _ (most-passes _ _ _ (c .before .before .before .steps-between .ensures) (c .before .if6 .left)) ∙ row-fails _ _ _ (most-fails _ _ _ (c .before .before .before .steps-between .ensures) (c .if7 .taken)))
+
+returns-8 : tie.Need-returns-8
+unfolding fitRows
+returns-8 c = sym (row-passes _ _ _ (whole-passes 9 _ (c .before .before .before .before .before .before .before .before .before .before .if1 .left)) ∙ points-passed _ _ _ (c .before .before .before .before .before .before .before .before .before .check-points .ensures) (c .before .before .before .before .before .before .before .before .if2 .left) ∙ row-passes _ _ _ (not-passes _ _ (c .before .before .before .before .before .before .before .is-tolerance .ensures) (c .before .before .before .before .before .before .if3 .left)) ∙ row-passes _ _ _ (sym (c .before .before .before .before .before .is-outside .ensures) ∙ c .before .before .before .before .if4 .left) ∙ row-passes _ _ _ (most-passes _ _ _ (c .before .before .before .steps-between .ensures) (c .before .before .if5 .left)) ∙ row-passes _ _ _ (most-passes _ _ _ (c .before .before .before .steps-between .ensures) (c .before .if6 .left)) ∙ row-passes _ _ _ (most-passes _ _ _ (c .before .before .before .steps-between .ensures) (c .if7 .left)) ∙ done)
 
 pub check-fit-spec : {M : Type 1} → statement M
 check-fit-spec =
@@ -61,4 +65,5 @@ check-fit-spec =
     steps-between-requires
     returns-5
     returns-6
-    returns-7)
+    returns-7
+    returns-8)

@@ -14,13 +14,13 @@ use Rattle.fitting.proofs.fitting.fit_parts.Statement.{statement}
 use Rattle.fitting.proofs.fitting.fit_parts.Tie as tie
 
 abbrev Inv-loop : tie.InvT-loop
-Inv-loop rule points first ends₀ kinds₀ nums₀ steps₀ end w₀ ends kinds nums steps w =
+Inv-loop rule points first ends₀ kinds₀ nums₀ notes₀ end w₀ ends kinds nums notes w =
     Stands (first .lo) (first .hi) (first .place) ends w
-    × Progress (notedIn rule (pointAt points) (first .lo) (first .hi)) (leftIn rule (pointAt points) ends w) (first .place) (w .place - first .place) kinds₀ kinds nums₀ nums steps₀ steps
+    × Progress (notedIn rule (pointAt points) (first .lo) (first .hi)) (leftIn rule (pointAt points) ends w) (first .place) (w .place - first .place) kinds₀ kinds nums₀ nums notes₀ notes
     × (length ends ≡ length ends₀)
 
 abbrev μ-loop : tie.MeasureT-loop
-μ-loop rule points first ends₀ kinds₀ nums₀ steps₀ end w₀ ends kinds nums steps w = (first .hi - w .lo) * 2048 + (w .hi - w .lo)
+μ-loop rule points first ends₀ kinds₀ nums₀ notes₀ end w₀ ends kinds nums notes w = (first .hi - w .lo) * 2048 + (w .hi - w .lo)
 
 loop-holds : tie.Need-loop-holds Inv-loop μ-loop
 loop-holds c = let a = c .before .before .before .before .before .args in
@@ -30,8 +30,8 @@ loop-holds c = let a = c .before .before .before .before .before .args in
     let p = c .before .before .before .before .before .pre in
     let whole = notedIn r at (f .lo) (f .hi) in (
       subst (λ (v : Stand). Stands (f .lo) (f .hi) (f .place) (a .ends .now) v) (sym (p .1)) (stands-first r at (f .lo) (f .hi) (f .place) (a .ends .now) (p .2 .0)),
-      subst (λ (v : Stand). Progress whole (leftIn r at (a .ends .now) v) (f .place) (f .place - f .place) (a .kinds .now) (a .kinds .now) (a .nums .now) (a .nums .now) (a .steps .now) (a .steps .now)) (sym (p .1))
-          (progress-first r at (f .lo) (f .hi) (f .place) (a .ends .now) (a .kinds .now) (a .nums .now) (a .steps .now)),
+      subst (λ (v : Stand). Progress whole (leftIn r at (a .ends .now) v) (f .place) (f .place - f .place) (a .kinds .now) (a .kinds .now) (a .nums .now) (a .nums .now) (a .notes .now) (a .notes .now)) (sym (p .1))
+          (progress-first r at (f .lo) (f .hi) (f .place) (a .ends .now) (a .kinds .now) (a .nums .now) (a .notes .now)),
       refl,
     )
 
@@ -53,15 +53,15 @@ loop-less : tie.Need-loop-less Inv-loop μ-loop
 loop-less c = let a = c .before .before .before .before .before .before .before .before .before .before .before .before .before .before .before .before .before .before .before .before .before .args in
     let f = a .first in
     let i = c .before .before .before .before .before .before .before .before .before .before .before .before .before .before .before .loop .inv in
-    turn-less (a .rule) (c .before .before .before .before .before .before .before .before .before .before .before .before .before .before .before .before .before .before .before .before .before .pre .0) (pointAt (a .points .now)) (f .lo) (f .hi) (f .place) _ _ _ _ (a .kinds .now) _ _ (a .nums .now) _ _ (a .steps .now) _ _ (c .before .before .before .before .before .before .before .before .fit-next .ensures) (i .0) (c .before .before .before .before .before .before .before .before .before .before .before .before .before .if1 .taken) (omega (arith, i .2, c .before .before .before .before .before .before .before .before .before .before .before .before .before .before .before .before .before .before .before .before .before .pre .2)) (c .before .before .before .before .before .before .before .before .before .before .before .before .before .before .before .before .before .before .before .before .before .pre .2 .1)
+    turn-less (a .rule) (c .before .before .before .before .before .before .before .before .before .before .before .before .before .before .before .before .before .before .before .before .before .pre .0) (pointAt (a .points .now)) (f .lo) (f .hi) (f .place) _ _ _ _ (a .kinds .now) _ _ (a .nums .now) _ _ (a .notes .now) _ _ (c .before .before .before .before .before .before .before .before .fit-next .ensures) (i .0) (c .before .before .before .before .before .before .before .before .before .before .before .before .before .if1 .taken) (omega (arith, i .2, c .before .before .before .before .before .before .before .before .before .before .before .before .before .before .before .before .before .before .before .before .before .pre .2)) (c .before .before .before .before .before .before .before .before .before .before .before .before .before .before .before .before .before .before .before .before .before .pre .2 .1)
 
 loop-again : tie.Need-loop-again Inv-loop μ-loop
 loop-again c = let a = c .before .before .before .before .before .before .before .before .before .before .before .before .before .before .before .before .before .before .before .before .before .args in
     let f = a .first in
     let i = c .before .before .before .before .before .before .before .before .before .before .before .before .before .before .before .loop .inv in
     let q = c .before .before .before .before .before .before .before .before .fit-next .ensures in (
-      turn-stands (a .rule) (c .before .before .before .before .before .before .before .before .before .before .before .before .before .before .before .before .before .before .before .before .before .pre .0) (pointAt (a .points .now)) (f .lo) (f .hi) (f .place) _ _ _ _ (a .kinds .now) _ _ (a .nums .now) _ _ (a .steps .now) _ _ q (i .0) (c .before .before .before .before .before .before .before .before .before .before .before .before .before .if1 .taken) (omega (arith, i .2, c .before .before .before .before .before .before .before .before .before .before .before .before .before .before .before .before .before .before .before .before .before .pre .2)) (c .before .before .before .before .before .before .before .before .before .before .before .before .before .before .before .before .before .before .before .before .before .pre .2 .1),
-      turn-progress (a .rule) (c .before .before .before .before .before .before .before .before .before .before .before .before .before .before .before .before .before .before .before .before .before .pre .0) (pointAt (a .points .now)) (f .lo) (f .hi) (f .place) _ _ _ _ (a .kinds .now) _ _ (a .nums .now) _ _ (a .steps .now) _ _ q (i .0) (c .before .before .before .before .before .before .before .before .before .before .before .before .before .if1 .taken) (omega (arith, i .2, c .before .before .before .before .before .before .before .before .before .before .before .before .before .before .before .before .before .before .before .before .before .pre .2)) (c .before .before .before .before .before .before .before .before .before .before .before .before .before .before .before .before .before .before .before .before .before .pre .2 .1) (i .1),
+      turn-stands (a .rule) (c .before .before .before .before .before .before .before .before .before .before .before .before .before .before .before .before .before .before .before .before .before .pre .0) (pointAt (a .points .now)) (f .lo) (f .hi) (f .place) _ _ _ _ (a .kinds .now) _ _ (a .nums .now) _ _ (a .notes .now) _ _ q (i .0) (c .before .before .before .before .before .before .before .before .before .before .before .before .before .if1 .taken) (omega (arith, i .2, c .before .before .before .before .before .before .before .before .before .before .before .before .before .before .before .before .before .before .before .before .before .pre .2)) (c .before .before .before .before .before .before .before .before .before .before .before .before .before .before .before .before .before .before .before .before .before .pre .2 .1),
+      turn-progress (a .rule) (c .before .before .before .before .before .before .before .before .before .before .before .before .before .before .before .before .before .before .before .before .before .pre .0) (pointAt (a .points .now)) (f .lo) (f .hi) (f .place) _ _ _ _ (a .kinds .now) _ _ (a .nums .now) _ _ (a .notes .now) _ _ q (i .0) (c .before .before .before .before .before .before .before .before .before .before .before .before .before .if1 .taken) (omega (arith, i .2, c .before .before .before .before .before .before .before .before .before .before .before .before .before .before .before .before .before .before .before .before .before .pre .2)) (c .before .before .before .before .before .before .before .before .before .before .before .before .before .before .before .before .before .before .before .before .before .pre .2 .1) (i .1),
       c .before .before .before .before .before .before .before .before .fit-next .kept .1 .1 .1 .0 ∙ i .2,
     )
 
@@ -84,7 +84,7 @@ returns : tie.Need-returns Inv-loop μ-loop
 returns c = let a = c .before .before .before .before .before .before .before .before .before .before .args in
     let f = a .first in
     let i = c .before .before .before .before .loop .inv in
-    progress-done (notedIn (a .rule) (pointAt (a .points .now)) (f .lo) (f .hi)) _ (f .place) (a .kinds .now) (a .nums .now) (a .steps .now) _ _ _ _ (i .1)
+    progress-done (notedIn (a .rule) (pointAt (a .points .now)) (f .lo) (f .hi)) _ (f .place) (a .kinds .now) (a .nums .now) (a .notes .now) _ _ _ _ (i .1)
     (left-none (a .rule) (pointAt (a .points .now)) (f .lo) (f .hi) (f .place) _ _ (i .0) (c .before .before .if1 .left))
 
 pub fit-parts-spec : {M : Type 1} → statement M

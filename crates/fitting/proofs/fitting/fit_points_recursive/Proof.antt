@@ -3,12 +3,8 @@ use borrow.Author.Needs.{needs}
 use mathlib.Core.Path.{refl}
 use native.Mathlib.Omega.{arith}
 use lib.ListN.{length}
-use Rattle.geo.specs.Lent.{pointAt}
-use Rattle.geo.proofs.Outcomes.{commands-refused}
-use Rattle.fitting.specs.Pieces.{pointsRule}
-use Rattle.fitting.specs.Calls.{fitCall}
-use Rattle.fitting.proofs.Fitted.{noted-fit}
-use Rattle.fitting.proofs.Writing.{commands-placed}
+use Rattle.geo.proofs.Outcomes.{wrote-refused, commands-refused}
+use Rattle.fitting.specs.Calls.{fitCall, worstCall}
 use Rattle.fitting.proofs.Accepted.{fit-accepted, wrote-fit, wrote-no-fit}
 use Rattle.fitting.proofs.fitting.fit_points_recursive.Statement.{statement}
 use Rattle.fitting.proofs.fitting.fit_points_recursive.Tie as tie
@@ -17,21 +13,18 @@ check-fit-requires : tie.Need-check-fit-requires
 check-fit-requires c κs = search needs
 
 returns : tie.Need-returns
-unfolding fitCall
-returns c = commands-refused _ _ (c .before .check-fit .ensures) _ _ _ (c .if1 .taken)
+unfolding fitCall worstCall
+returns c = (commands-refused _ _ (c .before .check-fit .ensures) _ _ _ (c .if1 .taken), wrote-refused _ _ (c .before .check-fit .ensures) _ _ _ (c .if1 .taken))
 
 returns-2 : tie.Need-returns-2
-returns-2 c = let a = c .before .before .before .before .before .before .args in wrote-no-fit (a .points .now) (a .tolerance) (a .start) (a .end) (a .kinds .now) _ (a .nums .now) _ _ 0 (c .before .before .check-fit .ensures) (c .before .if1 .left) (c .if2 .taken) refl refl
+returns-2 c = let a = c .before .before .before .before .before .before .before .args in wrote-no-fit (a .points .now) (a .tolerance) (a .start) (a .end) (a .kinds .now) _ (a .nums .now) _ (a .worst .now) _ _ 0 (c .before .before .check-fit .ensures) (c .before .if1 .left) (c .if2 .taken) refl refl refl refl
 
 of-points-requires : tie.Need-of-points-requires
 of-points-requires c κs = search needs
 
-slice-aggregate-fit-range : tie.Need-slice-aggregate-fit-range
-slice-aggregate-fit-range c = search needs
-
 fit-range-requires : tie.Need-fit-range-requires
-fit-range-requires c κs = let a = c .before .before .before .before .before .before .before .before .before .before .args in
-    let r = fit-accepted (a .points .now) (a .tolerance) (a .start) (a .end) (length (a .kinds .now)) (length (a .nums .now)) _ (c .before .before .before .before .before .before .check-fit .ensures) (c .before .before .before .before .before .if1 .left) in
+fit-range-requires c κs = let a = c .before .before .before .before .before .before .before .before .before .before .before .args in
+    let r = fit-accepted (a .points .now) (a .tolerance) (a .start) (a .end) (length (a .kinds .now)) (length (a .nums .now)) (length (a .worst .now)) _ (c .before .before .before .before .before .before .check-fit .ensures) (c .before .before .before .before .before .if1 .left) in
     let l = c .before .before .before .before .if2 .left in
     let n = r .ends-inside (omega (arith, l)) in
     let f = r .few in
@@ -45,10 +38,13 @@ same-length c = search needs
 same-length-2 : tie.Need-same-length-2
 same-length-2 c = search needs
 
+same-length-3 : tie.Need-same-length-3
+same-length-3 c = search needs
+
 returns-3 : tie.Need-returns-3
-returns-3 c = let a = c .before .before .before .before .before .before .before .before .before .before .before .before .before .before .before .before .args in
-    let p = commands-placed _ _ 0 _ (a .kinds .now) _ (a .nums .now) _ _ _ (noted-fit (pointsRule (a .tolerance)) (pointAt (a .points .now)) (a .start) (a .end)) (rw (c .before .before .before .before .before .before .before .before .before .of-points .ensures) at (c .before .before .before .before .before .fit-range .ensures)) in
-    wrote-fit (a .points .now) (a .tolerance) (a .start) (a .end) (a .kinds .now) _ (a .nums .now) _ _ _ (c .before .before .before .before .before .before .before .before .before .before .before .before .check-fit .ensures) (c .before .before .before .before .before .before .before .before .before .before .before .if1 .left) (omega (arith, c .before .before .before .before .before .before .before .before .before .before .if2 .left)) p
+returns-3 c = let a = c .before .before .before .before .before .before .before .before .before .before .before .before .before .before .before .before .before .before .args in
+    wrote-fit (a .points .now) (a .tolerance) (a .start) (a .end) (a .kinds .now) _ (a .nums .now) _ (a .worst .now) _ _ _ (c .before .before .before .before .before .before .before .before .before .before .before .before .before .check-fit .ensures) (c .before .before .before .before .before .before .before .before .before .before .before .before .if1 .left) (omega (arith, c .before .before .before .before .before .before .before .before .before .before .before .if2 .left))
+    (rw (c .before .before .before .before .before .before .before .before .before .before .of-points .ensures) at (c .before .before .before .before .before .before .fit-range .ensures))
 
 pub fit-points-recursive-spec : {M : Type 1} → statement M
 fit-points-recursive-spec =
@@ -58,8 +54,8 @@ fit-points-recursive-spec =
     returns
     returns-2
     of-points-requires
-    slice-aggregate-fit-range
     fit-range-requires
     same-length
     same-length-2
+    same-length-3
     returns-3)

@@ -9,7 +9,7 @@ use Rattle.fitting.proofs.fitting.flush_chain.Statement.{statement}
 use Rattle.fitting.proofs.fitting.flush_chain.Tie as tie
 
 returns : tie.Need-returns
-returns c = let a = c .before .before .before .before .before .args in none-noted _ (no-noted (a .rule) (a .chain .now) (c .if1 .taken)) (a .at) (a .kinds .now) (a .nums .now) (a .steps .now)
+returns c = let a = c .before .before .before .before .before .args in none-noted _ (no-noted (a .rule) (a .chain .now) (c .if1 .taken)) (a .at) (a .kinds .now) (a .nums .now) (a .notes .now)
 
 thin-in-place-requires : tie.Need-thin-in-place-requires
 thin-in-place-requires c κs = (square-not-negative (c .before .before .before .before .before .before .before .args .rule .tolerance), omega (arith, c .before .before .before .before .before .before .before .pre))
@@ -53,7 +53,7 @@ same-length-4 c = search needs
 
 returns-2 : tie.Need-returns-2
 returns-2 c = let a = c .before .before .before .before .before .before .before .before .before .before .before .before .before .before .before .before .before .before .before .before .before .args in
-    fitted-chain (a .rule) (a .chain .now) _ _ _ (c .before .before .before .before .before .before .before .before .before .before .before .before .before .thin-in-place .ensures) (omega arith) (a .at) _ (a .kinds .now) _ (a .nums .now) _ (a .steps .now) _ (c .before .before .before .before .before .before .fit-range .ensures)
+    fitted-chain (a .rule) (a .chain .now) _ _ _ (c .before .before .before .before .before .before .before .before .before .before .before .before .before .thin-in-place .ensures) (omega arith) (a .at) _ (a .kinds .now) _ (a .nums .now) _ (a .notes .now) _ (c .before .before .before .before .before .before .fit-range .ensures)
 
 pub flush-chain-spec : {M : Type 1} → statement M
 flush-chain-spec =

@@ -9,11 +9,11 @@ use Rattle.fitting.proofs.fitting.put_noted.Tie as tie
 put-command-requires : tie.Need-put-command-requires
 put-command-requires c κs = search needs
 
-mul-steps : tie.Need-mul-steps
-mul-steps c = search needs
+mul-notes : tie.Need-mul-notes
+mul-notes c = search needs
 
-slice-write-steps : tie.Need-slice-write-steps
-slice-write-steps c = search needs
+slice-write-notes : tie.Need-slice-write-notes
+slice-write-notes c = search needs
 
 same-length : tie.Need-same-length
 same-length c = search needs
@@ -25,7 +25,7 @@ same-length-3 : tie.Need-same-length-3
 same-length-3 c = search needs
 
 returns : tie.Need-returns
-returns c = let a = c .before .before .before .before .before .before .before .before .before .before .before .args in one-noted (a .c) (a .covered) (a .at) (a .kinds .now) _ (a .nums .now) _ (a .steps .now) _ (c .before .before .before .before .before .put-command .ensures .0) (c .before .before .before .before .before .put-command .ensures .1) refl
+returns c = let a = c .before .before .before .before .before .before .before .before .before .before .before .args in one-noted (a .c) (a .note) (a .at) (a .kinds .now) _ (a .nums .now) _ (a .notes .now) _ (c .before .before .before .before .before .put-command .ensures .0) (c .before .before .before .before .before .put-command .ensures .1) refl
 
 same-length-4 : tie.Need-same-length-4
 same-length-4 c = search needs
@@ -34,15 +34,15 @@ same-length-5 : tie.Need-same-length-5
 same-length-5 c = search needs
 
 returns-2 : tie.Need-returns-2
-returns-2 c = let a = c .before .before .before .before .before .before .before .before .before .before .before .args in one-noted (a .c) (a .covered) (a .at) (a .kinds .now) _ (a .nums .now) _ (a .steps .now) _ (c .before .before .before .before .before .put-command .ensures .0) (c .before .before .before .before .before .put-command .ensures .1) (sym (set-out (a .steps .now) (a .at) (a .covered) (c .if1 .left)))
+returns-2 c = let a = c .before .before .before .before .before .before .before .before .before .before .before .args in one-noted (a .c) (a .note) (a .at) (a .kinds .now) _ (a .nums .now) _ (a .notes .now) _ (c .before .before .before .before .before .put-command .ensures .0) (c .before .before .before .before .before .put-command .ensures .1) (sym (set-out (a .notes .now) (a .at) (a .note) (c .if1 .left)))
 
 pub put-noted-spec : {M : Type 1} → statement M
 put-noted-spec =
     tie.close
     (tie.spec
     put-command-requires
-    mul-steps
-    slice-write-steps
+    mul-notes
+    slice-write-notes
     same-length
     same-length-2
     same-length-3
