@@ -4,7 +4,7 @@
    not points or commands). The functions keep no pointer after they return, allocate nothing and have no state of their
    own, so two threads may call them at once on different memory; of other libraries they need memset and memcpy
    alone. The archive (rt staticlib exports) is for x86-64 and no other processor. The caller sees to it that
-   - each pointer is valid for its length and aligned for its type (8 bytes for numbers and for size_t),
+   - each pointer is valid for its length and aligned for its type (8 bytes for numbers and for size_t, 4 for uint32_t),
    - what is written (outputs and `count`) overlaps nothing else that is passed to the same call.
    Any contents are allowed: every call ends, reads and writes only what was lent, and unfit input meets a refusal.
 
@@ -15,7 +15,7 @@
    the centre's offset from the start and the normal (Arc), or both controls (Bezier); unused numbers are +0. An output
    must have room for the MOST of the call, whatever it then writes:
    - thinning points: as many points as it is given; thinning commands: as many commands;
-   - a fit of n points: n - 1 commands (0 without points);
+   - a fit of n points: n - 1 commands, and as many worst steps (0 without points);
    - a fit of a course: one command for each Move, Line and Arc, and one for each step of a Bezier; above 800 refused;
    - a fit of a file: 8 + 8 * L + 73 * most bytes, most as for a course; at most 58,920 bytes in all (64 laps, 800 commands);
    - a replacement: the same, with the new lap's most plus the fitted file's commands in all other laps;
@@ -102,11 +102,14 @@ uint32_t rt_replace_lap(
     uint8_t *out, size_t out_bytes, size_t *count);
 
 /* Fits points in space; *count is the commands. The first point is where the first command starts. *ranges is how many
-   ranges of points the fit looked at, for planning the battery: 0 below two points, else 2 * commands - 1. */
+   ranges of points the fit looked at, for planning the battery: 0 below two points, else 2 * commands - 1. `worst` gets
+   one number a command, for marking a bend on the screen: for an Arc the index, in the points, of the one at which the
+   first step starts that is farthest from it, 0 where each step lies on it; for a Line 0. */
 uint32_t rt_fit_points_with_primitives(
     const double *points, size_t points_length,
     double tolerance,
-    uint8_t *kinds, size_t kinds_length, double *nums, size_t nums_length, size_t *count, size_t *ranges);
+    uint8_t *kinds, size_t kinds_length, double *nums, size_t nums_length, uint32_t *worst, size_t worst_length,
+    size_t *count, size_t *ranges);
 
 /* Fits a course: a list of commands, which needs no Move; *count is the commands. Arcs stay as they are. */
 uint32_t rt_fit_arcs(

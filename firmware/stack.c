@@ -15,6 +15,7 @@ static uint8_t kinds[PZ_MOST_COMMANDS], out_kinds[PZ_MOST_POINTS];
 static double nums[9 * PZ_MOST_COMMANDS];
 static unsigned char file[PZ_MOST_FILE_BYTES], fitted[PZ_MOST_OUTPUT_BYTES], out[PZ_MOST_OUTPUT_BYTES];
 static size_t file_size, fitted_size, count, ranges;
+static uint32_t worst[PZ_MOST_POINTS];
 static char text[PZ_MOST_TEXT_BYTES];
 static size_t text_size;
 static uint32_t answer;
@@ -79,7 +80,7 @@ static void *thin_data(void *a)
 static void *fit_points(void *a)
 {
     answer = rt_fit_points_with_primitives(points, 3 * PZ_MOST_POINTS, 0.5,
-        out_kinds, PZ_MOST_POINTS, out_nums, 9 * PZ_MOST_POINTS, &count, &ranges);
+        out_kinds, PZ_MOST_POINTS, out_nums, 9 * PZ_MOST_POINTS, worst, PZ_MOST_POINTS, &count, &ranges);
     return a;
 }
 

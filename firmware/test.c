@@ -38,23 +38,31 @@ static void test_points(void)
     uint8_t *kinds = lend(2);
     double *nums = lend(144), *points = lend_input(bend, sizeof bend);
     size_t *count = lend(sizeof *count), *ranges = lend(sizeof *ranges);
-    uint32_t r = rt_fit_points_with_primitives(points, 9, 0.3, kinds, 2, nums, 18, count, ranges);
+    uint32_t *worst = lend(8);
+    uint32_t r = rt_fit_points_with_primitives(points, 9, 0.3, kinds, 2, nums, 18, worst, 1, count, ranges);
+    check(r == PZ_NO_ROOM && kept(worst, 8, 0) && kept(kinds, 2, 0), "a list of worst steps that is too short");
+    r = rt_fit_points_with_primitives(points, 9, 0.3, kinds, 2, nums, 18, worst, 2, count, ranges);
     const double arc[9] = {5, 0, 0, -3, -4, 0, 0, 0, -1};
     check(r == PZ_DONE && *count == 1 && kinds[0] == PZ_ARC, "0.3 gives one Arc");
     check(*ranges == 1, "one piece, one range");
+    check(worst[0] == 1 && kept(worst, 8, 4), "its second step is the worst, and no more is told");
     check(memcmp(nums, arc, sizeof arc) == 0, "the Arc's end, offset and normal");
     check(kept(kinds, 2, 1) && kept(nums, 144, 72), "no more than one command is written");
-    r = rt_fit_points_with_primitives(points, 9, 0.25, kinds, 2, nums, 18, count, ranges);
+    r = rt_fit_points_with_primitives(points, 9, 0.25, kinds, 2, nums, 18, worst, 2, count, ranges);
     check(r == PZ_DONE && *count == 2 && kinds[0] == PZ_LINE && kinds[1] == PZ_LINE, "0.25 gives two Lines");
     check(*ranges == 3, "a cut and two pieces are three ranges");
+    check(worst[0] == 0 && worst[1] == 0 && kept(worst, 8, 8), "a Line has no worst step");
+    worst[0] = worst[1] = 77;
     check(kept(kinds, 2, 2) && kept(nums, 144, 144) && kept(count, 8, 8), "nothing beside the lent commands is touched");
-    r = rt_fit_points_with_primitives(points, 8, 0.25, kinds, 2, nums, 18, count, ranges);
+    r = rt_fit_points_with_primitives(points, 8, 0.25, kinds, 2, nums, 18, worst, 2, count, ranges);
     check(r == PZ_NOT_WHOLE && *count == 2 && *ranges == 3, "eight numbers are not whole points, and nothing is told");
+    check(worst[0] == 77 && worst[1] == 77, "no worst step either");
     give_back(kinds, 2);
     give_back(nums, 144);
     give_back(points, sizeof bend);
     give_back(count, sizeof *count);
     give_back(ranges, sizeof *ranges);
+    give_back(worst, 8);
 }
 
 static void test_thinning(void)

@@ -147,11 +147,11 @@ unfolding commandsIn
 lent-in ks ns h = commands-in ks ns (length ks) 0 (λ j a b. every-at (λ i. commandIn (commandAt ks ns i)) (length ks) 0 h j a b)
 
 -- Every number that `fit_points_recursive` gives is finite.
-pub fit-points-finite : (s : List Float) (tol : Float) (lo hi kinds numbers : ℕ) (xs : List Command) → fitCall s tol lo hi kinds numbers ≡ gives xs → FiniteNumbers xs
+pub fit-points-finite : (s : List Float) (tol : Float) (lo hi kinds numbers places : ℕ) (xs : List Command) → fitCall s tol lo hi kinds numbers places ≡ gives xs → FiniteNumbers xs
 unfolding fitCall fitRows pointsRows
-fit-points-finite s tol lo hi kinds numbers xs e =
-    let g = unless-given (refusal (fitRows s tol lo hi kinds numbers)) (fitIn (pointsRule tol) (pointAt s) lo hi) xs e in
-    let acc = fit-accepted s tol lo hi kinds numbers 0 (g .0) refl in
+fit-points-finite s tol lo hi kinds numbers places xs e =
+    let g = unless-given (refusal (fitRows s tol lo hi kinds numbers places)) (fitIn (pointsRule tol) (pointAt s) lo hi) xs e in
+    let acc = fit-accepted s tol lo hi kinds numbers places 0 (g .0) refl in
     let a = row-passed 0 _ _ (g .0) in
     let b = row-passed 0 _ _ (a .1) in
     let c = row-passed 1 _ _ (b .1) in
@@ -159,8 +159,8 @@ fit-points-finite s tol lo hi kinds numbers xs e =
     subst FiniteNumbers (g .1) (lent-finite (pointsRule tol) s lo hi (acc .few) (numbers-each s (not-false _ (d .0))) (acc .ends-inside))
 
 -- Every number that `fit_points_with_primitives` gives is finite.
-pub primitives-finite : (s : List Float) (tol : Float) (kinds numbers : ℕ) (xs : List Command) → primitivesCall s tol kinds numbers ≡ gives xs → FiniteNumbers xs
-primitives-finite s tol kinds numbers xs e = fit-points-finite s tol 0 (length s / 3 - 1) kinds numbers xs e
+pub primitives-finite : (s : List Float) (tol : Float) (kinds numbers places : ℕ) (xs : List Command) → primitivesCall s tol kinds numbers places ≡ gives xs → FiniteNumbers xs
+primitives-finite s tol kinds numbers places xs e = fit-points-finite s tol 0 (length s / 3 - 1) kinds numbers places xs e
 
 -- Every number that `fit_arcs` gives is finite.
 pub arcs-finite : (ks : List ℕ) (ns : List Float) (tol : Float) (kinds numbers : ℕ) (xs : List Command) → arcsCall ks ns tol kinds numbers ≡ gives xs → FiniteNumbers xs

@@ -28,7 +28,7 @@ use Rattle.trial.specs.declared.trial.Trial.{Trial}
 use Rattle.trial.specs.declared.trial.Trial.the-variants.{Arc, None}
 use Rattle.trial.specs.Deviation.{arcDeviation}
 use Rattle.trial.specs.Traversal.{traverses}
-use Rattle.trial.specs.Trial.{sharpAt, closedRange, trialRound, trialOf, ofCircle, ofCenter, trialThree, trialLeast, orElse, tryArcs}
+use Rattle.trial.specs.Trial.{sharpAt, closedRange, measuredBy, goingRound, ofMeasured, trialRound, trialOf, ofCircle, ofCenter, trialThree, trialLeast, orElse, tryArcs}
 use Rattle.simplify.specs.declared.simplify.Farthest.{Farthest}
 use Rattle.simplify.specs.Words.{Ascending}
 use Rattle.simplify.specs.Thin.{thinned, thinnedPoints}
@@ -55,19 +55,19 @@ zero-is-finite = below-is-finite (zero-below 0)
 
 -- ---- the centre of an arc that a trial found
 abbrev Tried : Trial → Type 0
-Tried (Arc m d) = Flat 434 m
+Tried (Arc m d w) = Flat 434 m
 Tried None = Unit
 
 module _ (tol : Float) (at : ℕ → Point3D) (lo hi : ℕ) where
   tried-round : (m : Point) → Flat 434 m → Tried (trialRound at lo hi tol m)
-  unfolding trialRound
+  unfolding trialRound measuredBy ofMeasured goingRound
   tried-round m h =
       ⊎-elim (λ g. rw g (⊎-elim (λ t. rw t h) (λ t. rw t tt) (either (traverses m at lo hi))))
       (λ g. rw g tt) (either (lt (arcDeviation m (radiusFrom m (at lo)) at lo hi .dist) tol))
 
   tried-or : (t u : Trial) → Tried t → Tried u → Tried (orElse t u)
   unfolding orElse
-  tried-or (Arc m d) u p q = p
+  tried-or (Arc m d w) u p q = p
   tried-or None u p q = q
 
   module _ (order : lo ≤ hi) (few : hi - lo < 2048) (each : (j : ℕ) → lo ≤ j → j ≤ hi → Placed 27 (at j)) where
@@ -131,7 +131,7 @@ module _ (r : Rule) (at : ℕ → Point3D) where
 
   chosen-or : (t : Trial) (lo k hi : ℕ) → Tried t → lo ≤ k → k ≤ hi → Chosen lo hi (arcOrCut t k)
   unfolding arcOrCut
-  chosen-or (Arc c d) lo k hi h a b = h
+  chosen-or (Arc c d w) lo k hi h a b = h
   chosen-or None lo k hi h a b = (a, b)
 
   tried-counted : (t : Trial) → Tried t → Tried (counted r t)

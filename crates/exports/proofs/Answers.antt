@@ -170,12 +170,12 @@ line-refused (refused m) r n e h = cc
 line-refused (gives q) r n e h = absurd (let z : _≡_ {A = ℕ} 0 1 = cc in omega arith)
 
 -- ---- get_polyline_arc_deviation
-pub arc-gives : (o : Outcome Float) (r : ArcDeviation) (d : Float) → r ≡ arcAnswer o → r ≡ Arc·.Is d → o ≡ gives d
+pub arc-gives : (o : Outcome Deviation) (r : ArcDeviation) (w : Deviation) → r ≡ arcAnswer o → r ≡ Arc·.Is w → o ≡ gives w
 unfolding arcAnswer
-arc-gives (refused n) r d e h = absurd (let z : _≡_ {A = ℕ} 0 1 = cc in omega arith)
-arc-gives (gives q) r d e h = cc
+arc-gives (refused n) r w e h = absurd (let z : _≡_ {A = ℕ} 0 1 = cc in omega arith)
+arc-gives (gives q) r w e h = cc
 
-pub arc-refused : (o : Outcome Float) (r : ArcDeviation) (n : ℕ) → r ≡ arcAnswer o → r ≡ Arc·.Refused n → o ≡ refused n
+pub arc-refused : (o : Outcome Deviation) (r : ArcDeviation) (n : ℕ) → r ≡ arcAnswer o → r ≡ Arc·.Refused n → o ≡ refused n
 unfolding arcAnswer
 arc-refused (refused m) r n e h = cc
 arc-refused (gives q) r n e h = absurd (let z : _≡_ {A = ℕ} 0 1 = cc in omega arith)

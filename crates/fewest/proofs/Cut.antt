@@ -28,8 +28,8 @@ module _ (s : List Float) (t : Float) where
   line-only : (lo hi : ℕ) (x : Command) → WrittenAs (straightRule t) (pointAt s) lo hi x → passing s t lo hi ≡ true
   unfolding passing
   line-only lo hi x (as-line p e) = p .deviation
-  line-only lo hi x (as-first c d h e a) = let z : _≡_ {A = ℕ} 0 1 = cc in absurd (omega arith)
-  line-only lo hi x (as-second c d h e f a) = let z : _≡_ {A = ℕ} 0 1 = cc in absurd (omega arith)
+  line-only lo hi x (as-first c d w h e a) = let z : _≡_ {A = ℕ} 0 1 = cc in absurd (omega arith)
+  line-only lo hi x (as-second c d w h e f a) = let z : _≡_ {A = ℕ} 0 1 = cc in absurd (omega arith)
 
   -- pieces that follow one another, each a Line that passes, are a way
   as-way : (lo hi : ℕ) (ps : List Piece) (xs : List Command) → Covers lo ps hi → AllWritten (straightRule t) (pointAt s) ps xs → Way (passing s t) lo hi (map (λ (p : Piece). p .to) ps)

@@ -10,6 +10,7 @@ use Rattle.floats.specs.Ops.{_≺_}
 use Rattle.geo.specs.Lent.{pointAt, triple}
 use Rattle.simplify.specs.declared.simplify.Ruler.the-variants.{Line}
 use Rattle.simplify.specs.Measure.{lineSq}
+use Rattle.fitting.specs.declared.fitting.Note.the-variants.{Steps}
 use Rattle.fitting.specs.declared.fitting.Rule.{Rule}
 use Rattle.fitting.specs.Pieces.{lineDeviation, Piece, piecesBy, piecesIn}
 use Rattle.ways.specs.Way.{Test}
@@ -33,7 +34,7 @@ passing s t u v = lineDeviation lineSq (pointAt s) u v .dist ≺ t
 
 -- "the recursive line-only cut": the fit's own rule of pieces, where both arc trials count as failed
 abbrev pub straightRule : Float → Rule
-straightRule t = record { ruler = Line; arcs = false; tolerance = t }
+straightRule t = record { ruler = Line; arcs = false; tolerance = t; note = Steps }
 
 -- the ends of its Lines
 unfoldable pub cutEnds : List Float → Float → ℕ → ℕ → List ℕ

@@ -23,9 +23,9 @@ use Rattle.circle.specs.Three.{areaOf, turnOf, center3, radiusFrom, centerBy, c
 use Rattle.circle.specs.Worst.{worse, worst}
 use Rattle.trial.specs.Deviation.{spokeOf, cosine, sagittaOf, endsOf, stepOf, stepBetween, arcDeviation}
 use Rattle.trial.specs.Traversal.{offsetOf, cross2, dot2, atCentre, halfOf, turned, turnsOf, justBehind, justAhead, passesBy, awayFrom, traverses}
-use Rattle.trial.specs.Trial.{sharpTurn, sharpAt, closedRange, trialRound, trialOf, ofCircle, ofCenter, trialThree, trialLeast, threeTried, leastTried, orElse, tryArcs}
-use Rattle.fitting.specs.Calls.{fitRows, fitCall}
-use Rattle.fitting.specs.Commands.{normalOf, shaped, pieceCommand, fitIn}
+use Rattle.trial.specs.Trial.{sharpTurn, sharpAt, closedRange, measuredBy, goingRound, ofMeasured, trialRound, trialOf, ofCircle, ofCenter, trialThree, trialLeast, threeTried, leastTried, orElse, tryArcs}
+use Rattle.fitting.specs.Calls.{fitRows, fitCall, worstCall}
+use Rattle.fitting.specs.Commands.{normalOf, shaped, pieceCommand, fitIn, worstStep, pieceWorst, worstIn}
 use Rattle.fitting.specs.Pieces.{rooted, lineDeviation, arcOrCut, chooseBy, choice, follow, piecesBy}
 use Rattle.bezier.specs.Linearize.{steps, firstThird, lastThird, polygonLength, stepCount, stepsNeeded, paramSteps}
 use Rattle.geo.specs.Vector as vector
@@ -36,7 +36,7 @@ use Rattle.lap_fit.specs.Fit.{lapsMost, fileFitRows, fitFile}
 use Rattle.lap_replace.specs.Worked.{WorkedLaps, centre-right}
 
 pub worked-laps : WorkedLaps
-unfolding centre-right span climb size odd units round neg sum add sub mul div lt eq le isNan ofInt ofFields ofBits absOf maxOf clampOf better rootIn wholeRoot rootFrom inUnits rootOf plain coordinate centre within pointIn point3In everyFrom numbersIn whole pointAt flat endOf kindOf numbersOf refusal unless lengthOf distanceSq distance fold listFrom turnAt crossSum clockwise farther farthestOf farthestIn toLine lineSq simplifyPolyline3d keptBy thinned thinnedPoints movedBy projected pointsRows nearTo besideOf allNear allBeside collinearBy collinear plus sumsOf axesOf cross3 dot3 scaled detOf inverseTimes solved matrixOf sidesOf centered kasaCenter areaOf turnOf center3 radiusFrom centerBy centerThree circleRound throughThree worse worst spokeOf cosine sagittaOf endsOf stepOf stepBetween arcDeviation offsetOf cross2 dot2 atCentre halfOf turned turnsOf justBehind justAhead passesBy awayFrom traverses sharpTurn sharpAt closedRange trialRound trialOf ofCircle ofCenter trialThree trialLeast threeTried leastTried orElse tryArcs fitRows fitCall normalOf shaped pieceCommand fitIn rooted lineDeviation arcOrCut chooseBy choice follow piecesBy line.chordOf collin.endsChord ceilOf steps firstThird lastThird polygonLength stepCount stepsNeeded paramSteps toUnsigned vector.distance3 halfAt u32Bytes lapCount lapsAt lapsOf bodies table encode short big hasMark walk tableOk lapsOk lapsMost fileRows sizeRows fileFitRows fitFile
+unfolding centre-right span climb size odd units round neg sum add sub mul div lt eq le isNan ofInt ofFields ofBits absOf maxOf clampOf better rootIn wholeRoot rootFrom inUnits rootOf plain coordinate centre within pointIn point3In everyFrom numbersIn whole pointAt flat endOf kindOf numbersOf refusal unless lengthOf distanceSq distance fold listFrom turnAt crossSum clockwise farther farthestOf farthestIn toLine lineSq simplifyPolyline3d keptBy thinned thinnedPoints movedBy projected pointsRows nearTo besideOf allNear allBeside collinearBy collinear plus sumsOf axesOf cross3 dot3 scaled detOf inverseTimes solved matrixOf sidesOf centered kasaCenter areaOf turnOf center3 radiusFrom centerBy centerThree circleRound throughThree worse worst spokeOf cosine sagittaOf endsOf stepOf stepBetween arcDeviation offsetOf cross2 dot2 atCentre halfOf turned turnsOf justBehind justAhead passesBy awayFrom traverses sharpTurn sharpAt closedRange measuredBy goingRound ofMeasured trialRound trialOf ofCircle ofCenter trialThree trialLeast threeTried leastTried orElse tryArcs fitRows fitCall worstCall normalOf shaped pieceCommand fitIn worstStep pieceWorst worstIn rooted lineDeviation arcOrCut chooseBy choice follow piecesBy line.chordOf collin.endsChord ceilOf steps firstThird lastThird polygonLength stepCount stepsNeeded paramSteps toUnsigned vector.distance3 halfAt u32Bytes lapCount lapsAt lapsOf bodies table encode short big hasMark walk tableOk lapsOk lapsMost fileRows sizeRows fileFitRows fitFile
 worked-laps =
     record {
       root-of-25 = refl;
@@ -48,6 +48,7 @@ worked-laps =
       sharp = refl;
       bend-as-a-line = refl;
       bend-as-an-arc = refl;
+      bend-worst = refl;
       bend-as-two-lines = refl;
       least-tolerance = refl;
       no-tolerance = refl;

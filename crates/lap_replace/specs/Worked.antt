@@ -17,7 +17,7 @@ use Rattle.trial.specs.declared.trial.Trial as tried
 use Rattle.trial.specs.Trial.{threeTried, leastTried}
 use Rattle.simplify.specs.Simplify.{simplifyPolyline3d}
 use Rattle.bezier.specs.Linearize.{paramSteps}
-use Rattle.fitting.specs.Calls.{primitivesCall}
+use Rattle.fitting.specs.Calls.{primitivesCall, primitivesWorst}
 use Rattle.lap_fit.specs.Fit.{fitFile}
 
 -- a whole number of metres
@@ -37,7 +37,7 @@ abbrev pub thin : List (ℕ × ℕ) → Float → Outcome (List Point3D)
 thin ps t = simplifyPolyline3d (lent ps) t 9
 
 abbrev pub fit : List (ℕ × ℕ) → Float → Outcome (List Command)
-fit ps t = primitivesCall (lent ps) t 3 27
+fit ps t = primitivesCall (lent ps) t 3 27 3
 
 -- the recorded points of the cases
 abbrev pub right-angle : List (ℕ × ℕ)
@@ -72,7 +72,7 @@ by-least-squares = leastTried (pointAt (lent left-bend)) 0 2 1 (fraction 75 100)
 
 -- how far right the centre of a trial's arc lies; no number where the trial failed
 unfoldable pub centre-right : tried.Trial → Float
-centre-right (tried.the-variants.Arc c d) = c .x
+centre-right (tried.the-variants.Arc c d w) = c .x
 centre-right tried.the-variants.None = nan
 
 -- the steps of a Bezier with all points at p
@@ -94,12 +94,14 @@ pub record WorkedLaps : Type 0 where
   pub sharp : fit right-angle (fraction 1 2) ≡ gives (Line (point 10 0) ∷ Line (point 10 10) ∷ [])
   pub bend-as-a-line : fit bend (fraction 45 100) ≡ gives (Line (point 5 0) ∷ [])
   pub bend-as-an-arc : fit bend (fraction 3 10) ≡ gives (Arc (point 5 0) from-start down ∷ [])
+  -- ours: its second step is the worst
+  pub bend-worst : primitivesWorst (lent bend) (fraction 3 10) 3 27 3 ≡ gives (1 ∷ [])
   pub bend-as-two-lines : fit bend (fraction 25 100) ≡ gives (Line (point 4 3) ∷ Line (point 5 0) ∷ [])
   pub least-tolerance : fit twice thousandth ≡ gives (Line (point 7 7) ∷ [])
   pub no-tolerance : fit twice +0 ≡ refused 6
   pub curve-of-equal-points : steps-at (point 7 7) ≡ 2
   pub empty-file : fitFile no-laps (fraction 1 2) 8 ≡ gives no-laps
   -- ours: both arc trials of the left bend pass, the second with a centre to the left of the first's; the Arc has the first's centre, and the normal of its direction
-  pub first-trial : by-three ≡ tried.the-variants.Arc (record { x = metres 1; y = metres 4 }) false
+  pub first-trial : by-three ≡ tried.the-variants.Arc (record { x = metres 1; y = metres 4 }) false 1
   pub second-trial : (centre-right by-least-squares ≺ metres 1) ≡ true
   pub left-bend-as-an-arc : fit left-bend (fraction 75 100) ≡ gives (Arc (point 5 3) (point 1 4) up ∷ [])

@@ -1,5 +1,5 @@
 -- The rows of a course are what its fit writes and notes: each command's kind, and the steps noted beside it. By the parts of the course. Assumes nothing.
-use Prim.Native.Nat.{ℕ}
+use Prim.Native.Nat.{ℕ, _-_}
 use mathlib.Core.Path.{_≡_, refl, sym, ap, _∙_}
 use mathlib.Core.List.{List, [], _∷_, _++_, map}
 use native.Mathlib.Omega.{arith}
@@ -9,9 +9,12 @@ use lib.Ieee.{Float}
 use Rattle.geo.specs.declared.types.Point3D.{Point3D}
 use Rattle.geo.specs.declared.types.Command.{Command}
 use Rattle.geo.specs.Lent.{flat, kindOf}
+use Rattle.fitting.specs.declared.fitting.Note.{Note}
+use Rattle.fitting.specs.declared.fitting.Note.the-variants.{Steps}
 use Rattle.fitting.specs.declared.fitting.Rule.{Rule}
 use Rattle.fitting.specs.Pieces.{Piece}
-use Rattle.fitting.specs.Written.{commandsOf, notesOf, pieceNoted, notedIn, chainNoted, NotedPlaced}
+use Rattle.fitting.specs.Commands.{pieceWorst}
+use Rattle.fitting.specs.Written.{commandsOf, notesOf, noteBy, pieceNoted, notedIn, chainNoted, NotedPlaced}
 use Rattle.fitting.proofs.Writing.{notes-append}
 use Rattle.course.specs.Parts.{Part, chain, kept}
 use Rattle.course.specs.Course.{courseParts, courseFit}
@@ -23,39 +26,42 @@ use Rattle.listing.specs.Placed.{RowsPlaced}
 use Rattle.listing.proofs.Columns.{steps-append, kinds-length}
 use Rattle.listing.proofs.Laws.{course-kinds}
 
-pieces-notes : (at : ℕ → Point3D) (ps : List Piece) → notesOf (map (pieceNoted at) ps) ≡ stepsIn (map pieceRow ps)
-unfolding notesOf pieceNoted stepsIn pieceRow
-pieces-notes at [] = refl
-pieces-notes at (p ∷ ps) = ap (λ (l : List ℕ). pieceRow p .steps ∷ l) (pieces-notes at ps)
+-- of a rule that notes steps
+module _ (rule : Rule) (noting : rule .note ≡ Steps) where
+  pieces-notes : (at : ℕ → Point3D) (ps : List Piece) → notesOf (map (pieceNoted rule at) ps) ≡ stepsIn (map pieceRow ps)
+  unfolding notesOf pieceNoted noteBy stepsIn pieceRow
+  pieces-notes at [] = refl
+  pieces-notes at (p ∷ ps) =
+      ap (λ (n : Note). noteBy n (p .to - p .from) (pieceWorst at p) ∷ notesOf (map (pieceNoted rule at) ps)) noting ∙ ap (λ (l : List ℕ). pieceRow p .steps ∷ l) (pieces-notes at ps)
 
-part-notes : (rule : Rule) (p : Part) → notesOf (partNoted (chainNoted rule) p) ≡ stepsIn (partRows rule p)
-unfolding partNoted partRows
-part-notes rule (chain s) = unfold chainNoted notedIn chainRows in pieces-notes (thinnedAt rule s) (chainPieces rule s)
-part-notes rule (kept c) = unfold notesOf stepsIn in refl
+  part-notes : (p : Part) → notesOf (partNoted (chainNoted rule) p) ≡ stepsIn (partRows rule p)
+  unfolding partNoted partRows
+  part-notes (chain s) = unfold chainNoted notedIn chainRows in pieces-notes (thinnedAt rule s) (chainPieces rule s)
+  part-notes (kept c) = unfold notesOf stepsIn in refl
 
-parts-notes : (rule : Rule) (ps : List Part) → notesOf (notedOf (chainNoted rule) ps) ≡ stepsIn (rowsOf rule ps)
-unfolding notedOf rowsOf flat
-parts-notes rule [] = unfold notesOf stepsIn in refl
-parts-notes rule (p ∷ ps) =
-    notes-append (partNoted (chainNoted rule) p) (notedOf (chainNoted rule) ps) ∙ ap (λ (l : List ℕ). l ++ notesOf (notedOf (chainNoted rule) ps)) (part-notes rule p)
-    ∙ ap (λ (l : List ℕ). stepsIn (partRows rule p) ++ l) (parts-notes rule ps) ∙ sym (steps-append (partRows rule p) (rowsOf rule ps))
+  parts-notes : (ps : List Part) → notesOf (notedOf (chainNoted rule) ps) ≡ stepsIn (rowsOf rule ps)
+  unfolding notedOf rowsOf flat
+  parts-notes [] = unfold notesOf stepsIn in refl
+  parts-notes (p ∷ ps) =
+      notes-append (partNoted (chainNoted rule) p) (notedOf (chainNoted rule) ps) ∙ ap (λ (l : List ℕ). l ++ notesOf (notedOf (chainNoted rule) ps)) (part-notes p)
+      ∙ ap (λ (l : List ℕ). stepsIn (partRows rule p) ++ l) (parts-notes ps) ∙ sym (steps-append (partRows rule p) (rowsOf rule ps))
 
--- what is noted beside a course's commands are the steps of its rows
-pub course-notes : (rule : Rule) (cs : List Command) → notesOf (courseNoted rule cs) ≡ stepsIn (courseRows rule cs)
-unfolding courseNoted courseRows
-course-notes rule cs = parts-notes rule (courseParts (rule .tolerance) cs)
+  -- what is noted beside a course's commands are the steps of its rows
+  pub course-notes : (cs : List Command) → notesOf (courseNoted rule cs) ≡ stepsIn (courseRows rule cs)
+  unfolding courseNoted courseRows
+  course-notes cs = parts-notes (courseParts (rule .tolerance) cs)
 
--- So the fit with steps leaves the course's rows.
-pub rows-placed : (rule : Rule) (cs : List Command) (n : ℕ) (ks ks′ : List ℕ) (ns ns′ : List Float) (ss ss′ : List ℕ)
-    → NotedPlaced (courseNoted rule cs) 0 n ks ks′ ns ns′ ss ss′ → RowsPlaced (courseRows rule cs) n ks ks′ ss ss′
-rows-placed rule cs n ks ks′ ns ns′ ss ss′ p =
-    let e : map kindOf (commandsOf (courseNoted rule cs)) ≡ kindsOf (courseRows rule cs) = ap (map kindOf) (course-commands rule cs) ∙ sym (course-kinds rule cs) in
-    let a = p .commands .count in
-    let b = length-map (commandsOf (courseNoted rule cs)) kindOf in
-    let c = ap length e in
-    let d = kinds-length (courseRows rule cs) in
-    record {
-      count = omega arith;
-      kinds = p .commands .kinds ∙ ap (sets ks 0) e;
-      steps = p .notes ∙ ap (sets ss 0) (course-notes rule cs);
-    }
+  -- So the fit with steps leaves the course's rows.
+  pub rows-placed : (cs : List Command) (n : ℕ) (ks ks′ : List ℕ) (ns ns′ : List Float) (ss ss′ : List ℕ)
+      → NotedPlaced (courseNoted rule cs) 0 n ks ks′ ns ns′ ss ss′ → RowsPlaced (courseRows rule cs) n ks ks′ ss ss′
+  rows-placed cs n ks ks′ ns ns′ ss ss′ p =
+      let e : map kindOf (commandsOf (courseNoted rule cs)) ≡ kindsOf (courseRows rule cs) = ap (map kindOf) (course-commands rule cs) ∙ sym (course-kinds rule cs) in
+      let a = p .commands .count in
+      let b = length-map (commandsOf (courseNoted rule cs)) kindOf in
+      let c = ap length e in
+      let d = kinds-length (courseRows rule cs) in
+      record {
+        count = omega arith;
+        kinds = p .commands .kinds ∙ ap (sets ks 0) e;
+        steps = p .notes ∙ ap (sets ss 0) (course-notes cs);
+      }

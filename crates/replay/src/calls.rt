@@ -1,5 +1,6 @@
 // The recorded functions by number, as oracle/src/geometry/list.rs numbers them. Each reads its arguments from the front of what
-// is lent and writes to the front of its outputs; a text is lent where a recorded file is.
+// is lent and writes to the front of its outputs; a text is lent where a recorded file is, and so is what a fit's list of worst
+// steps has to be.
 use file::words::float_of;
 use geo::types::Answer;
 use records::layout::Head;
@@ -38,8 +39,18 @@ pub fn call(
         16 => crate::circles::project_circle_center_to_bisector(numbers, out),
         17 => crate::circles::get_polyline_line_deviation(numbers, h.first, h.second, out),
         18 => crate::circles::get_polyline_arc_deviation(numbers, out),
-        19 => fitting::fitting::fit_points_recursive(numbers, t, h.first, h.second, bytes, out),
-        20 => crate::fits::fit_points_with_primitives(numbers, t, h.second, bytes, out),
+        19 => crate::fits::fit_points_recursive(
+            numbers,
+            t,
+            h.first,
+            h.second,
+            recorded,
+            bytes,
+            out,
+        ),
+        20 => {
+            crate::fits::fit_points_with_primitives(numbers, t, h.second, recorded, bytes, out)
+        }
         21 => course::course::fit_arcs(kinds, numbers, t, bytes, out),
         22 => course::course::optimize_path_from_array(kinds, numbers, t, h.first == 1, bytes, out),
         23 => lap_fit::fit::fit_file(recorded, t, bytes),

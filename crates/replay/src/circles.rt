@@ -118,9 +118,9 @@ pub fn get_polyline_arc_deviation(numbers: &[f64], out: &mut [f64]) -> Answer {
     };
     let a = fitting::fitting::get_polyline_arc_deviation(&numbers[3..], center, numbers[2]);
     match a {
-        ArcDeviation::Is(d) => {
-            out[0] = d;
-            Answer::Written(0)
+        ArcDeviation::Is(w) => {
+            out[0] = w.dist;
+            Answer::Written(w.index)
         }
         ArcDeviation::Refused(n) => Answer::Refused(n),
     }

@@ -1,17 +1,88 @@
-// Fits of points whose answer has more than a count: what is beside it is compared here.
+// Fits of points, whose answer has more than a count: the worst steps, and what else is beside it, are compared here.
 use crate::calls::DAMAGED;
+use file::words::half_at;
 use fitting::fitting::Primitives;
 use geo::types::Answer;
 
-// The ranges examined have to be those of the record.
-pub fn fit_points_with_primitives(
+// The most places of a list of worst steps.
+const PLACES: usize = 4800;
+
+// What stands at each of them before a call: the index of no step.
+const NO_STEP: u32 = 4000000000;
+
+// Whether a list holds the numbers of a record, four bytes each.
+fn is_list(expected: &[u8], list: &[u32]) -> bool {
+    if expected.len() / 4 < list.len() {
+        return false;
+    }
+    for i in 0..list.len() {
+        let n = half_at(expected, 4 * i);
+        if n != list[i] as u64 {
+            return false;
+        }
+    }
+    true
+}
+
+// The list of worst steps has to be the record's, which is as long.
+pub fn fit_points_recursive(
     points: &[f64],
     tolerance: f64,
-    expected: usize,
+    start: usize,
+    end: usize,
+    expected: &[u8],
     kinds: &mut [u8],
     nums: &mut [f64],
 ) -> Answer {
-    let a = fitting::fitting::fit_points_with_primitives(points, tolerance, kinds, nums);
+    let n = expected.len() / 4;
+    if PLACES < n {
+        return Answer::Refused(DAMAGED);
+    }
+    let mut worst = [NO_STEP; PLACES];
+    let a = fitting::fitting::fit_points_recursive(
+        points,
+        tolerance,
+        start,
+        end,
+        kinds,
+        nums,
+        &mut worst[0..n],
+    );
+    if !is_list(expected, &worst[0..n]) {
+        return Answer::Refused(DAMAGED);
+    }
+    a
+}
+
+// So it has of a fit of all points, and the ranges examined have to be those of the record.
+pub fn fit_points_with_primitives(
+    points: &[f64],
+    tolerance: f64,
+    ranges: usize,
+    expected: &[u8],
+    kinds: &mut [u8],
+    nums: &mut [f64],
+) -> Answer {
+    let n = expected.len() / 4;
+    if PLACES < n {
+        return Answer::Refused(DAMAGED);
+    }
+    let mut worst = [NO_STEP; PLACES];
+    let a = fitting::fitting::fit_points_with_primitives(
+        points,
+        tolerance,
+        kinds,
+        nums,
+        &mut worst[0..n],
+    );
+    if !is_list(expected, &worst[0..n]) {
+        return Answer::Refused(DAMAGED);
+    }
+    answer_with(a, ranges)
+}
+
+// The count, where the ranges are these.
+fn answer_with(a: Primitives, expected: usize) -> Answer {
     match a {
         Primitives::Fitted { count, ranges } => {
             if ranges != expected {

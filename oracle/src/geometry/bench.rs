@@ -77,11 +77,17 @@ pub fn table(what: &str, mut rows: Vec<Row>) -> bool {
 pub struct Output {
     kinds: Vec<u8>,
     numbers: Vec<f64>,
+    worst: Vec<u32>,
 }
 
 impl Output {
     pub fn new(commands: usize) -> Output {
-        Output { kinds: vec![0; commands], numbers: vec![0.0; 9 * commands] }
+        Output { kinds: vec![0; commands], numbers: vec![0.0; 9 * commands], worst: vec![0; commands] }
+    }
+
+    /// A list for the worst step of each command, and its length.
+    pub fn worst(&mut self) -> (*mut u32, usize) {
+        (self.worst.as_mut_ptr(), self.worst.len())
     }
 
     /// The count that a call leaves which writes commands: it takes both outputs, with their lengths, and a count.

@@ -26,9 +26,10 @@ fn whole(name: String, list: Vec<f64>, tolerance: f64) -> Row<'static> {
 
 fn primitives(list: &[f64], tolerance: f64, out: &mut Output) -> usize {
     let (points, n) = (list.as_ptr(), list.len());
-    // SAFETY: the length is that of the list
+    let (worst, places) = out.worst();
+    // SAFETY: the lengths are those of the lists
     out.count(|k, ks, x, xs, count| unsafe {
-        rt_fit_points_with_primitives(points, n, tolerance, k, ks, x, xs, count, &mut 0)
+        rt_fit_points_with_primitives(points, n, tolerance, k, ks, x, xs, worst, places, count, &mut 0)
     })
 }
 
@@ -47,9 +48,10 @@ fn part(name: String, list: Vec<f64>, tolerance: f64) -> Row<'static> {
 
 fn recursive(list: &[f64], tolerance: f64, [start, end]: [usize; 2], out: &mut Output) -> usize {
     let (points, n) = (list.as_ptr(), list.len());
-    // SAFETY: the length is that of the list
+    let (worst, places) = out.worst();
+    // SAFETY: the lengths are those of the lists
     out.count(|k, ks, x, xs, count| unsafe {
-        rt_fit_points_recursive(points, n, tolerance, start, end, k, ks, x, xs, count)
+        rt_fit_points_recursive(points, n, tolerance, start, end, k, ks, x, xs, worst, places, count)
     })
 }
 

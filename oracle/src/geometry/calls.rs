@@ -213,6 +213,7 @@ unsafe extern "C" {
         cy: f64,
         radius: f64,
         dist: *mut f64,
+        index: *mut usize,
     ) -> u32;
 
     pub fn rt_fit_points_recursive(
@@ -225,6 +226,8 @@ unsafe extern "C" {
         room_kinds: usize,
         nums: *mut f64,
         room_nums: usize,
+        worst: *mut u32,
+        room_worst: usize,
         count: *mut usize,
     ) -> u32;
 
@@ -236,6 +239,8 @@ unsafe extern "C" {
         room_kinds: usize,
         nums: *mut f64,
         room_nums: usize,
+        worst: *mut u32,
+        room_worst: usize,
         count: *mut usize,
         ranges: *mut usize,
     ) -> u32;

@@ -8,6 +8,7 @@ use super::lent::{Lent, patterns};
 use super::shapes::tolerance_for;
 use super::simplify::{lengthen, triples};
 use super::table::{self, Row, refusal};
+use super::worst::{bound, worst_step};
 use raygeo::geo::algo::fitting;
 use raygeo::geo::types::Point;
 
@@ -258,7 +259,7 @@ pub fn share(compared: &Compared) -> f64 {
     let value = |i: u64| f64::from_bits(i);
     let [ours, theirs] = [&compared.proved, &compared.given].map(|side| value(side.lent[0].words()[0]));
     let radius = value(compared.arguments[0].1[2]);
-    (ours - theirs).abs() / (1e-9 + radius * 1e-14)
+    (ours - theirs).abs() / bound(radius)
 }
 
 fn get_polyline_arc_deviation(draw: &mut Draw) -> Compared {
@@ -289,22 +290,24 @@ pub fn arc_exactly(list: &[f64], centre: [f64; 2], radius: f64) -> Compared {
             table::too_many_points(list.len() / 3),
             table::outside(domain),
         ]),
-        lent: vec![Lent::room(1), Lent::numbers(list)],
+        lent: vec![Lent::room(1), Lent::count(), Lent::numbers(list)],
     };
     call.compare(
         |lent| unsafe {
-            let (dist, points) = (lent[0].as_mut_ptr(), lent[1].as_mut_ptr::<f64>());
-            rt_get_polyline_arc_deviation(points, list.len(), x, y, radius, dist)
+            let (dist, index, points) = (lent[0].as_mut_ptr(), lent[1].as_mut_ptr(), lent[2].as_mut_ptr::<f64>());
+            rt_get_polyline_arc_deviation(points, list.len(), x, y, radius, dist, index)
         },
         |before| {
-            let deviation = fitting::get_polyline_arc_deviation(&triples(list), Point::new(x, y), radius);
-            vec![before[0].written(&patterns(&[deviation])), before[1].clone()]
+            let (points, centre) = (triples(list), Point::new(x, y));
+            let deviation = fitting::get_polyline_arc_deviation(&points, centre, radius);
+            let index = worst_step(&points, centre, radius).counted_from(0) as u64;
+            vec![before[0].written(&patterns(&[deviation])), before[1].written(&[index]), before[2].clone()]
         },
     )
 }
 
-/// Document 01 lets this function lie off the Rust's by 1e-9 and the radius's 1e-14th part: an answer within that is
-/// what is expected.
+/// Document 01 lets this function's deviation lie off the Rust's by 1e-9 and the radius's 1e-14th part: an answer within that
+/// is what is expected.
 fn within(mut compared: Compared) -> Compared {
     if compared.given.number == 0 && share(&compared) <= 1.0 {
         let ours = compared.proved.lent[0].words().to_vec();

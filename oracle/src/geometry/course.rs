@@ -41,7 +41,7 @@ impl Way {
         }
         let points = if thinned { simplify_polyline_3d(&chain, self.tolerance) } else { chain };
         let walk = Walk::over(&points, self.tolerance, 0, points.len() - 1);
-        self.stands = self.stands.and(Stands { margins: walk.margins, missed: walk.missed, followed: true });
+        self.stands = self.stands.and(Stands { margins: walk.margins, missed: walk.missed, ..Stands::UNTRIED });
         self.made.extend(walk.commands);
         self.steps.extend(walk.steps);
     }

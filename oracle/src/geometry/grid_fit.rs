@@ -19,13 +19,13 @@ fn add_fits(tally: &mut Tally, list: &[f64], count: usize) {
     let most = count.saturating_sub(1);
     let rooms = Rooms { kinds: most, numbers: 9 * most };
     for tolerance in TOLERANCES {
-        let whole = primitives_of(list, tolerance, rooms);
+        let whole = primitives_of(list, tolerance, rooms, most);
         tally.add(&whole.call, &whole.labels());
         tally.add(&collinear_of(list, tolerance, false), &[]);
         // the ranges of shorter lists, one index outside
         for (start, end) in (0..=count).flat_map(|start| (0..=count).map(move |end| (start, end))) {
             if count < 5 {
-                let part = recursive_of(list, tolerance, [start, end], rooms);
+                let part = recursive_of(list, tolerance, [start, end], rooms, most);
                 tally.add(&part.call, &part.labels());
             }
         }

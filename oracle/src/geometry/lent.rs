@@ -16,6 +16,8 @@ pub enum Purpose {
     Count,
     /// For the kinds of commands, bytes.
     Kinds,
+    /// For the worst step of each command.
+    Worst,
 }
 
 /// Lent memory, between words that are not lent. All is compared afterwards.
@@ -82,6 +84,12 @@ impl Lent {
         let rest = (front.len()..count).map(byte_pattern);
         let all: Vec<u8> = front.iter().copied().chain(rest).collect();
         Lent::new(Purpose::Kinds, packed(&all).into_iter())
+    }
+
+    /// Room for so many worst steps, four bytes each, with these at its front.
+    pub fn list_room(count: usize, front: &[u32]) -> Lent {
+        let bytes: Vec<u8> = front.iter().flat_map(|n| n.to_le_bytes()).collect();
+        Lent { purpose: Purpose::Worst, ..Lent::byte_room(4 * count, &bytes) }
     }
 
     /// How many words are lent.

@@ -9,7 +9,7 @@
 //! | 3 | the end of a range, a live thinner's flag; of `fit_points_with_primitives` the ranges examined |
 //! | 4 | how many numbers are lent |
 //! | 5 | how many kinds |
-//! | 6 | how many bytes of a recorded file, or of a text |
+//! | 6 | how many bytes of a recorded file, of a text, or of the list of worst steps that a fit of points leaves |
 //! | 7 | how many bytes of a fitted file |
 //! | 8 | how many numbers the output holds |
 //! | 9 | how many bytes, which are kinds or a file's |
@@ -21,11 +21,13 @@
 //!
 //! An Arc that is drawn by Lines stands as one kind, its nine numbers, and then its start.
 //!
+//! Of a deviation from an arc, word 11 is the worst step.
+//!
 //! A centre or a circle stands among the numbers where it stands among the arguments: before the points of an arc, behind those
 //! of a chord.
 use super::frame::Compared;
 use super::laps::first_bytes;
-use super::lent::Purpose;
+use super::lent::{Lent, Purpose};
 use super::{list_bezier, list_course, list_fit, list_flatten, list_laps, list_live, list_simplify, list_svg};
 use std::io::{Result, Write};
 
@@ -67,6 +69,9 @@ const VALUES: [&str; 4] = ["t", "tolerance_sq", "resolution", "tolerance"];
 const WHOLES: [&str; 5] = ["steps", "depth", "range", "lap", "use_fit_arcs"];
 const NUMBERS: [&str; 5] = ["curve", "centre", "circle", "points", "numbers"];
 
+/// What stands in a list of worst steps before a call of the replay (`crates/replay/src/fits.rt`).
+const NO_STEP: u32 = 4_000_000_000;
+
 /// A recorded call.
 pub struct Record {
     pub bytes: Vec<u8>,
@@ -92,10 +97,18 @@ fn file(words: &[u64]) -> Vec<u8> {
 fn wholes(call: &Compared) -> [u64; 2] {
     match (call.function, argument(call, &WHOLES)) {
         ("linearize_bezier_segment", _) => [argument(call, &VALUES).len() as u64, 0],
-        ("fit_points_with_primitives", _) => [0, call.given.lent[4].words()[0]],
+        ("fit_points_with_primitives", _) => [0, call.given.lent[5].words()[0]],
         (_, [start, end]) => [*start, *end],
         (_, words) => [first(words), 0],
     }
+}
+
+/// The list of worst steps that is left, four bytes each: behind those that are written, what the replay puts there.
+fn worst_bytes(call: &Compared, list: &Lent) -> Vec<u8> {
+    let (written, places) = (call.count() as usize, argument(call, &["rooms"])[2] as usize);
+    let mut bytes = first_bytes(list, 4 * written);
+    bytes.extend(std::iter::repeat_n(NO_STEP.to_le_bytes(), places - written).flatten());
+    bytes
 }
 
 pub fn record(call: &Compared) -> Record {
@@ -103,7 +116,9 @@ pub fn record(call: &Compared) -> Record {
     let numbers: Vec<u64> =
         call.arguments.iter().filter(|(name, _)| NUMBERS.contains(name)).flat_map(|(_, words)| words.clone()).collect();
     let kinds = argument(call, &["kinds"]);
-    let (recorded, fitted) = (file(argument(call, &["recorded"])), file(argument(call, &["fitted"])));
+    let file_bytes = || file(argument(call, &["recorded"]));
+    let recorded = call.lent(Purpose::Worst).map_or_else(file_bytes, |list| worst_bytes(call, list));
+    let fitted = file(argument(call, &["fitted"]));
     let answer = call.lent(Purpose::Answer);
     let written = answer.map_or(&[][..], |lent| lent.front());
     let stored = call.lent(Purpose::Kinds).map_or(vec![], |lent| first_bytes(lent, call.count() as usize));

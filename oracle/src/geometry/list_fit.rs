@@ -22,7 +22,8 @@ fn full(list: &[f64]) -> Rooms {
 }
 
 fn whole(list: &[f64], tolerance: f64) -> Judged {
-    primitives_of(list, tolerance, full(list))
+    let rooms = full(list);
+    primitives_of(list, tolerance, rooms, rooms.kinds)
 }
 
 /// Points in the plane, lifted.
@@ -85,7 +86,7 @@ fn at_tolerances() -> Vec<Judged> {
         let last = list.len() / 3 - 1;
         for tolerance in [0.1, 0.5, 1.0, 1f64.next_up(), 3.0] {
             calls.push(whole(&list, tolerance));
-            calls.push(recursive_of(&list, tolerance, [1, last], full(&list)));
+            calls.push(recursive_of(&list, tolerance, [1, last], full(&list), last));
         }
     }
     calls
@@ -162,9 +163,11 @@ fn edges(draw: &mut Draw) -> Vec<Judged> {
     let short = [Rooms { kinds: 2, numbers: 27 }, Rooms { kinds: 3, numbers: 18 }, Rooms { kinds: 3, numbers: 26 }];
     let mut calls = vec![whole(&long, 5.0), whole(&more, 2.0), whole(&deep, 0.5)];
     for range in [[0, 3], [0, 4], [3, 3], [3, 1], [4, 4], [7, 5], [5, 7], [2, usize::MAX]] {
-        calls.push(recursive_of(&bend, 0.3, range, full(&bend)));
+        calls.push(recursive_of(&bend, 0.3, range, full(&bend), 3));
     }
-    calls.extend(short.map(|rooms| primitives_of(&bend, 0.3, rooms)));
+    calls.extend(short.map(|rooms| primitives_of(&bend, 0.3, rooms, 3)));
+    calls.extend([0, 2, 4].map(|places| primitives_of(&bend, 0.3, full(&bend), places)));
+    calls.push(recursive_of(&bend, 0.3, [1, 3], full(&bend), 1));
     calls
 }
 

@@ -2,6 +2,7 @@
 //!
 //! The walk goes as the Rust's recursion does, over the Rust's own functions, and measures each arc trial on its way. It
 //! makes commands too; as long as those are the Rust's, it made the Rust's trials.
+use super::worst::{bound, worst_step};
 use raygeo::geo::algo::fitting;
 use raygeo::geo::shape::arc::is_arc_clockwise;
 use raygeo::geo::types::{Command, Point, Point3D};
@@ -54,6 +55,10 @@ pub struct Walk<'a> {
     pub commands: Vec<Command>,
     /// How many steps of the points each command covers.
     pub steps: Vec<usize>,
+    /// The worst step of each, counted in the points; 0 of a Line.
+    pub worst: Vec<u32>,
+    /// Whether the Rust's own numbers tell each of them.
+    pub told: bool,
     /// How many ranges with a step were entered.
     pub ranges: usize,
     pub margins: Margins,
@@ -120,7 +125,7 @@ fn trial(points: &[Point3D], centre: Point, radius: f64, tolerance: f64) -> Tria
     let offsets: Vec<Point> = points.iter().map(|p| plane(*p) - centre).collect();
     let (all_crosses, asked_crosses) = crosses(&offsets);
     let within = deviation < tolerance;
-    let clear = (deviation - tolerance).abs() > 1e-9 + radius * 1e-14;
+    let clear = (deviation - tolerance).abs() > bound(radius);
     let round = [(total - (2.0 * PI - 1e-3)).abs() > 1e-6, half_turn > 1e-6, offsets.iter().all(|q| q.length() > 1e-6)];
     Trial {
         passes: within && total < 2.0 * PI - 1e-3,
@@ -137,6 +142,8 @@ impl<'a> Walk<'a> {
             tolerance,
             commands: Vec::new(),
             steps: Vec::new(),
+            worst: Vec::new(),
+            told: true,
             ranges: 0,
             margins: Margins::Untried,
             missed: [false; 5],
@@ -168,6 +175,13 @@ impl<'a> Walk<'a> {
         (0..5).for_each(|i| self.missed[i] |= trial.missed[i]);
     }
 
+    /// The worst step of an Arc over these points, the first of which has the index `start`.
+    fn note_worst(&mut self, start: usize, range: &[Point3D], centre: Point, radius: f64) {
+        let worst = worst_step(range, centre, radius);
+        self.worst.push(worst.counted_from(start) as u32);
+        self.told &= worst.by_rust;
+    }
+
     /// Tries the arc round a fitted centre; whether it passed and was written.
     fn arc(&mut self, start: usize, end: usize, fitted: Point) -> bool {
         let (a, b) = (self.points[start], self.points[end]);
@@ -182,6 +196,7 @@ impl<'a> Walk<'a> {
             let center_offset = Point3D::new(centre.x - a.x, centre.y - a.y, 0.0);
             self.commands.push(Command::Arc { end: b, center_offset, normal: Point3D::new(0.0, 0.0, z) });
             self.steps.push(end - start);
+            self.note_worst(start, range, centre, radius);
         }
         trial.passes
     }
@@ -208,6 +223,7 @@ impl<'a> Walk<'a> {
         if deviation < self.tolerance {
             self.commands.push(Command::Line { end: self.points[end] });
             self.steps.push(end - start);
+            self.worst.push(0);
             return;
         }
         let closed = plane(self.points[start]).distance(plane(self.points[end])) < 1e-6;

@@ -42,3 +42,4 @@ pub mod shapes;
 pub mod simplify;
 pub mod svg;
 pub mod table;
+pub mod worst;

@@ -16,10 +16,14 @@ same-length c = search needs
 same-length-2 : tie.Need-same-length-2
 same-length-2 c = search needs
 
+same-length-3 : tie.Need-same-length-3
+same-length-3 c = search needs
+
 returns : tie.Need-returns
-returns c = listed-commands _ (c .before .before .before .before .before .before .before .before .before .before .before .before .args .kinds .now) _ (c .before .before .before .before .before .before .before .before .before .before .before .before .args .nums .now) _ _ (c .before .before .before .before .before .before .before .before .before .before .before .before .args .count .now) _ _ (c .before .before .before .before .before .before .fit-points-recursive .ensures) (c .hand-on .ensures)
+returns c = let a = c @args in
+    let f = c @fit-points-recursive .ensures in (listed-commands _ (a .kinds .now) _ (a .nums .now) _ _ (a .count .now) _ _ (f .0) (c @hand-on .ensures), f .1 .leaves)
 
 pub rt-fit-points-recursive-spec : {M : Type 1} → statement M
 rt-fit-points-recursive-spec =
     tie.close
-    (tie.spec fit-points-recursive-requires hand-on-requires same-length same-length-2 returns)
+    (tie.spec fit-points-recursive-requires hand-on-requires same-length same-length-2 same-length-3 returns)

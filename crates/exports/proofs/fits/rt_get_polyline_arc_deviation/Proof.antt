@@ -1,4 +1,4 @@
--- `exports::fits::rt_get_polyline_arc_deviation` meets its contract: by the answer's case, its distance is stored or its number is handed back. Assumes nothing.
+-- `exports::fits::rt_get_polyline_arc_deviation` meets its contract: by the answer's case, its distance and index are stored or its number is handed back. Assumes nothing.
 use mathlib.Core.Path.{refl}
 use Rattle.exports.proofs.Answers.{arc-gives, arc-refused}
 use Rattle.exports.proofs.Plain.{tells, tells-nothing}
@@ -16,10 +16,12 @@ enum-known-a-2 : tie.Need-enum-known-a-2
 enum-known-a-2 c = search needs
 
 returns : tie.Need-returns
-returns c = tells (λ d. d) _ (c .before .before .before .before .before .args .dist .now) _ _ (arc-gives _ _ _ (c .before .before .before .get-polyline-arc-deviation .ensures) (c .before .a .given .1)) refl
+returns c = let e = arc-gives _ _ _ (c @get-polyline-arc-deviation .ensures) (c @a .given .1) in
+    (tells (λ w. w .dist) _ (c @args .dist .now) _ _ e refl, tells (λ w. w .index) _ (c @args .index .now) _ _ e refl)
 
 returns-2 : tie.Need-returns-2
-returns-2 c = tells-nothing (λ d. d) _ (c .before .before .before .before .before .args .dist .now) _ (arc-refused _ _ _ (c .before .before .before .get-polyline-arc-deviation .ensures) (c .before .a2 .given .1))
+returns-2 c = let e = arc-refused _ _ _ (c @get-polyline-arc-deviation .ensures) (c @a2 .given .1) in
+    (tells-nothing (λ w. w .dist) _ (c @args .dist .now) _ e, tells-nothing (λ w. w .index) _ (c @args .index .now) _ e)
 
 pub rt-get-polyline-arc-deviation-spec : {M : Type 1} → statement M
 rt-get-polyline-arc-deviation-spec =

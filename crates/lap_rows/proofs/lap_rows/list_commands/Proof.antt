@@ -1,5 +1,5 @@
 -- `lap_rows::lap_rows::list_commands` meets its contract: what was read into the arrays are the commands of the lap, and the rows are what their fit notes. Assumes nothing.
-use mathlib.Core.Path.{sym, ap}
+use mathlib.Core.Path.{refl, sym, ap}
 use native.Mathlib.Omega.{arith}
 use Rattle.fitting.specs.Pieces.{lapsRule}
 use Rattle.course.specs.Course.{lentCourse}
@@ -62,7 +62,7 @@ same-length-6 c = search needs
 returns : tie.Need-returns
 unfolding lapRows
 returns c = let a = c .before .before .before .before .before .before .before .before .before .before .before .before .before .before .before .before .before .before .before .before .before .before .before .before .before .before .before .before .before .before .args in let p = c .before .before .before .before .before .before .before .before .before .before .before .before .before .before .before .before .before .before .before .before .before .before .before .before .before .before .before .before .before .before .pre in let r = c .before .before .before .before .before .before .before .before .before .before .before .before .before .before .before .before .before .before .before .before .read-commands .ensures in
-    placed-same _ _ _ _ _ _ _ (ap (courseRows (lapsRule (a .tolerance))) (read-back (a .s .now) (a .at) (a .n) _ _ _ _ (p .2) (p .3) (r .0) (r .1))) (rows-placed (lapsRule (a .tolerance)) _ _ (a .out-kinds .now) _ (a .out-nums .now) _ (a .out-steps .now) _ (rw (c .before .before .before .before .before .before .before .before .before .before .before .before .before .before .before .of-laps .ensures) at (c .before .before .before .before .before .before .before .before .fit-course-with-steps .ensures)))
+    placed-same _ _ _ _ _ _ _ (ap (courseRows (lapsRule (a .tolerance))) (read-back (a .s .now) (a .at) (a .n) _ _ _ _ (p .2) (p .3) (r .0) (r .1))) (rows-placed (lapsRule (a .tolerance)) refl _ _ (a .out-kinds .now) _ (a .out-nums .now) _ (a .out-steps .now) _ (rw (c .before .before .before .before .before .before .before .before .before .before .before .before .before .before .before .of-laps .ensures) at (c .before .before .before .before .before .before .before .before .fit-course-with-steps .ensures)))
 
 pub list-commands-spec : {M : Type 1} → statement M
 list-commands-spec =
