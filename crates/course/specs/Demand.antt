@@ -42,7 +42,8 @@ pub record ChainFitted (r : Rule) (s : List Float) (xs : List Command) : Type 0 
   -- the thinned chain is the chain's first point, those kept between, and its last, in the chain's order
   pub thinned : thinnedChain r s ≡ map (pointAt s) (keptIndices r s)
   pub ascending : Ascending 0 (length s / 3) (keptIndices r s)
-  -- "each thinned-out point is, as computed, within [the tolerance] of the line through its kept neighbours"
+  -- "each thinned-out point is, as computed, within [the tolerance] of the line through its kept neighbours": by the rule's distance, in laps the one to the segment
+  -- between them (document 02, §4)
   pub neighbours : Neighbours (Near (distance r) (r .tolerance ⊗ r .tolerance) (pointAt s)) 0 (keptInside r s) (length s / 3 - 1)
   -- "A thinned chain of two or more points is a range": one Line or new Arc for each piece, each step in one piece, each deviation below the tolerance, and the cut rule
   pub fitted : RangeFitted r (pointAt (flat triple (thinnedChain r s))) 0 (length (thinnedChain r s) - 1) xs

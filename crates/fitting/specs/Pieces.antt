@@ -14,20 +14,21 @@ use Rattle.trial.specs.declared.trial.Trial.{Trial}
 use Rattle.trial.specs.declared.trial.Trial.the-variants.{Arc, None}
 use Rattle.trial.specs.Trial.{tryArcs}
 use Rattle.simplify.specs.declared.simplify.Farthest.{Farthest}
-use Rattle.simplify.specs.declared.simplify.Ruler.the-variants.{Line}
+use Rattle.simplify.specs.declared.simplify.Ruler.the-variants.{Line, Segment}
 use Rattle.simplify.specs.Measure.{Measure, measureOf}
 use Rattle.simplify.specs.Farthest.{farthestIn}
 use Rattle.fitting.specs.declared.fitting.Note.the-variants.{Steps, Worst}
 use Rattle.fitting.specs.declared.fitting.Rule.{Rule}
 
 -- ---- by which rule a range is judged: a distance, whether arcs are tried, and a tolerance; and what is noted beside each command
--- that of the functions that take points
+-- that of the functions that take points: they measure to the endless line
 abbrev pub pointsRule : Float → Rule
 pointsRule tol = record { ruler = Line; arcs = true; tolerance = tol; note = Worst }
 
--- that of `fit_arcs`, and of the fit of a file and the replacement of a lap, which rest on it
+-- that of `fit_arcs`, and of the fit of a file and the replacement of a lap, which rest on it: "the lap fit, the lap replacement and `fit_arcs` thin, and test a Line, by
+-- the distance to the segment" (document 02, §4)
 abbrev pub lapsRule : Float → Rule
-lapsRule tol = record { ruler = Line; arcs = true; tolerance = tol; note = Steps }
+lapsRule tol = record { ruler = Segment; arcs = true; tolerance = tol; note = Steps }
 
 abbrev pub distance : Rule → Measure Point3D
 distance r = measureOf (r .ruler)

@@ -52,7 +52,7 @@ pub struct Rule {
 }
 
 impl Rule {
-    // The rule of the functions that take points.
+    // The rule of the functions that take points: they measure to the endless line.
     pub fn of_points(tolerance: f64) -> Self
         ensures { λ r. ⌜ r ≡ pointsRule tolerance ⌝ }
     {
@@ -64,12 +64,12 @@ impl Rule {
         }
     }
 
-    // The rule of a course, and so of a file and of a lap.
+    // The rule of a course, and so of a file and of a lap: they measure to the segment.
     pub fn of_laps(tolerance: f64) -> Self
         ensures { λ r. ⌜ r ≡ lapsRule tolerance ⌝ }
     {
         Self {
-            ruler: Ruler::Line,
+            ruler: Ruler::Segment,
             arcs: true,
             tolerance,
             note: Note::Steps,

@@ -11,6 +11,7 @@ use Rattle.geo.specs.Outcome.{refusal, unless}
 use Rattle.geo.specs.Vector.{lengthOf, distanceSq, distance}
 use Rattle.geo.specs.Walk.{fold, listFrom}
 use Rattle.arc.specs.Direction.{turnAt, crossSum, clockwise}
+use Rattle.segment.specs.Segment.{parameterOf, offFoot, segmentOn, segmentSq}
 use Rattle.simplify.specs.Farthest.{farther, farthestOf, farthestIn}
 use Rattle.simplify.specs.Measure.{toLine, lineSq}
 use Rattle.simplify.specs.Simplify.{simplifyPolyline3d}
@@ -36,7 +37,7 @@ use Rattle.lap_fit.specs.Fit.{lapsMost, fileFitRows, fitFile}
 use Rattle.lap_replace.specs.Worked.{WorkedLaps, centre-right}
 
 pub worked-laps : WorkedLaps
-unfolding centre-right span climb size odd units round neg sum add sub mul div lt eq le isNan ofInt ofFields ofBits absOf maxOf clampOf better rootIn wholeRoot rootFrom inUnits rootOf plain coordinate centre within pointIn point3In everyFrom numbersIn whole pointAt flat endOf kindOf numbersOf refusal unless lengthOf distanceSq distance fold listFrom turnAt crossSum clockwise farther farthestOf farthestIn toLine lineSq simplifyPolyline3d keptBy thinned thinnedPoints movedBy projected pointsRows nearTo besideOf allNear allBeside collinearBy collinear plus sumsOf axesOf cross3 dot3 scaled detOf inverseTimes solved matrixOf sidesOf centered kasaCenter areaOf turnOf center3 radiusFrom centerBy centerThree circleRound throughThree worse worst spokeOf cosine sagittaOf endsOf stepOf stepBetween arcDeviation offsetOf cross2 dot2 atCentre halfOf turned turnsOf justBehind justAhead passesBy awayFrom traverses sharpTurn sharpAt closedRange measuredBy goingRound ofMeasured trialRound trialOf ofCircle ofCenter trialThree trialLeast threeTried leastTried orElse tryArcs fitRows fitCall worstCall normalOf shaped pieceCommand fitIn worstStep pieceWorst worstIn rooted lineDeviation arcOrCut chooseBy choice follow piecesBy line.chordOf collin.endsChord ceilOf steps firstThird lastThird polygonLength stepCount stepsNeeded paramSteps toUnsigned vector.distance3 halfAt u32Bytes lapCount lapsAt lapsOf bodies table encode short big hasMark walk tableOk lapsOk lapsMost fileRows sizeRows fileFitRows fitFile
+unfolding centre-right span climb size odd units round neg sum add sub mul div lt eq le isNan ofInt ofFields ofBits absOf maxOf clampOf better rootIn wholeRoot rootFrom inUnits rootOf plain coordinate centre within pointIn point3In everyFrom numbersIn whole pointAt flat endOf kindOf numbersOf refusal unless lengthOf distanceSq distance fold listFrom turnAt crossSum clockwise farther farthestOf farthestIn toLine lineSq simplifyPolyline3d keptBy thinned thinnedPoints movedBy projected pointsRows nearTo besideOf allNear allBeside collinearBy collinear plus sumsOf axesOf cross3 dot3 scaled detOf inverseTimes solved matrixOf sidesOf centered kasaCenter areaOf turnOf center3 radiusFrom centerBy centerThree circleRound throughThree worse worst spokeOf cosine sagittaOf endsOf stepOf stepBetween arcDeviation offsetOf cross2 dot2 atCentre halfOf turned turnsOf justBehind justAhead passesBy awayFrom traverses sharpTurn sharpAt closedRange measuredBy goingRound ofMeasured trialRound trialOf ofCircle ofCenter trialThree trialLeast threeTried leastTried orElse tryArcs fitRows fitCall worstCall normalOf shaped pieceCommand fitIn worstStep pieceWorst worstIn rooted lineDeviation arcOrCut chooseBy choice follow piecesBy line.chordOf collin.endsChord ceilOf steps firstThird lastThird polygonLength stepCount stepsNeeded paramSteps toUnsigned vector.distance3 halfAt u32Bytes lapCount lapsAt lapsOf bodies table encode short big hasMark walk tableOk lapsOk lapsMost fileRows sizeRows fileFitRows fitFile parameterOf offFoot segmentOn segmentSq
 worked-laps =
     record {
       root-of-25 = refl;

@@ -49,7 +49,8 @@ LapsAreFitted =
 -- "and in it each chain gives, in order, one Line or new Arc for each of its pieces; each step of each thinned chain lies in exactly one piece; a Line's or new Arc's
 -- computed deviation over its piece is below the tolerance; each thinned-out point is, as computed, within it of the line through its kept neighbours; and a range is cut
 -- exactly when its Line and both arc trials fail": a fitted lap is the bytes of commands which are, in order, the recorded lap's kept commands and what each of its chains
--- gives, as `ChainFitted` of `course/specs/Demand.antt` says sentence by sentence
+-- gives, as `ChainFitted` of `course/specs/Demand.antt` says sentence by sentence. "The kept-neighbour distance and the Line deviation [..] are then to the segment" (document
+-- 02, §4): both are by the distance of `lapsRule`
 pub record LapGives (r : Rule) (recorded fitted : Lap) : Type 0 where
   pub commands : List Command
   pub bytes : fitted ≡ map enc commands

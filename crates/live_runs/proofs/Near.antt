@@ -22,7 +22,8 @@ use Rattle.geo.specs.declared.types.Point3D.{Point3D}
 use Rattle.floats.specs.Limits.{million}
 use Rattle.geo.specs.Domain.{coordinate, point3In}
 use Rattle.geo.specs.Vector.{lengthSq, perpDot}
-use Rattle.simplify.specs.Measure.{degenerate, chordOf, toLine, lineSq}
+use Rattle.segment.specs.Segment.{degenerate}
+use Rattle.simplify.specs.Measure.{chordOf, toLine, lineSq}
 use Rattle.simplify.specs.Farthest.{farthestIn}
 use Rattle.simplify.proofs.Thinning.{first-farthest}
 use Rattle.fitting.specs.Pieces.{rooted, lineDeviation}

@@ -1,16 +1,21 @@
 -- The search for the first farthest point, in the form in which a loop `for i in a..e` meets it: e - i points are left. Assumes nothing.
-use Prim.Native.Nat.{ℕ, suc, _+_, _-_, _≤_, _<_}
+use Prim.Native.Nat.{ℕ, suc, _+_, _-_, _*_, _≤_, _<_}
 use mathlib.Core.Path.{_≡_, sym, ap, _∙_}
+use mathlib.Core.List.{List}
 use native.Mathlib.Omega.{arith}
-use lib.Ieee.{Float}
+use lib.Dec.{T}
+use lib.ListN.{getD}
+use lib.Ieee.{Float, nan, binary64, fits}
 use Rattle.geo.specs.declared.types.Point3D.{Point3D}
 use Rattle.geo.specs.declared.types.Command.{Command}
-use Rattle.geo.specs.Lent.{endOf}
+use Rattle.geo.specs.Lent.{endOf, pointAt}
+use Rattle.segment.specs.declared.segment.Segment.{Segment}
+use Rattle.segment.specs.Saved.{segmentOf, Laid}
 use Rattle.simplify.specs.declared.simplify.Chord.{Chord}
 use Rattle.simplify.specs.declared.simplify.Farthest.{Farthest}
 use Rattle.simplify.specs.declared.simplify.Search.{Search}
 use Rattle.simplify.specs.Measure.{Measure, chordOf, toLine, lineSq}
-use Rattle.simplify.specs.Farthest.{farther, farthestOf, farthestIn}
+use Rattle.simplify.specs.Farthest.{onChord, farther, farthestOf, farthestIn}
 use Rattle.simplify.specs.Search.{begun}
 use Rattle.simplify.specs.Data.{toCommand, commandSq}
 
@@ -28,11 +33,22 @@ module _ (f : ℕ → Float) (e : ℕ) (w : Farthest) where
   unfolding farthestOf
   scan-done i best h r = let z : e - i ≡ 0 = omega arith in sym (rw z) ∙ r
 
+-- before the first point
+pub scan-onward : {P : Type 0} (m : Measure P) (at : ℕ → P) (lo hi : ℕ) (best : Farthest) → best ≡ onChord lo
+    → farthestOf (λ j. m (at lo) (at hi) (at j)) (hi - (lo + 1)) (lo + 1) best ≡ farthestIn m at lo hi
+unfolding farthestIn
+scan-onward m at lo hi best e = rw e
+
 -- a search that has begun
 pub scan-start : {P : Type 0} (m : Measure P) (at : ℕ → P) (lo hi : ℕ) (s : Search) → s ≡ begun lo
     → farthestOf (λ j. m (at lo) (at hi) (at j)) (hi - (lo + 1)) (lo + 1) (s .best) ≡ farthestIn m at lo hi
-unfolding farthestIn
-scan-start m at lo hi s e = rw e
+scan-start m at lo hi s e = scan-onward m at lo hi (s .best) (rw e)
+
+-- the segment of lent points is laid between them: what is lent are values of the format
+pub laid : (s : List Float) (i : ℕ) {a b b′ : Point3D} {segment : Segment} → ((k : ℕ) → T (fits binary64 (getD s k nan))) → segment ≡ segmentOf a b → a ≡ pointAt s i → b ≡ b′
+    → Laid (pointAt s i) b′ segment
+unfolding pointAt
+laid s i held e ea eb = record { is = rw (sym ea, sym eb) e; held-x = held (3 * i); held-y = held (3 * i + 1) }
 
 -- the distance to the chord of a and b is the measure, of a point and of a command
 pub measured : {a a′ b b′ p p′ : Point3D} {chord : Chord} → chord ≡ chordOf a b → a ≡ a′ → b ≡ b′ → p ≡ p′ → toLine chord p ≡ lineSq a′ b′ p′

@@ -14,10 +14,11 @@ use Rattle.geo.specs.declared.types.Point3D.{Point3D}
 use Rattle.geo.specs.declared.types.Command.{Command}
 use Rattle.geo.specs.Vector.{perpDot}
 use Rattle.geo.specs.Lent.{endOf}
+use Rattle.segment.specs.Segment.{degenerate}
 use Rattle.simplify.specs.declared.simplify.Chord.{Chord}
 use Rattle.simplify.specs.declared.simplify.Farthest.{Farthest}
 use Rattle.simplify.specs.declared.simplify.Search.{Search}
-use Rattle.simplify.specs.Measure.{degenerate, toLine}
+use Rattle.simplify.specs.Measure.{toLine}
 use Rattle.simplify.specs.Farthest.{farther}
 use Rattle.simplify.specs.Search.{spreadOf, squareOfSpread, begun, Sound}
 use Rattle.simplify.specs.Data.{isMove, toCommand}

@@ -1,22 +1,19 @@
--- How far a point lies from the chord of a range: document 01's measure, in x and y. Definitions only.
+-- How far a point lies from the chord of a range, in x and y: document 01's measure, to the endless line; and which measure a ruler stands for. That to the segment is
+-- `segment/specs/Segment.antt`. Definitions only.
 use lib.Ieee.{Float}
-use Rattle.floats.specs.Limits.{pico}
 use Rattle.floats.specs.Ops.{_⊖_, _⊗_, _⊘_, _≺_, +0, if_then_else_}
 use Rattle.geo.specs.declared.types.Point.{Point}
 use Rattle.geo.specs.declared.types.Point3D.{Point3D}
 use Rattle.geo.specs.Vector.{lengthSq, perpDot}
+use Rattle.segment.specs.Segment.{degenerate, segmentSq}
 use Rattle.simplify.specs.declared.simplify.Chord.{Chord}
 use Rattle.simplify.specs.declared.simplify.Ruler.{Ruler}
-use Rattle.simplify.specs.declared.simplify.Ruler.the-variants.{Line}
+use Rattle.simplify.specs.declared.simplify.Ruler.the-variants.{Line, Segment}
 
 -- A measure gives the squared distance of a point, its last argument, to the chord of two others, its first and second.
 -- Thinning and its laws are stated over any measure.
 abbrev pub Measure : Type 0 → Type 0
 Measure P = P → P → P → Float
-
--- a chord whose square is below 1e-12 counts as its start alone
-abbrev pub degenerate : Float
-degenerate = pico
 
 -- the chord from a to b: its start, its direction in the plane, and the square of its length there
 unfoldable pub chordOf : Point3D → Point3D → Chord
@@ -40,6 +37,7 @@ lineSq a b p = toLine (chordOf a b) p
 -- the measure of a ruler
 abbrev pub measureOf : Ruler → Measure Point3D
 measureOf Line = lineSq
+measureOf Segment = segmentSq
 
 -- and of points of the plane, which stand at height 0
 abbrev pub raised : Point → Point3D

@@ -6,9 +6,10 @@ use lib.Ieee.{Float, neg}
 use Rattle.floats.specs.Ops.{_⊖_, _⊗_, _⊘_, _≺_, +0, one, if_then_else_}
 use Rattle.geo.specs.declared.types.Point3D.{Point3D}
 use Rattle.geo.specs.Vector.{lengthSq, perpDot}
+use Rattle.segment.specs.Segment.{degenerate}
 use Rattle.simplify.specs.declared.simplify.Chord.{Chord}
 use Rattle.simplify.specs.declared.simplify.Search.{Search}
-use Rattle.simplify.specs.Measure.{degenerate, toLine}
+use Rattle.simplify.specs.Measure.{toLine}
 use Rattle.simplify.specs.Farthest.{onChord}
 
 -- of an offset: what its distance to the chord grows with, the dividend of the squared distance, or the squared distance itself where the chord is degenerate

@@ -14,6 +14,8 @@ use geo::lent::put_point;
 use geo::types::Answer;
 use geo::types::Command;
 use geo::types::Point3D;
+use segment::segment::DEGENERATE;
+use segment::segment::Segment;
 ghost use mathlib.Core.Path.{_≡_};
 ghost use mathlib.Core.Bool.{false, _||_};
 ghost use Prim.Native.Nat.{_+_, _*_, _<_, _≤_};
@@ -22,6 +24,7 @@ ghost use Rattle.floats.specs.Ops.{_≺_, +0};
 ghost use Rattle.geo.specs.Outcome.{Wrote, refusal};
 ghost use Rattle.geo.specs.Commands.{WroteCommands};
 ghost use Rattle.geo.specs.Lent.{pair, triple, flat, pairAt, pointAt, commandAt, endOf};
+ghost use Rattle.segment.specs.Segment.{segmentSq};
 ghost use Rattle.simplify.specs.Measure.{chordOf, toLine, lineSq, measureOf, planeSq, raised};
 ghost use Rattle.simplify.specs.Farthest.{onChord, farther, farthestIn};
 ghost use Rattle.simplify.specs.Search.{spreadOf, squareOfSpread, begun, Sound};
@@ -30,9 +33,11 @@ ghost use Rattle.simplify.specs.Data.{isMove, toCommand, commandSq, thin
 ghost use Rattle.simplify.specs.Flags.{marked, flagged, flaggedCommands, Copied, CopiedCommands};
 ghost use Rattle.simplify.specs.Simplify.{pointRows, commandRows, simplifyPolyline, simplifyPolyline3d, simplifyData};
 
-// Which distance of a point counts: that to the endless line through the ends of its range, in x and y.
+// Which distance of a point counts, in x and y: that to the endless line through the ends of its range, or that to the
+// segment between them.
 pub enum Ruler {
     Line,
+    Segment,
 }
 
 // The chord of a range, worked out once for all the points between. Distances are measured in x and y.
@@ -44,9 +49,6 @@ struct Chord {
 }
 
 impl Chord {
-    // A chord whose square is below this counts as its start alone.
-    const DEGENERATE: f64 = 1e-12;
-
     fn new(a: Point3D, b: Point3D) -> Self
         ensures { λ r. ⌜ r ≡ chordOf a b ⌝ }
     {
@@ -66,7 +68,7 @@ impl Chord {
     {
         let x = p.x - self.start.x;
         let y = p.y - self.start.y;
-        if self.square < Chord::DEGENERATE {
+        if self.square < DEGENERATE {
             return x * x + y * y;
         }
         let cross = x * self.dy - y * self.dx;
@@ -77,7 +79,7 @@ impl Chord {
     fn distance_squared(self, spread: f64) -> f64
         ensures { λ r. ⌜ r ≡ squareOfSpread self spread ⌝ }
     {
-        if self.square < Chord::DEGENERATE {
+        if self.square < DEGENERATE {
             return spread;
         }
         spread / self.square
@@ -232,6 +234,19 @@ fn farthest_from_line(points: &[f64], start: usize, end: usize) -> Farthest
     search.best
 }
 
+// From the segment between start and end, which needs no division where a point's foot is clamped.
+fn farthest_from_segment(points: &[f64], start: usize, end: usize) -> Farthest
+    requires { ⌜ (3 * start + 2 < length (now points)) × (3 * end + 2 < length (now points)) ⌝ }
+    ensures { λ r. ⌜ r ≡ farthestIn segmentSq (pointAt (now (points .entry))) start end ⌝ }
+{
+    let segment = Segment::new(point_at(points, start), point_at(points, end));
+    let mut best = Farthest::new(start);
+    for i in start + 1..end {
+        best = best.or(segment.distance_squared(point_at(points, i)), i);
+    }
+    best
+}
+
 // The same by any distance, which is looked up once for the range and not for each point.
 pub fn farthest_between(ruler: Ruler, points: &[f64], start: usize, end: usize) -> Farthest
     requires { ⌜ (3 * start + 2 < length (now points)) × (3 * end + 2 < length (now points)) ⌝ }
@@ -239,6 +254,7 @@ pub fn farthest_between(ruler: Ruler, points: &[f64], start: usize, end: usize) 
 {
     match ruler {
         Ruler::Line => farthest_from_line(points, start, end),
+        Ruler::Segment => farthest_from_segment(points, start, end),
     }
 }
 
