@@ -25,7 +25,7 @@ use Rattle.fitting.specs.declared.fitting.Rule.{Rule}
 use Rattle.fitting.specs.Pieces.{distance, lineDeviation, Shape, line, arc, Piece, Choice, whole, cutAt, counted, arcOrCut, chooseBy, choice, follow, piecesBy, piecesIn, rangesOf, rangesBy, rangesIn}
 use Rattle.fitting.specs.Commands.{normalOf, shaped, pieceCommand, fitIn}
 use Rattle.fitting.specs.Laws.{Covers, holding, LinePasses, LineFails, NewArc, WrittenAs, as-line, as-first, as-second, AllWritten, AllFail, CutThere, Uncut, RangeFitted}
-use Rattle.fitting.proofs.Own.{line-answered, arc-answered, direction-answered}
+use Rattle.fitting.proofs.Own.{line-own, line-answered, arc-answered, direction-answered}
 use Rattle.fitting.proofs.Recursion.{Inside, inside, farthest-inside, pieces-follow}
 
 -- ---- lists of pieces, one behind the other
@@ -97,6 +97,7 @@ module _ (r : Rule) (at : ℕ → Point3D) (lo hi : ℕ) (some : lo < hi) where
   line-passes h =
       record {
         deviation = h;
+        own = rw (line-own at lo hi some (distance r)) at h;
         answered = λ e w g. subst (λ (v : Float). (v ≺ r .tolerance) ≡ true) (ap (λ (n : Measure Point3D). lineDeviation n at lo hi .dist) e ∙ line-answered at lo hi some w g) h;
       }
 

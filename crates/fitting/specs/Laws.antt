@@ -10,7 +10,7 @@ use Rattle.geo.specs.declared.types.Point.{Point}
 use Rattle.geo.specs.declared.types.Point3D.{Point3D}
 use Rattle.geo.specs.declared.types.Command as command
 use Rattle.geo.specs.Vector.{flatten}
-use Rattle.geo.specs.Lent.{pair, triple, flat}
+use Rattle.geo.specs.Lent.{pair, triple, flat, pointAt}
 use Rattle.geo.specs.Walk.{listFrom}
 use Rattle.geo.specs.Outcome.{gives}
 use Rattle.arc.specs.Direction.{directionCall}
@@ -50,10 +50,11 @@ abbrev pub shiftedWorst : ℕ → Deviation → Deviation
 shiftedWorst lo w = record { dist = w .dist; index = if +0 ≺ w .dist then lo + w .index else 0 }
 
 -- ---- what a piece is written as
--- "A deviation is the deviation function's over the piece": the Line's is below the tolerance, and so is whatever `get_polyline_line_deviation`, which measures to the
--- endless line, answers of the piece's own points
+-- "A deviation is the deviation function's over the piece": the Line's, by the rule's distance, is below the tolerance, and so is that of the piece's own points alone; and,
+-- where the distance is to the endless line, whatever `get_polyline_line_deviation`, which measures to that, answers of them
 pub record LinePasses (r : Rule) (at : ℕ → Point3D) (lo hi : ℕ) : Type 0 where
   pub deviation : (lineDeviation (distance r) at lo hi .dist ≺ r .tolerance) ≡ true
+  pub own : (lineDeviation (distance r) (pointAt (ownPoints at lo hi)) 0 (hi - lo) .dist ≺ r .tolerance) ≡ true
   pub answered : distance r ≡ lineSq → (w : Deviation) → lineCall (ownPoints at lo hi) 0 (hi - lo) ≡ gives w → (w .dist ≺ r .tolerance) ≡ true
 
 abbrev pub LineFails : Rule → (ℕ → Point3D) → ℕ → ℕ → Type 0

@@ -1,12 +1,12 @@
--- The table of worked laps holds: each row by evaluation of the definitions. Assumes nothing.
+-- The table of worked laps holds, and what stands beside it: each row by evaluation of the definitions. Assumes nothing.
 use mathlib.Core.Path.{refl}
-use lib.Ieee.{span, climb, size, odd, units, round, neg, sum, add, sub, mul, div, lt, eq, le, isNan, ofInt, toUnsigned, ofFields, ofBits}
+use lib.Ieee.{span, climb, size, odd, units, round, neg, sum, add, sub, mul, div, lt, eq, le, isNan, ofInt, toUnsigned, ofFields, ofBits, toBits}
 use Rattle.simplify.specs.Measure as line
 use Rattle.circle.specs.Collinear as collin
 use Rattle.floats.specs.Float.{absOf, ceilOf, maxOf, clampOf}
 use Rattle.floats.specs.Root.{better, rootIn, wholeRoot, rootFrom, inUnits, rootOf, plain}
-use Rattle.geo.specs.Domain.{coordinate, centre, within, pointIn, point3In, everyFrom, numbersIn, whole}
-use Rattle.geo.specs.Lent.{pointAt, flat, endOf, kindOf, numbersOf}
+use Rattle.geo.specs.Domain.{coordinate, centre, within, isFinite, isPlusZero, pointIn, point3In, everyFrom, numbersIn, whole, zero3, finite3, formed, commandsFormed, commandIn, commandsIn}
+use Rattle.geo.specs.Lent.{pointAt, flat, endOf, kindOf, numbersOf, commandOf, commandAt, commandsFrom}
 use Rattle.geo.specs.Outcome.{refusal, unless}
 use Rattle.geo.specs.Vector.{lengthOf, distanceSq, distance}
 use Rattle.geo.specs.Walk.{fold, listFrom}
@@ -26,15 +26,20 @@ use Rattle.trial.specs.Deviation.{spokeOf, cosine, sagittaOf, endsOf, stepOf, s
 use Rattle.trial.specs.Traversal.{offsetOf, cross2, dot2, atCentre, halfOf, turned, turnsOf, justBehind, justAhead, passesBy, awayFrom, traverses}
 use Rattle.trial.specs.Trial.{sharpTurn, sharpAt, closedRange, measuredBy, goingRound, ofMeasured, trialRound, trialOf, ofCircle, ofCenter, trialThree, trialLeast, threeTried, leastTried, orElse, tryArcs}
 use Rattle.fitting.specs.Calls.{fitRows, fitCall, worstCall}
-use Rattle.fitting.specs.Commands.{normalOf, shaped, pieceCommand, fitIn, worstStep, pieceWorst, worstIn}
+use Rattle.fitting.specs.Commands.{normalOf, shaped, pieceCommand, fitIn, worstStep, pieceWorst, worstIn, chainFit}
 use Rattle.fitting.specs.Pieces.{rooted, lineDeviation, arcOrCut, chooseBy, choice, follow, piecesBy}
 use Rattle.bezier.specs.Linearize.{steps, firstThird, lastThird, polygonLength, stepCount, stepsNeeded, paramSteps}
 use Rattle.geo.specs.Vector as vector
-use Rattle.file.specs.Bytes.{halfAt, u32Bytes}
-use Rattle.laps.specs.File.{lapCount, lapsAt, lapsOf, bodies, table, encode, short, big, hasMark, walk, tableOk, lapsOk}
+use Rattle.file.specs.Bytes.{halfAt, wordAt, u32Bytes, f64Bytes, numberAt}
+use Rattle.file.specs.Command.{pointFrom, decoded, wellFormed, commandsAt, laid, enc}
+use Rattle.course.specs.Parts as parts
+use Rattle.course.specs.Parts.{closed, carried, partsFrom, partFit, partMost, fitOf}
+use Rattle.course.specs.Course.{joined, courseParts, courseFit, courseMost, inputRows, roomRows, arcsRows, arcsCall}
+use Rattle.laps.specs.File.{lapCount, offsetAt, countAt, lapsAt, lapsOf, body, bodies, table, encode, commandCount, short, big, hasMark, walk, tableOk, placed, formOk, domainOk, lapOk, lapsOk}
 use Rattle.laps.specs.Rows.{fileRows, sizeRows}
-use Rattle.lap_fit.specs.Fit.{lapsMost, fileFitRows, fitFile}
-use Rattle.lap_replace.specs.Worked.{WorkedLaps, centre-right}
+use Rattle.lap_fit.specs.Fit.{fitLap, mostLap, lapsMost, fitNew, fileFitRows, fitFile}
+use Rattle.lap_replace.specs.Replace.{lentWhole, movePlaced, lentFormed, row1, row2, row3, row4, row5, row7, newRows, mostWith, replaceRows, replaceLap}
+use Rattle.lap_replace.specs.Worked.{WorkedLaps, OutAndBack, centre-right}
 
 pub worked-laps : WorkedLaps
 unfolding centre-right span climb size odd units round neg sum add sub mul div lt eq le isNan ofInt ofFields ofBits absOf maxOf clampOf better rootIn wholeRoot rootFrom inUnits rootOf plain coordinate centre within pointIn point3In everyFrom numbersIn whole pointAt flat endOf kindOf numbersOf refusal unless lengthOf distanceSq distance fold listFrom turnAt crossSum clockwise farther farthestOf farthestIn toLine lineSq simplifyPolyline3d keptBy thinned thinnedPoints movedBy projected pointsRows nearTo besideOf allNear allBeside collinearBy collinear plus sumsOf axesOf cross3 dot3 scaled detOf inverseTimes solved matrixOf sidesOf centered kasaCenter areaOf turnOf center3 radiusFrom centerBy centerThree circleRound throughThree worse worst spokeOf cosine sagittaOf endsOf stepOf stepBetween arcDeviation offsetOf cross2 dot2 atCentre halfOf turned turnsOf justBehind justAhead passesBy awayFrom traverses sharpTurn sharpAt closedRange measuredBy goingRound ofMeasured trialRound trialOf ofCircle ofCenter trialThree trialLeast threeTried leastTried orElse tryArcs fitRows fitCall worstCall normalOf shaped pieceCommand fitIn worstStep pieceWorst worstIn rooted lineDeviation arcOrCut chooseBy choice follow piecesBy line.chordOf collin.endsChord ceilOf steps firstThird lastThird polygonLength stepCount stepsNeeded paramSteps toUnsigned vector.distance3 halfAt u32Bytes lapCount lapsAt lapsOf bodies table encode short big hasMark walk tableOk lapsOk lapsMost fileRows sizeRows fileFitRows fitFile parameterOf offFoot segmentOn segmentSq
@@ -59,3 +64,8 @@ worked-laps =
       second-trial = refl;
       left-bend-as-an-arc = refl;
     }
+
+-- The out-and-back as a lap keeps its far turn.
+pub out-and-back : OutAndBack
+unfolding span climb size odd units round neg sum add sub mul div lt eq le isNan ofInt ofFields ofBits toBits absOf maxOf clampOf better rootIn wholeRoot rootFrom inUnits rootOf plain coordinate centre within isFinite isPlusZero pointIn point3In everyFrom numbersIn whole zero3 finite3 formed commandsFormed commandIn commandsIn pointAt flat endOf kindOf numbersOf commandOf commandAt commandsFrom refusal unless lengthOf distanceSq distance fold listFrom turnAt crossSum clockwise farther farthestOf farthestIn parameterOf offFoot segmentOn segmentSq keptBy thinned thinnedPoints movedBy projected nearTo besideOf allNear allBeside collinearBy collinear plus sumsOf axesOf cross3 dot3 scaled detOf inverseTimes solved matrixOf sidesOf centered kasaCenter areaOf turnOf center3 radiusFrom centerBy centerThree circleRound throughThree worse worst spokeOf cosine sagittaOf endsOf stepOf stepBetween arcDeviation offsetOf cross2 dot2 atCentre halfOf turned turnsOf justBehind justAhead passesBy awayFrom traverses sharpTurn sharpAt closedRange trialRound trialOf ofCircle ofCenter trialThree trialLeast orElse tryArcs normalOf shaped pieceCommand fitIn chainFit rooted lineDeviation arcOrCut chooseBy choice follow piecesBy line.chordOf collin.endsChord ceilOf toUnsigned vector.distance3 halfAt wordAt u32Bytes f64Bytes numberAt pointFrom decoded wellFormed commandsAt laid enc parts.mostOf closed carried partsFrom partFit partMost fitOf joined courseParts courseFit courseMost inputRows roomRows arcsRows arcsCall lapCount offsetAt countAt lapsAt lapsOf body bodies table encode commandCount short big hasMark walk tableOk placed formOk domainOk lapOk lapsOk fileRows sizeRows fitLap mostLap lapsMost fitNew fileFitRows fitFile lentWhole movePlaced lentFormed row1 row2 row3 row4 row5 row7 newRows mostWith replaceRows replaceLap
+out-and-back = record { fitted = refl; replaced = refl; by-fit-arcs = refl }

@@ -1,24 +1,28 @@
--- Document 01's worked laps that carry its mark: one table, and behind them three rows of ours. Definitions only; proofs/Worked.antt shows that it holds.
+-- Document 01's worked laps that carry its mark: one table, and behind them three rows of ours; and its out-and-back as a lap. Definitions only; proofs/Worked.antt shows that they hold.
 use Prim.Native.Nat.{ℕ}
 use mathlib.Core.Path.{_≡_}
 use mathlib.Core.Bool.{true, false}
-use mathlib.Core.List.{List, [], _∷_}
+use mathlib.Core.List.{List, [], _∷_, map}
 use lib.ListN.{length}
 use lib.Ieee.{Float, nan, neg}
 use Rattle.floats.specs.Ops.{_≺_, +0, one}
 use Rattle.floats.specs.Root.{rootOf}
 use Rattle.geo.specs.declared.types.Point3D.{Point3D}
 use Rattle.geo.specs.declared.types.Command.{Command}
-use Rattle.geo.specs.declared.types.Command.the-variants.{Line, Arc}
+use Rattle.geo.specs.declared.types.Command.the-variants.{Move, Line, Arc}
 use Rattle.floats.specs.Limits.{fraction, thousandth}
-use Rattle.geo.specs.Lent.{pointAt}
+use Rattle.geo.specs.Lent.{pointAt, flat, kindOf, numbersOf}
 use Rattle.geo.specs.Outcome.{Outcome, refused, gives}
 use Rattle.trial.specs.declared.trial.Trial as tried
 use Rattle.trial.specs.Trial.{threeTried, leastTried}
 use Rattle.simplify.specs.Simplify.{simplifyPolyline3d}
 use Rattle.bezier.specs.Linearize.{paramSteps}
 use Rattle.fitting.specs.Calls.{primitivesCall, primitivesWorst}
+use Rattle.file.specs.Command.{enc}
+use Rattle.course.specs.Course.{arcsCall}
+use Rattle.laps.specs.File.{encode}
 use Rattle.lap_fit.specs.Fit.{fitFile}
+use Rattle.lap_replace.specs.Replace.{replaceLap}
 
 -- a whole number of metres
 abbrev pub metres : ℕ → Float
@@ -105,3 +109,16 @@ pub record WorkedLaps : Type 0 where
   pub first-trial : by-three ≡ tried.the-variants.Arc (record { x = metres 1; y = metres 4 }) false 1
   pub second-trial : (centre-right by-least-squares ≺ metres 1) ≡ true
   pub left-bend-as-an-arc : fit left-bend (fraction 75 100) ≡ gives (Arc (point 5 3) (point 1 4) up ∷ [])
+
+-- ---- beside the table: the out-and-back as a lap, its points recorded as one Move and two Lines, and that lap alone as a file of 235 bytes
+abbrev pub shuttle : List Command
+shuttle = Move (point 0 0) ∷ Line (point 100 0) ∷ Line (point 50 0) ∷ []
+
+abbrev pub shuttle-file : List ℕ
+shuttle-file = encode (map enc shuttle ∷ [])
+
+-- "The worked (0,0),(100,0),(50,0) stays `simplify_polyline`'s; these three keep all its points" (document 02, §4): the lap fit, the lap replacement and `fit_arcs` give two Lines
+pub record OutAndBack : Type 0 where
+  pub fitted : fitFile shuttle-file (fraction 1 2) 235 ≡ gives shuttle-file
+  pub replaced : replaceLap shuttle-file shuttle-file 1 (map kindOf shuttle) (flat numbersOf shuttle) (fraction 1 2) 235 ≡ gives shuttle-file
+  pub by-fit-arcs : arcsCall (map kindOf shuttle) (flat numbersOf shuttle) (fraction 1 2) 3 27 ≡ gives shuttle
