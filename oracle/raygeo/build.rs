@@ -67,4 +67,5 @@ fn main() {
     fs::write(out.join("tree.rs"), tree(&src)).expect("the output folder takes a file");
     println!("cargo::rustc-cfg=given");
     println!("cargo::metadata=GIVEN=yes");
+    println!("cargo::metadata=SRC={}", src.display());
 }

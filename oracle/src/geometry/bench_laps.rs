@@ -1,7 +1,7 @@
 //! The time of a file's fit and of a replacement, and of the fit of a course: the proved functions and the given Rust on
-//! the same input, in one run.
+//! the same input, in one run. The Rust has the distance to the segment put in, as document 02, §4, asks of these calls.
 //!
-//! Beside the proved functions on files stands the given Rust's `fit_arcs` of each lap, with the reading of the file into
+//! Beside the proved functions on files stands that Rust's `fit_arcs` of each lap, with the reading of the file into
 //! its commands and the writing of the fitted file: once with document 01's rows, as the proved functions have them, and
 //! once with no check but of mark and table.
 use super::bench::{Output, Row, table};
@@ -12,8 +12,8 @@ use super::laps::{bodies, body, file, recording};
 use super::shapes::track;
 use super::simplify::{Commands, parts};
 use crate::random::Random;
-use raygeo::geo::algo::fitting;
 use raygeo::geo::types::{Command, Point3D};
+use raygeo_segment::geo::algo::fitting;
 use std::hint::black_box;
 
 /// Lines to these places, the first a Move.
@@ -37,7 +37,7 @@ fn read(body: &[u8]) -> Vec<Command> {
         .collect()
 }
 
-/// The given Rust's fit of a lap, as the body of a file.
+/// That Rust's fit of a lap, as the body of a file.
 fn fitted_lap(lap: &[Command], tolerance: f64) -> Vec<u8> {
     let fitted = fitting::fit_arcs(lap, tolerance);
     let mut bytes = Vec::with_capacity(73 * fitted.len());

@@ -1,18 +1,21 @@
-//! The functions of fitting.rs that take a course: `fit_arcs` and `optimize_path_from_array`.
-use super::bends;
+//! The functions of fitting.rs that take a course: `fit_arcs` and `optimize_path_from_array`. The first is compared with the
+//! Rust into which the distance to the segment is put (document 02, §4), the second with the given one.
 use super::bezier::steps_needed;
 use super::calls;
 use super::draw::Draw;
 use super::fit::{Judged, Stands, judged, outputs, room, same};
 use super::frame::{Call, Compared, Function};
 use super::lent::{Lent, patterns};
-use super::margins::Walk;
+use super::margins::{TO_THE_LINE, TO_THE_SEGMENT, Walk};
+use super::out_and_back;
 use super::simplify::{Commands, Rooms, behind, command_count, kinds, spoil, unmatch, written_commands};
 use super::table::{self, Row, refusal};
 use raygeo::geo::algo::fitting;
-use raygeo::geo::algo::simplify::simplify_polyline_3d;
 use raygeo::geo::shape::bezier::linearize_bezier_from_params;
 use raygeo::geo::types::{Command, Point3D};
+use raygeo_segment::geo::algo::fitting::fit_arcs;
+use raygeo_segment::geo::algo::simplify::simplify_polyline_3d;
+use raygeo_segment::segment;
 
 pub const FUNCTIONS: [Function; 2] = [draw_arcs, draw_optimized];
 
@@ -33,14 +36,18 @@ impl Way {
         Way { tolerance, made: Vec::new(), steps: Vec::new(), stands: Stands::UNTRIED, chain: Vec::new() }
     }
 
-    /// Fits the chain, thinned or as it is, and empties it.
+    /// Fits the chain and empties it: thinned, and then both by the segment, or as it is, by the endless line.
     fn flush(&mut self, thinned: bool) {
         let chain = std::mem::take(&mut self.chain);
         if chain.len() < 2 {
             return;
         }
-        let points = if thinned { simplify_polyline_3d(&chain, self.tolerance) } else { chain };
-        let walk = Walk::over(&points, self.tolerance, 0, points.len() - 1);
+        let (points, line) = if thinned {
+            (simplify_polyline_3d(&chain, self.tolerance), TO_THE_SEGMENT)
+        } else {
+            (chain, TO_THE_LINE)
+        };
+        let walk = Walk::over(&points, line, self.tolerance, 0, points.len() - 1);
         self.stands = self.stands.and(Stands { margins: walk.margins, missed: walk.missed, ..Stands::UNTRIED });
         self.made.extend(walk.commands);
         self.steps.extend(walk.steps);
@@ -180,7 +187,7 @@ pub fn arcs_of(c: &Commands, tolerance: f64, rooms: Rooms) -> Judged {
         },
         |before| {
             let data = c.given();
-            let answer = fitting::fit_arcs(&data, tolerance);
+            let answer = fit_arcs(&data, tolerance);
             stands = way_of_arcs(&data, tolerance).stands(&answer);
             written_commands(before, rooms, &answer)
         },
@@ -259,7 +266,7 @@ pub fn controls(draw: &mut Draw, from: &[f64], to: &[f64]) -> [f64; 6] {
 /// A course that can be spoilt, and a tolerance for it.
 pub fn course(draw: &mut Draw) -> (Commands, f64) {
     let count = command_count(draw);
-    let ends = bends::points(draw, count);
+    let ends = out_and_back::points(draw, count);
     let kinds = course_kinds(draw, count);
     let (mut numbers, mut last) = (Vec::with_capacity(9 * count), vec![0.0; 3]);
     for (kind, end) in kinds.iter().zip(ends.chunks(3)) {
@@ -278,7 +285,23 @@ pub fn course(draw: &mut Draw) -> (Commands, f64) {
     (c, tolerance)
 }
 
-/// A tolerance as a runner sets it, any, or one at which the most is about 800.
+/// How far the end of a command is from the segment between those of one before and one behind it: the tolerance at which it
+/// is in doubt whether that point is kept, and whether a Line passes.
+fn at_a_distance(draw: &mut Draw, c: &Commands) -> f64 {
+    draw.label("tolerance at a point's distance from a segment");
+    let end = |i: usize| (c.numbers[9 * i], c.numbers[9 * i + 1]);
+    let last = c.kinds.len() - 1;
+    let from = draw.below(last - 1);
+    let to = from + 2 + draw.below((last - from - 1).min(9));
+    let (p, a, b) = (end(from + 1 + draw.below(to - from - 1)), end(from), end(to));
+    let chord = (b.0 - a.0, b.1 - a.1);
+    let distance = segment::square(p, a, b, chord.0 * chord.0 + chord.1 * chord.1).sqrt();
+    // it is a NaN for points that are refused, and for ends that are one point
+    let tolerance = if distance.is_nan() { 1.0 } else { distance.clamp(0.001, 1_000.0) };
+    if draw.flag() { tolerance } else { draw.near(tolerance).clamp(0.001, 1_000.0) }
+}
+
+/// A tolerance as a runner sets it, at a point's distance, any, or one at which the most is about 800.
 pub fn tolerance_for(draw: &mut Draw, c: &Commands) -> f64 {
     let curves = c.kinds.iter().filter(|kind| **kind == 3).count();
     if curves > 0 && draw.one_in(3) {
@@ -289,6 +312,9 @@ pub fn tolerance_for(draw: &mut Draw, c: &Commands) -> f64 {
         let tolerance = 4.0 * length / rest.max(1.0);
         let tolerance = if tolerance.is_nan() { 1.0 } else { tolerance.clamp(0.001, 1_000.0) };
         return draw.near(tolerance).clamp(0.001, 1_000.0);
+    }
+    if c.kinds.len() > 2 && draw.one_in(4) {
+        return at_a_distance(draw, c);
     }
     if draw.flag() { draw.of(&[0.1, 0.5, 1.0, 2.0, 5.0]) } else { draw.tolerance() }
 }

@@ -10,7 +10,7 @@ use super::circle::{self, drawn, range, rows};
 use super::draw::Draw;
 use super::frame::{Call, Compared, Function};
 use super::lent::{Lent, patterns};
-use super::margins::{MARGINS, Margins, Walk};
+use super::margins::{MARGINS, Margins, TO_THE_LINE, Walk};
 use super::shapes::tolerance_for;
 use super::simplify::{Rooms, parts, rooms, triples, written_commands};
 use super::table::{self, refusal};
@@ -87,7 +87,7 @@ pub fn same(a: &[Command], b: &[Command]) -> bool {
 
 /// Where the Rust's fit of a range stands, whose answer is this.
 pub fn stands(points: &[Point3D], tolerance: f64, start: usize, end: usize, answer: &[Command]) -> Stands {
-    let walk = Walk::over(points, tolerance, start, end);
+    let walk = Walk::over(points, TO_THE_LINE, tolerance, start, end);
     if !same(&walk.commands, answer) {
         return Stands::ASTRAY;
     }
@@ -270,7 +270,7 @@ pub fn recursive_of(list: &[f64], tolerance: f64, range: [usize; 2], rooms: Room
         |before| {
             let commands = fitting::fit_points_recursive(&points, tolerance, start, end);
             where_it_stands = stands(&points, tolerance, start, end, &commands);
-            let walk = Walk::over(&points, tolerance, start, end);
+            let walk = Walk::over(&points, TO_THE_LINE, tolerance, start, end);
             let mut left = written_commands(before, rooms, &commands);
             left[4] = Lent::list_room(places, &walk.worst);
             left
@@ -295,7 +295,7 @@ pub fn primitives_of(list: &[f64], tolerance: f64, rooms: Rooms, places: usize) 
         |before| {
             let commands = fitting::fit_points_with_primitives(&points, tolerance);
             where_it_stands = stands(&points, tolerance, 0, last, &commands);
-            let walk = Walk::over(&points, tolerance, 0, last);
+            let walk = Walk::over(&points, TO_THE_LINE, tolerance, 0, last);
             let mut left = written_commands(before, rooms, &commands);
             left[4] = Lent::list_room(places, &walk.worst);
             // counted on the Rust's way, once for each range with a step that its recursion enters

@@ -1,9 +1,9 @@
 //! The lap file: its fit and the replacement of a lap.
 //!
 //! Document 01's file layer stands here once more, written apart from the proved code: reading, the rows of the table and
-//! the bytes of a file. The fit of a lap is the given Rust's `fit_arcs`. Where document 01's margins do not hold for a lap,
-//! that lap's answer is left open: there the proved function's commands are taken as they are, and all else is compared.
-use super::bends;
+//! the bytes of a file. The fit of a lap is the `fit_arcs` of the given Rust into which the distance to the segment is put
+//! (document 02, §4). Where document 01's margins do not hold for a lap, that lap's answer is left open: there the proved
+//! function's commands are taken as they are, and all else is compared.
 use super::calls::{rt_fit_file, rt_replace_lap};
 use super::course::{self, controls, way_of_arcs};
 use super::draw::Draw;
@@ -11,10 +11,11 @@ use super::fit::{Judged, Stands};
 use super::frame::{Argument, Call, Compared, Function, Outcome};
 use super::lent::{Lent, patterns};
 use super::margins::Margins;
+use super::out_and_back;
 use super::shapes::{noise, on_track};
 use super::simplify::{Commands, behind, parts, spoil, unmatch};
 use super::table::{self, Row, refusal};
-use raygeo::geo::algo::fitting;
+use raygeo_segment::geo::algo::fitting::fit_arcs;
 
 pub const FUNCTIONS: [Function; 3] = [draw_fit, draw_replacement, draw_again];
 
@@ -179,10 +180,10 @@ impl Replacement {
 /// A lap as it is to be written, and where its fit stands.
 type Made = (Vec<u8>, Stands);
 
-/// The given Rust's fit of a lap.
+/// That Rust's fit of a lap.
 fn fit_of_lap(lap: &Commands, tolerance: f64) -> Made {
     let data = lap.given();
-    let answer = fitting::fit_arcs(&data, tolerance);
+    let answer = fit_arcs(&data, tolerance);
     let stands = way_of_arcs(&data, tolerance).stands(&answer);
     let all: Vec<_> = answer.iter().map(parts).collect();
     let kinds = all.iter().map(|part| part.0).collect();
@@ -350,7 +351,7 @@ pub fn workout(draw: &mut Draw) -> Vec<Commands> {
 /// file of many laps would else seldom be accepted; bad ones are put in afterwards.
 pub fn lap(draw: &mut Draw, count: usize) -> Commands {
     let inside = |x: f64| if x.is_nan() { 0.0 } else { x.clamp(-1_000_000.0, 1_000_000.0) };
-    let ends: Vec<f64> = bends::points(draw, count).into_iter().map(inside).collect();
+    let ends: Vec<f64> = out_and_back::points(draw, count).into_iter().map(inside).collect();
     let (arcs, curves) = draw.of(&[(0, 0), (0, 0), (6, 0), (0, 6), (5, 5)]);
     let (mut c, mut last) = (Commands { kinds: Vec::new(), numbers: Vec::new() }, vec![0.0; 3]);
     for (i, end) in ends.chunks(3).enumerate() {
@@ -414,8 +415,11 @@ fn laps(draw: &mut Draw) -> Vec<Commands> {
     let kept = draw.labels();
     let laps = counts.into_iter().map(|count| lap(draw, count)).collect();
     // of the laps' own labels there would be as many as there are laps
-    draw.labels();
+    let turns_back = draw.labels().iter().any(|label| out_and_back::LABELS.contains(label));
     kept.into_iter().for_each(|label| draw.label(label));
+    if turns_back {
+        draw.label("file: a lap that turns back on itself");
+    }
     laps
 }
 
@@ -544,7 +548,7 @@ fn draw_fit(draw: &mut Draw) -> Compared {
     fit_of(&bytes, tolerance, room).labelled(draw)
 }
 
-/// The given Rust's fit of a file, where there is one; else the file as it is.
+/// That Rust's fit of a file, where there is one; else the file as it is.
 fn given_fit(recorded: &[u8], tolerance: f64) -> Vec<u8> {
     if refusal(&fit_rows(recorded, tolerance, usize::MAX)) != 0 {
         return recorded.to_vec();
@@ -610,8 +614,11 @@ fn new_lap(draw: &mut Draw) -> Commands {
     };
     let kept = draw.labels();
     let new = lap(draw, count);
-    draw.labels();
+    let turns_back = draw.labels().iter().any(|label| out_and_back::LABELS.contains(label));
     kept.into_iter().for_each(|label| draw.label(label));
+    if turns_back {
+        draw.label("new: a lap that turns back on itself");
+    }
     new
 }
 

@@ -60,6 +60,28 @@ fn corners() -> Vec<Commands> {
     ]
 }
 
+/// Courses at which the distance to the segment decides, each at its tolerance (document 02, §4).
+fn turning_back() -> Vec<(Commands, f64)> {
+    let shuttle = [0.0, 0.0, 100.0, 0.0, 50.0, 0.0];
+    let swapped: Vec<f64> = shuttle.chunks(2).flat_map(|p| [p[1], p[0]]).collect();
+    vec![
+        (course(&shuttle), 0.5),
+        (course(&swapped), 0.5),
+        (course(&shuttle.map(|x| -x)), 0.5),
+        // behind the start, and both
+        (course(&[0.0, 0.0, -30.0, 0.0, 50.0, 0.0]), 0.5),
+        (course(&[0.0, 0.0, -30.0, 0.0, 90.0, 0.0, 50.0, 0.0]), 0.5),
+        // at the tolerance from the end, and just above it
+        (course(&[0.0, 0.0, 50.5, 0.0, 50.0, 0.0]), 0.5),
+        (course(&[0.0, 0.0, 50.5f64.next_up(), 0.0, 50.0, 0.0]), 0.5),
+        // start + 1 × (end − start) is not the end: that keeps three points, the end itself two
+        (course(&[0.2, 0.0, 1.0, 0.0, 0.9, 0.0]), 0.1),
+        // the far turn is beside the line too, and the ends are one point
+        (course(&[0.0, 0.0, 60.0, 80.0, 30.0, 40.5, 24.0, 32.0]), 0.5),
+        (course(&[0.0, 0.0, 100.0, 0.0, 0.0, 0.0]), 0.5),
+    ]
+}
+
 /// The most commands, one more, the deepest recursion, and a bend of about 800 steps.
 fn edges(draw: &mut Draw) -> Vec<Judged> {
     let long = track(draw, 801, 4.0, 1.0);
@@ -85,7 +107,7 @@ fn edges(draw: &mut Draw) -> Vec<Judged> {
     calls
 }
 
-/// The corners, the edges, and then both functions in turn. A long one is drawn again.
+/// The corners, the courses that turn back, the edges, and then both functions in turn. A long one is drawn again.
 pub fn records(count: usize, seed: u64) -> Vec<Record> {
     let mut draw = Draw::new(Random::new(seed));
     let mut fixed = edges(&mut draw);
@@ -93,6 +115,9 @@ pub fn records(count: usize, seed: u64) -> Vec<Record> {
         for tolerance in [0.5, 0.45, 0.3, 0.25, 0.0] {
             fixed.extend(calls_of(&c, tolerance));
         }
+    }
+    for (c, tolerance) in turning_back() {
+        fixed.extend(calls_of(&c, tolerance));
     }
     let held = |one: &Judged| one.stands.is_none_or(|stands| stands.margins != Margins::Outside);
     filled(fixed.iter().filter(|one| held(one)).map(|one| record(&one.call)).collect(), count, |index| {

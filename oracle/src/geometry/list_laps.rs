@@ -2,7 +2,7 @@
 //! each lap.
 use super::draw::Draw;
 use super::fit::Judged;
-use super::laps::{FUNCTIONS, Replacement, fit_of, lap, recording, replacement_of, workout};
+use super::laps::{FUNCTIONS, Replacement, first_bytes, fit_of, lap, recording, replacement_of, workout};
 use super::list::{Record, filled, record};
 use super::margins::Margins;
 use super::simplify::Commands;
@@ -42,6 +42,29 @@ fn worked() -> Vec<Judged> {
         fit_of(&bend, 0.3, ROOM),
         fit_of(&bend, 0.25, ROOM),
     ]
+}
+
+/// Document 02, §4: "The worked (0,0),(100,0),(50,0)": as a lap, at 0.5, it keeps all its points and gives two Lines. As a file
+/// of one lap, and put in the place of another lap.
+fn shuttle() -> Vec<Judged> {
+    let (lap, other) = (lines(&[0.0, 0.0, 100.0, 0.0, 50.0, 0.0]), recording(&[lines(&[1.0, 2.0])]));
+    let recorded = recording(std::slice::from_ref(&lap));
+    let calls = vec![
+        fit_of(&recorded, 0.5, ROOM),
+        replacement_of(&Replacement {
+            recorded: other.clone(),
+            fitted: other,
+            lap: 1,
+            new: lap,
+            tolerance: 0.5,
+            room: ROOM,
+        }),
+    ];
+    for one in &calls {
+        let left = &one.call.given.lent;
+        assert_eq!(first_bytes(&left[0], left[1].words()[0] as usize), recorded, "two Lines, as recorded");
+    }
+    calls
 }
 
 /// A file of two laps with one bit changed in each byte of its head and table in turn, and in those of a fitted file.
@@ -116,11 +139,11 @@ fn edges(draw: &mut Draw) -> Vec<Judged> {
     ]
 }
 
-/// The worked cases, changed bits, replacements, the edges, and then drawn calls, half of them replacements. One that is long,
+/// The worked cases, the shuttle, changed bits, replacements, the edges, and then drawn calls, half of them replacements. One that is long,
 /// or whose answer is not owed, is drawn again.
 pub fn records(count: usize, seed: u64) -> Vec<Record> {
     let mut draw = Draw::new(Random::new(seed));
-    let fixed = [worked(), flipped(), replacements(&mut draw), edges(&mut draw)];
+    let fixed = [worked(), shuttle(), flipped(), replacements(&mut draw), edges(&mut draw)];
     let inside = |call: &&Judged| call.stands.is_none_or(|stands| stands.margins != Margins::Outside);
     let fixed: Vec<Record> = fixed.iter().flatten().filter(inside).map(|judged| record(&judged.call)).collect();
     draw.labels();

@@ -1,5 +1,5 @@
-//! The program `lapfit`: what it prints, compared with what the given Rust makes of the same input, and its time beside
-//! that of a Rust program that does the same.
+//! The program `lapfit`: what it prints, compared with what the given Rust makes of the same input once the distance to the
+//! segment is put in (document 02, §4), and its time beside that of a Rust program that does the same.
 use super::bench::{ROUNDS, head, print_times};
 use super::bench_laps::full_files;
 use super::course::way_of_arcs;
@@ -12,9 +12,9 @@ use super::margins::Margins;
 use super::simplify::parts;
 use super::table::refusal;
 use crate::random::Random;
-use raygeo::geo::algo::{fitting, simplify};
 use raygeo::geo::shape::bezier::linearize_bezier_from_params;
 use raygeo::geo::types::{Command, Point3D};
+use raygeo_segment::geo::algo::{fitting, simplify};
 use std::fmt::Write as _;
 use std::hint::black_box;
 use std::io::Write as _;
@@ -132,7 +132,7 @@ fn chains_of(lap: &[Command], tolerance: f64) -> Vec<Vec<Point3D>> {
 }
 
 /// Document 02, section 8: "the number of kept points less one, added over all chains of two or more points". It is
-/// worked out from the chains that the given Rust thins, and knows nothing of the rows.
+/// worked out from the chains that the Rust thins, and knows nothing of the rows.
 fn steps_kept(lap: &[Command], tolerance: f64) -> usize {
     let chains = chains_of(lap, tolerance);
     let long = chains.iter().filter(|chain| chain.len() > 1);

@@ -1,7 +1,8 @@
 //! Document 01's margins: where they hold in each arc trial that the given Rust makes, a fit equals the Rust's.
 //!
 //! The walk goes as the Rust's recursion does, over the Rust's own functions, and measures each arc trial on its way. It
-//! makes commands too; as long as those are the Rust's, it made the Rust's trials.
+//! makes commands too; as long as those are the Rust's, it made the Rust's trials. Its Line test is that of the Rust whose
+//! way it goes: the given one, or, for courses, the one with the distance to the segment put in (document 02, §4).
 use super::worst::{bound, worst_step};
 use raygeo::geo::algo::fitting;
 use raygeo::geo::shape::arc::is_arc_clockwise;
@@ -49,8 +50,18 @@ pub const MARGINS: [&str; 5] = [
     "not held: a cross off zero",
 ];
 
+/// The deviation of a range's points from the Line through its ends, and the first farthest of them.
+pub type LineTest = fn(&[Point3D], usize, usize) -> (f64, usize);
+
+/// That of the given Rust, from the endless line.
+pub const TO_THE_LINE: LineTest = fitting::get_polyline_line_deviation;
+
+/// That of the Rust with the distance to the segment put in.
+pub const TO_THE_SEGMENT: LineTest = raygeo_segment::geo::algo::fitting::get_polyline_line_deviation;
+
 pub struct Walk<'a> {
     points: &'a [Point3D],
+    line: LineTest,
     tolerance: f64,
     pub commands: Vec<Command>,
     /// How many steps of the points each command covers.
@@ -136,9 +147,10 @@ fn trial(points: &[Point3D], centre: Point, radius: f64, tolerance: f64) -> Tria
 
 impl<'a> Walk<'a> {
     /// The walk of the range from start to end, which lie inside the points.
-    pub fn over(points: &'a [Point3D], tolerance: f64, start: usize, end: usize) -> Walk<'a> {
+    pub fn over(points: &'a [Point3D], line: LineTest, tolerance: f64, start: usize, end: usize) -> Walk<'a> {
         let mut walk = Walk {
             points,
+            line,
             tolerance,
             commands: Vec::new(),
             steps: Vec::new(),
@@ -219,7 +231,7 @@ impl<'a> Walk<'a> {
             return;
         }
         self.ranges += 1;
-        let (deviation, split) = fitting::get_polyline_line_deviation(self.points, start, end);
+        let (deviation, split) = (self.line)(self.points, start, end);
         if deviation < self.tolerance {
             self.commands.push(Command::Line { end: self.points[end] });
             self.steps.push(end - start);

@@ -38,6 +38,7 @@ pub mod list_svg;
 pub mod listing;
 pub mod live;
 pub mod margins;
+pub mod out_and_back;
 pub mod shapes;
 pub mod simplify;
 pub mod svg;
