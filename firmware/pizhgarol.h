@@ -85,14 +85,16 @@ static inline size_t pz_file_bytes(size_t laps, size_t commands)
     return 8 + 8 * laps + PZ_COMMAND_BYTES * commands;
 }
 
-/* Fits each lap of a recorded file; *count is the fitted file's bytes. */
+/* Fits each lap of a recorded file; *count is the fitted file's bytes. This call, the replacement of a lap and the fit of a
+   course measure from the segment between two points: the far turn of a run out and back stays. Every other call measures from
+   the endless line through them. */
 uint32_t rt_fit_file(
     const uint8_t *recorded, size_t recorded_bytes,
     double tolerance,
     uint8_t *out, size_t out_bytes, size_t *count);
 
 /* Replaces lap `lap`, from 1: `out` gets the fit of the new commands, and of the fitted file every other lap's body as it
-   stands. The recorded file is the one that was fitted. */
+   stands. The recorded file is the one that was fitted. Distances are to the segment, as in rt_fit_file. */
 uint32_t rt_replace_lap(
     const uint8_t *recorded, size_t recorded_bytes,
     const uint8_t *fitted, size_t fitted_bytes,
@@ -111,7 +113,8 @@ uint32_t rt_fit_points_with_primitives(
     uint8_t *kinds, size_t kinds_length, double *nums, size_t nums_length, uint32_t *worst, size_t worst_length,
     size_t *count, size_t *ranges);
 
-/* Fits a course: a list of commands, which needs no Move; *count is the commands. Arcs stay as they are. */
+/* Fits a course: a list of commands, which needs no Move; *count is the commands. Arcs stay as they are. Distances are to the
+   segment, as in rt_fit_file. */
 uint32_t rt_fit_arcs(
     const uint8_t *kinds, size_t kinds_length, const double *nums, size_t nums_length,
     double tolerance,

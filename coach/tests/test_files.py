@@ -189,8 +189,8 @@ class FullDisk(Case):
         with tempfile.TemporaryDirectory() as other:
             recorded, fitted = Path(other) / "r.laps", Path(other) / "f.laps"
             coach("make", WORKOUT, recorded)
-            coach("fit", 1, recorded, fitted)
-            self.told(4, "new.laps: No space left", "replace", 3, COACH / "lap3.txt", 1, WORKOUT, fitted, self.folder / "new.txt",
+            coach("fit", 0.5, recorded, fitted)
+            self.told(4, "new.laps: No space left", "replace", 3, COACH / "lap3.txt", 0.5, WORKOUT, fitted, self.folder / "new.txt",
                       self.folder / "new.laps")
         self.assertEqual(self.names(), [])
 

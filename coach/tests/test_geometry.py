@@ -65,11 +65,18 @@ class Farthest(Case):
             far.append(max(min(math.dist(q.place[:2], p[:2]) for p in way) for q in lap))
         self.assertIn(f"the farthest position is {max(far):.2f} m", out)
         self.assertGreater(max(far), 1.0)
-        self.assertIn("480 positions in 6 laps, 61 pieces: 35 straights and 26 bends", out)
+        self.assertIn("480 positions in 6 laps, 54 pieces: 30 straights and 24 bends", out)
 
     def test_the_far_turn_of_a_shuttle(self):
         places = [(0.0, 0.0, 0.0), (100.0, 0.0, 0.0), (50.0, 0.0, 0.0)]
         self.assertEqual(farthest(places, [Stroke(places[0], places[2])]), (50.0, 1))
+
+    def test_the_fit_of_a_shuttle_keeps_its_far_turn(self):
+        workout = self.put("w.txt", "1 0 0 0 0\n1 20 100 0 0\n1 30 50 0 0\n")
+        coach("make", workout, self.folder / "r")
+        code, out, _ = coach("fit", 0.5, self.folder / "r", self.folder / "f")
+        self.assertEqual(code, 0)
+        self.assertIn("3 positions in 1 lap, 2 pieces: 2 straights and 0 bends; the farthest position is 0.00 m", out)
 
 
 class Noise(unittest.TestCase):

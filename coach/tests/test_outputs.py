@@ -95,8 +95,8 @@ class Strides(Case):
         counts = self.put("c.txt", (COACH / "strides.txt").read_text().replace("5 straight1 ", "5 straight1 1") + "6 bend3 9\n")
         out = coach("strides", WORKOUT, 1, counts)[1]
         marked = [line.split()[:3] + [line.split()[-1]] for line in out.splitlines() if line.endswith(("fit?", "count?"))]
-        self.assertEqual(marked, [["3", "bend", "2", "fit?"], ["5", "straight", "1", "count?"], ["5", "whole", mock.ANY, "count?"],
-                                  ["6", "bend", "3", "count?"]], out)
+        self.assertEqual(marked, [["1", "bend", "2", "fit?"], ["2", "straight", "1", "fit?"], ["3", "bend", "2", "fit?"],
+                                  ["5", "straight", "1", "count?"], ["5", "whole", mock.ANY, "count?"], ["6", "bend", "3", "count?"]], out)
 
     def test_the_sheet(self):
         code, out, _ = coach("sheet")

@@ -7,7 +7,7 @@ geometry simplify COUNT SEED | geometry grid-simplify | geometry bench-simplify
 geometry fit COUNT SEED | geometry recordings COUNT SEED | geometry grid-fit | geometry bench-fit | geometry zigzag-in KIB
 geometry flatten COUNT SEED | geometry bench-flatten
 geometry fewest COUNT SEED | geometry bench-fewest
-geometry course COUNT SEED | geometry laps COUNT SEED | geometry bench-laps
+geometry course COUNT SEED | geometry laps COUNT SEED | geometry grid-course | geometry bench-laps
 geometry lapfit COUNT SEED | geometry bench-lapfit
 geometry live COUNT SEED | geometry bench-live
 geometry svg COUNT SEED | geometry svg-numbers END | geometry bench-svg
@@ -18,7 +18,7 @@ geometry list COUNT SEED";
 fn run(words: &[String]) -> Option<bool> {
     use oracle::geometry::{
         arc, bench_bezier, bench_fewest, bench_fit, bench_flatten, bench_laps, bench_live, bench_simplify, bezier, course, fewest, fit,
-        flatten, frame, grid, grid_fit, grid_simplify, laps, list, listing, live, simplify, svg,
+        flatten, frame, grid, grid_course, grid_fit, grid_simplify, laps, list, listing, live, simplify, svg,
     };
     use std::io::{BufWriter, stdout};
 
@@ -43,6 +43,7 @@ fn run(words: &[String]) -> Option<bool> {
         ("bench-lapfit", []) => Some(listing::bench()),
         ("recordings", [count, seed]) => Some(frame::run(&[fit::recorded], *count, *seed)),
         ("grid", []) => Some(grid::run()),
+        ("grid-course", []) => Some(grid_course::run()),
         ("grid-fit", []) => Some(grid_fit::run()),
         ("grid-simplify", []) => Some(grid_simplify::run()),
         ("bench-bezier", []) => Some(bench_bezier::run()),

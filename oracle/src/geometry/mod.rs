@@ -22,6 +22,7 @@ pub mod fit;
 pub mod flatten;
 pub mod frame;
 pub mod grid;
+pub mod grid_course;
 pub mod grid_fit;
 pub mod grid_simplify;
 pub mod laps;
