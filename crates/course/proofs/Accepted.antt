@@ -14,7 +14,7 @@ use Rattle.geo.specs.declared.types.Command.the-variants.{Move}
 use Rattle.geo.specs.declared.types.Answer.the-variants.{Written}
 use Rattle.geo.specs.Outcome.{Row, refusal}
 use Rattle.geo.specs.Commands.{WroteCommands}
-use Rattle.geo.specs.Lent.{flat, numbersOf}
+use Rattle.geo.specs.Lent.{flat, origin, numbersOf}
 use Rattle.geo.proofs.Rows.{row-passes, row-passed, refusal-front}
 use Rattle.geo.proofs.Tolerance.{tolerance-positive}
 use Rattle.geo.proofs.Outcomes.{commands-given, nine}
@@ -26,28 +26,28 @@ use Rattle.fitting.specs.Written.{FitPlaced, commandsOf, chainNoted}
 use Rattle.fitting.proofs.Writing.{commands-length}
 use Rattle.fitting.proofs.Chain.{chain-noted}
 use Rattle.course.specs.Parts.{closed, partsFrom, partFit, fitOf}
-use Rattle.course.specs.Course.{joined, courseParts, courseFit, courseMost, lentCourse, inputRows, roomRows, arcsRows, arcsCall}
-use Rattle.course.specs.Walks.{cap, courseNoted}
+use Rattle.course.specs.Course.{joined, partsOn, fitOn, mostOn, courseFit, courseMost, lentCourse, inputRows, roomRows, arcsRows, arcsCall}
+use Rattle.course.specs.Walks.{cap, notedOn}
 use Rattle.course.proofs.Count.{cap-passed, cap-over}
 use Rattle.course.proofs.Parts.{noted-few, parts-commands}
 use Rattle.course.proofs.Stepping.{chain-few}
 
 -- what is noted beside the commands of a course does not change them
-pub course-commands : (r : Rule) (cs : List Command) → commandsOf (courseNoted r cs) ≡ courseFit r cs
-unfolding courseNoted courseFit
-course-commands r cs = parts-commands (chainNoted r) (chainFit r) (chain-noted r) (courseParts (r .tolerance) cs)
+pub course-commands : (r : Rule) (p : Point3D) (cs : List Command) → commandsOf (notedOn r p cs) ≡ fitOn r p cs
+unfolding notedOn fitOn
+course-commands r p cs = parts-commands (chainNoted r) (chainFit r) (chain-noted r) (partsOn (r .tolerance) p cs)
 
 -- what is written of a course is at most its most
-noted-course-few : (r : Rule) → (+0 ≺ r .tolerance) ≡ true → (cs : List Command) → length (courseNoted r cs) ≤ courseMost (r .tolerance) cs
-unfolding courseNoted courseMost
-noted-course-few r pos cs = noted-few (chainNoted r) (chain-few r pos) (courseParts (r .tolerance) cs)
+noted-course-few : (r : Rule) → (+0 ≺ r .tolerance) ≡ true → (p : Point3D) (cs : List Command) → length (notedOn r p cs) ≤ mostOn (r .tolerance) p cs
+unfolding notedOn mostOn
+noted-course-few r pos p cs = noted-few (chainNoted r) (chain-few r pos) (partsOn (r .tolerance) p cs)
 
-pub course-few : (r : Rule) → (+0 ≺ r .tolerance) ≡ true → (cs : List Command) → length (courseFit r cs) ≤ courseMost (r .tolerance) cs
-course-few r pos cs = let a = noted-course-few r pos cs in let l = commands-length (courseNoted r cs) in let e = ap length (course-commands r cs) in omega arith
+pub course-few : (r : Rule) → (+0 ≺ r .tolerance) ≡ true → (p : Point3D) (cs : List Command) → length (fitOn r p cs) ≤ mostOn (r .tolerance) p cs
+course-few r pos p cs = let a = noted-course-few r pos p cs in let l = commands-length (notedOn r p cs) in let e = ap length (course-commands r p cs) in omega arith
 
 -- of a course that starts with a Move something is written
 pub course-some : (r : Rule) (p : Point3D) (cs : List Command) → 1 ≤ length (courseFit r (Move p ∷ cs))
-unfolding courseFit fitOf courseParts partsFrom joined closed flat partFit
+unfolding fitOn fitOf partsOn partsFrom joined closed flat partFit
 course-some r p cs = some (chainFit r _) _
   where
     some : (xs ys : List Command) → 1 ≤ length (xs ++ (Move p ∷ ys))
@@ -139,7 +139,7 @@ unfolding arcsCall
 wrote-arcs ks ns tol oks oks′ ons ons′ r k e z p =
     let xs = courseFit (lapsRule tol) (lentCourse ks ns) in
     let a = arcs-accepted ks ns tol (length oks) (length ons) r e z in
-    let l = course-few (lapsRule tol) (a .above-zero) (lentCourse ks ns) in
+    let l = course-few (lapsRule tol) (a .above-zero) origin (lentCourse ks ns) in
     let b = a .room-kinds in
     let c = a .room-numbers in
     commands-given _ r e xs oks oks′ ons ons′ k z (p .count) (omega arith) (omega (arith, flat-length numbersOf 9 nine xs)) (p .kinds) (p .numbers)

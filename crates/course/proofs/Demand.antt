@@ -8,6 +8,7 @@ use lib.ListN.{length}
 use lib.Ieee.{Float}
 use Rattle.floats.specs.Ops.{_⊗_, _≺_, +0}
 use Rattle.floats.proofs.Unsigned.{square-not-negative}
+use Rattle.geo.specs.declared.types.Point3D.{Point3D}
 use Rattle.geo.specs.declared.types.Command.{Command}
 use Rattle.geo.specs.Lent.{pointAt, flat}
 use Rattle.simplify.specs.Thin.{thinnedPoints}
@@ -19,7 +20,7 @@ use Rattle.fitting.specs.Commands.{chainFit}
 use Rattle.fitting.proofs.Pieces.{range-fitted}
 use Rattle.fitting.proofs.Chain.{kept-some, no-chain}
 use Rattle.course.specs.Parts.{Part, chain, kept, partFit, fitOf}
-use Rattle.course.specs.Course.{courseParts, courseFit}
+use Rattle.course.specs.Course.{partsOn, fitOn}
 use Rattle.course.specs.Demand.{thinnedAt, stepsOf, ChainFitted, PartsGive}
 
 -- Each chain of two or more points is as demand 3 says, at every tolerance above zero.
@@ -59,7 +60,7 @@ parts-give r pos (chain s ∷ ps) =
     }
 parts-give r pos (kept c ∷ ps) = record { front = c ∷ []; rest = flat (partFit (chainFit r)) ps; joined = refl; here = refl; there = parts-give r pos ps }
 
--- and so does a course, whatever its commands.
-pub course-gives : (r : Rule) → (+0 ≺ r .tolerance) ≡ true → (cs : List Command) → PartsGive r (courseParts (r .tolerance) cs) (courseFit r cs)
-unfolding courseFit
-course-gives r pos cs = parts-give r pos (courseParts (r .tolerance) cs)
+-- and so does a course, whatever its start and its commands.
+pub course-gives : (r : Rule) → (+0 ≺ r .tolerance) ≡ true → (p : Point3D) (cs : List Command) → PartsGive r (partsOn (r .tolerance) p cs) (fitOn r p cs)
+unfolding fitOn
+course-gives r pos p cs = parts-give r pos (partsOn (r .tolerance) p cs)

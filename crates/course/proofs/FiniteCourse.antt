@@ -31,7 +31,7 @@ use Rattle.fitting.proofs.Own.{unless-given}
 use Rattle.fitting.proofs.Accepted.{fit-accepted}
 use Rattle.course.specs.Parts.{Join, adds, ends, closed, carried, partsFrom, partFit, partMost, mostOf, fitOf}
 use Rattle.floats.specs.Limits.{quarter}
-use Rattle.course.specs.Course.{joined, courseParts, courseFit, courseMost, lentCourse, inputRows, arcsRows, arcsCall, linesJoined, optimizedChain, optimized, optimizeCall}
+use Rattle.course.specs.Course.{joined, partsOn, fitOn, mostOn, courseFit, lentCourse, inputRows, arcsRows, arcsCall, linesJoined, optimizedChain, optimized, optimizeCall}
 use Rattle.course.specs.Walks.{pathFlush, joinsBeziers, joinedBy, partsBy}
 use Rattle.course.specs.Finite.{AllFinite, FiniteNumbers, CommandsIn}
 use Rattle.course.proofs.Parts.{chain-counts}
@@ -121,12 +121,12 @@ course-near tol last (Bezier p c d) L h =
 origin-placed : (k : ℕ) → Placed k origin
 origin-placed k = record { in-x = zero-below k; in-y = zero-below k; in-z = zero-below k }
 
--- Every number that a course's fit writes is finite, at any tolerance, for commands of the domain and a most of at most 800.
-pub course-finite : (r : Rule) (cs : List Command) → CommandsIn cs → courseMost (r .tolerance) cs ≤ 800 → FiniteNumbers (courseFit r cs)
-unfolding courseFit courseMost courseParts
-course-finite r cs h m =
-    parts-finite (joined (r .tolerance)) (chainFit r) (course-near (r .tolerance)) (λ s S l. chain-finite r s S l) origin (triple origin) cs
-    (origin-placed 20) (triple-each (origin-placed 27)) h m
+-- Every number that a course's fit writes is finite, at any tolerance, for a start and commands of the domain and a most of at most 800.
+pub course-finite : (r : Rule) (p : Point3D) (cs : List Command) → Placed 20 p → CommandsIn cs → mostOn (r .tolerance) p cs ≤ 800 → FiniteNumbers (fitOn r p cs)
+unfolding fitOn mostOn partsOn
+course-finite r p cs P h m =
+    parts-finite (joined (r .tolerance)) (chainFit r) (course-near (r .tolerance)) (λ s S l. chain-finite r s S l) p (triple p) cs
+    P (triple-each (placed-more 27 (omega arith) P)) h m
 
 -- ---- what the checks of a public call leave
 each-from : (s : List Float) → ((j : ℕ) → j < length s → coordinate (getD s j nan) ≡ true) → EachBelow 27 s
@@ -173,7 +173,7 @@ arcs-finite ks ns tol kinds numbers xs e =
     let c = row-passed 1 _ _ (b .1) in
     let d = row-passed 3 _ _ (c .1) in
     let f = row-passed 4 _ _ (d .1) in
-    subst FiniteNumbers (g .1) (course-finite (lapsRule tol) (lentCourse ks ns) (lent-in ks ns (not-false _ (f .0))) (acc .not-many))
+    subst FiniteNumbers (g .1) (course-finite (lapsRule tol) origin (lentCourse ks ns) (origin-placed 20) (lent-in ks ns (not-false _ (f .0))) (acc .not-many))
 
 -- ---- optimize_path_from_array
 lines-finite : (k : ℕ) (ps : List Point3D) → EachBelow k (flat triple ps) → FiniteNumbers (map Line ps)

@@ -27,23 +27,23 @@ use Rattle.fitting.proofs.Writing.{commands-length, commands-placed}
 use Rattle.course.specs.declared.course.Flush.{Flush}
 use Rattle.course.specs.declared.course.Flush.the-variants.{Fitted, AsItStands, Lines}
 use Rattle.course.specs.Parts.{mostOf, partsFrom}
-use Rattle.course.specs.Course.{courseParts, courseMost, lentCourse, linesJoined, optimizedChain, optimized, optimizeCall}
-use Rattle.course.specs.Walks.{weightOf, weightsFrom, pathFlush, joinsBeziers, joinedBy, flushedBy, partsBy, fitBy, courseNoted}
+use Rattle.course.specs.Course.{partsOn, mostOn, lentCourse, linesJoined, optimizedChain, optimized, optimizeCall}
+use Rattle.course.specs.Walks.{weightOf, weightsFrom, pathFlush, joinsBeziers, joinedBy, flushedBy, partsBy, fitBy, notedOn}
 use Rattle.course.proofs.Parts.{Whole, most-by-weights, noted-few, parts-commands}
 use Rattle.course.proofs.Chains.{flushed-few, path-commands}
 use borrow.Author.Tests.{not-false}
 
 -- ---- the course of `fit_arcs`
-pub course-fit : (r : Rule) (cs : List Command) → fitBy Fitted r cs ≡ courseNoted r cs
-unfolding fitBy partsBy courseNoted courseParts joinedBy joinsBeziers flushedBy
-course-fit r cs = refl
+pub course-fit : (r : Rule) (p : Point3D) (cs : List Command) → fitBy Fitted r p cs ≡ notedOn r p cs
+unfolding fitBy partsBy notedOn partsOn joinedBy joinsBeziers flushedBy
+course-fit r p cs = refl
 
-pub course-most : (tol : Float) (cs : List Command) → mostOf (partsBy Fitted tol cs) ≡ courseMost tol cs
-unfolding partsBy courseMost courseParts joinedBy joinsBeziers
-course-most tol cs = refl
+pub course-most : (tol : Float) (p : Point3D) (cs : List Command) → mostOf (partsBy Fitted tol p cs) ≡ mostOn tol p cs
+unfolding partsBy mostOn partsOn joinedBy joinsBeziers
+course-most tol p cs = refl
 
 -- ---- that of `optimize_path_from_array`
-pub path-fit : (arcs : Bool) (tol : Float) (cs : List Command) → commandsOf (fitBy (pathFlush arcs) (pointsRule tol) cs) ≡ optimized arcs tol cs
+pub path-fit : (arcs : Bool) (tol : Float) (cs : List Command) → commandsOf (fitBy (pathFlush arcs) (pointsRule tol) origin cs) ≡ optimized arcs tol cs
 unfolding fitBy partsBy optimized joinedBy joinsBeziers pathFlush
 path-fit true tol cs = parts-commands (flushedBy AsItStands (pointsRule tol)) (optimizedChain true tol) (path-commands true tol) (partsFrom linesJoined origin (triple origin) cs)
 path-fit false tol cs = parts-commands (flushedBy Lines (pointsRule tol)) (optimizedChain false tol) (path-commands false tol) (partsFrom linesJoined origin (triple origin) cs)
@@ -71,7 +71,7 @@ weights-count last (c ∷ cs) = let a = one-each last c in let b = weights-count
 lines-most : (cs : List Command) → mostOf (partsFrom linesJoined origin (triple origin) cs) ≡ length cs
 lines-most cs = let e = most-by-weights linesJoined whole-lines origin (triple origin) 1 refl (omega arith) cs in let w = weights-count origin cs in omega arith
 
-pub path-most : (arcs : Bool) (tol : Float) (cs : List Command) → mostOf (partsBy (pathFlush arcs) tol cs) ≡ length cs
+pub path-most : (arcs : Bool) (tol : Float) (cs : List Command) → mostOf (partsBy (pathFlush arcs) tol origin cs) ≡ length cs
 unfolding pathFlush partsBy joinedBy joinsBeziers
 path-most true tol cs = lines-most cs
 path-most false tol cs = lines-most cs
@@ -82,9 +82,9 @@ course-length ks ns zero i = refl
 course-length ks ns (suc n) i = ap suc (course-length ks ns n (i + 1))
 
 -- what is written is at most the most
-path-few : (arcs : Bool) (tol : Float) → (+0 ≺ tol) ≡ true → (cs : List Command) → length (fitBy (pathFlush arcs) (pointsRule tol) cs) ≤ mostOf (partsBy (pathFlush arcs) tol cs)
+path-few : (arcs : Bool) (tol : Float) → (+0 ≺ tol) ≡ true → (cs : List Command) → length (fitBy (pathFlush arcs) (pointsRule tol) origin cs) ≤ mostOf (partsBy (pathFlush arcs) tol origin cs)
 unfolding fitBy
-path-few arcs tol pos cs = noted-few (flushedBy (pathFlush arcs) (pointsRule tol)) (flushed-few (pathFlush arcs) (pointsRule tol) pos) (partsBy (pathFlush arcs) tol cs)
+path-few arcs tol pos cs = noted-few (flushedBy (pathFlush arcs) (pointsRule tol)) (flushed-few (pathFlush arcs) (pointsRule tol) pos) (partsBy (pathFlush arcs) tol origin cs)
 
 -- the tolerance of a path that is accepted
 path-positive : (ks : List ℕ) (ns : List Float) (tol : Float) (kinds numbers r : ℕ) → r ≡ refusal (commandRows ks ns tol kinds numbers) → r ≡ 0 → (+0 ≺ tol) ≡ true
@@ -100,26 +100,26 @@ path-positive ks ns tol kinds numbers r e z =
 -- what an accepted path knows, answers and leaves
 module _ (ks : List ℕ) (ns : List Float) (tol : Float) (arcs : Bool) (oks : List ℕ) (ons : List Float) (r : ℕ)
     (e : r ≡ refusal (commandRows ks ns tol (length oks) (length ons))) (z : r ≡ 0) where
-  most-is : mostOf (partsBy (pathFlush arcs) tol (lentCourse ks ns)) ≡ length ks
+  most-is : mostOf (partsBy (pathFlush arcs) tol origin (lentCourse ks ns)) ≡ length ks
   most-is = path-most arcs tol (lentCourse ks ns) ∙ course-length ks ns (length ks) 0
 
-  pub path-accepted : ((+0 ≺ tol) ≡ true) × ((9 * length ks ≤ length ns) × (mostOf (partsBy (pathFlush arcs) tol (lentCourse ks ns)) ≤ 800)
-      × (mostOf (partsBy (pathFlush arcs) tol (lentCourse ks ns)) ≤ length oks) × (9 * mostOf (partsBy (pathFlush arcs) tol (lentCourse ks ns)) ≤ length ons))
+  pub path-accepted : ((+0 ≺ tol) ≡ true) × ((9 * length ks ≤ length ns) × (mostOf (partsBy (pathFlush arcs) tol origin (lentCourse ks ns)) ≤ 800)
+      × (mostOf (partsBy (pathFlush arcs) tol origin (lentCourse ks ns)) ≤ length oks) × (9 * mostOf (partsBy (pathFlush arcs) tol origin (lentCourse ks ns)) ≤ length ons))
   path-accepted =
       let a = commands-accepted ks ns tol (length oks) (length ons) r e z in
       let m = most-is in
       (path-positive ks ns tol (length oks) (length ons) r e z, (omega (arith, a), omega (arith, a, m), omega (arith, a, m), omega (arith, a, m)))
 
-  pub wrote-path : (f : Flush) → f ≡ pathFlush arcs → (oks′ : List ℕ) (ons′ : List Float) (oss oss′ : List ℕ) (k : ℕ) → NotedPlaced (fitBy f (pointsRule tol) (lentCourse ks ns)) 0 k oks oks′ ons ons′ oss oss′
+  pub wrote-path : (f : Flush) → f ≡ pathFlush arcs → (oks′ : List ℕ) (ons′ : List Float) (oss oss′ : List ℕ) (k : ℕ) → NotedPlaced (fitBy f (pointsRule tol) origin (lentCourse ks ns)) 0 k oks oks′ ons ons′ oss oss′
       → WroteCommands (optimizeCall ks ns tol arcs (length oks) (length ons)) oks oks′ ons ons′ (Written k)
   unfolding optimizeCall
   wrote-path f is oks′ ons′ oss oss′ k q =
-      let fitted = fitBy (pathFlush arcs) (pointsRule tol) (lentCourse ks ns) in
+      let fitted = fitBy (pathFlush arcs) (pointsRule tol) origin (lentCourse ks ns) in
       let d = path-fit arcs tol (lentCourse ks ns) in
-      let p = commands-placed _ _ 0 k oks oks′ ons ons′ oss oss′ (ap (λ (h : Flush). commandsOf (fitBy h (pointsRule tol) (lentCourse ks ns))) is ∙ d) q in
+      let p = commands-placed _ _ 0 k oks oks′ ons ons′ oss oss′ (ap (λ (h : Flush). commandsOf (fitBy h (pointsRule tol) origin (lentCourse ks ns))) is ∙ d) q in
       let xs = optimized arcs tol (lentCourse ks ns) in
       let a = path-accepted in
-      let l : length fitted ≤ mostOf (partsBy (pathFlush arcs) tol (lentCourse ks ns)) = path-few arcs tol (a .0) (lentCourse ks ns) in
+      let l : length fitted ≤ mostOf (partsBy (pathFlush arcs) tol origin (lentCourse ks ns)) = path-few arcs tol (a .0) (lentCourse ks ns) in
       let m = commands-length fitted in
       let s = ap length d in
       commands-given _ r e xs oks oks′ ons ons′ k z (p .count) (omega (arith, a .1)) (omega (arith, a .1, flat-length numbersOf 9 nine xs)) (p .kinds) (p .numbers)

@@ -11,7 +11,7 @@ use Rattle.floats.specs.Ops.{_⊗_, _⊘_}
 use Rattle.geo.specs.declared.types.Point3D.{Point3D}
 use Rattle.geo.specs.declared.types.Command.{Command}
 use Rattle.geo.specs.declared.types.Command.the-variants.{Move, Line, Arc, Bezier}
-use Rattle.geo.specs.Lent.{triple, flat, origin, endOf, commandAt, commandsFrom}
+use Rattle.geo.specs.Lent.{triple, flat, endOf, commandAt, commandsFrom}
 use Rattle.geo.proofs.Flat.{flat-length}
 use Rattle.bezier.specs.Linearize.{Step, stepEnd, steps, polygonLength, stepsNeeded, stepCount, paramSteps, firstThird, lastThird}
 use Rattle.bezier.specs.Calls.{mostSteps}
@@ -19,7 +19,7 @@ use Rattle.bezier.proofs.Rows.{param-length}
 use Rattle.bezier.proofs.Count.{max-above}
 use Rattle.course.specs.Parts.{adds}
 use Rattle.floats.specs.Limits.{quarter}
-use Rattle.course.specs.Course.{joined, courseParts, courseMost}
+use Rattle.course.specs.Course.{joined, partsOn, mostOn}
 use Rattle.course.specs.Walks.{cap, weightOf, weightsFrom}
 use Rattle.course.proofs.Count.{cap-few, cap-many, cap-next, many-steps}
 use Rattle.course.proofs.Parts.{Whole, most-by-weights}
@@ -63,9 +63,9 @@ whole-joined tol last (Arc p o n) = tt
 whole-joined tol last (Bezier p c d) = let l = ends-length (paramSteps p c d last (tol ⊗ quarter)) in omega arith
 
 -- the most of a course is what its commands count as
-pub most-of-commands : (tol : Float) (cs : List Command) → courseMost tol cs ≡ weightsFrom (joined tol) origin cs
-unfolding courseMost courseParts
-most-of-commands tol cs = let e = most-by-weights (joined tol) (whole-joined tol) origin (triple origin) 1 refl (omega arith) cs in omega arith
+pub most-of-commands : (tol : Float) (p : Point3D) (cs : List Command) → mostOn tol p cs ≡ weightsFrom (joined tol) p cs
+unfolding mostOn partsOn
+most-of-commands tol p cs = let e = most-by-weights (joined tol) (whole-joined tol) p (triple p) 1 refl (omega arith) cs in omega arith
 
 -- ---- counted command by command: m before the command c at index i, m′ behind it
 module _ (tol : Float) (ks : List ℕ) (ns : List Float) (n : ℕ) where

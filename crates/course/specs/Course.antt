@@ -10,7 +10,7 @@ use Rattle.floats.specs.Ops.{_⊗_}
 use Rattle.geo.specs.declared.types.Point3D.{Point3D}
 use Rattle.geo.specs.declared.types.Command.{Command}
 use Rattle.geo.specs.declared.types.Command.the-variants.{Move, Line, Arc, Bezier}
-use Rattle.geo.specs.Lent.{pointAt, triple, flat, origin, commandsFrom}
+use Rattle.geo.specs.Lent.{pointAt, triple, flat, origin, endOf, commandsFrom}
 use Rattle.geo.specs.Domain.{whole, tolerance, commandsFormed, commandsIn}
 use Rattle.geo.specs.Outcome.{Row, row, refusal, Outcome, unless}
 use Rattle.simplify.specs.Simplify.{commandRows}
@@ -27,17 +27,33 @@ joined tol last (Line p) = adds (triple p)
 joined tol last (Arc p o n) = ends
 joined tol last (Bezier p c d) = adds (flat stepEnd (paramSteps p c d last (tol ⊗ quarter)))
 
--- the chains and kept commands of a course, in order
-unfoldable pub courseParts : Float → List Command → List Part
-courseParts tol cs = partsFrom (joined tol) origin (triple origin) cs
+-- ---- commands from a start: document 02, §13, "A lap after the first may lack its Move and then starts at the previous lap's last recorded end"
+-- the chains and kept commands, in order, of commands that start at p: the first chain has p as its first point
+unfoldable pub partsOn : Float → Point3D → List Command → List Part
+partsOn tol p cs = partsFrom (joined tol) p (triple p) cs
 
--- its fit by a rule: each chain thinned and fitted
-unfoldable pub courseFit : Rule → List Command → List Command
-courseFit r cs = fitOf (chainFit r) (courseParts (r .tolerance) cs)
+-- their fit by a rule: each chain thinned and fitted
+unfoldable pub fitOn : Rule → Point3D → List Command → List Command
+fitOn r p cs = fitOf (chainFit r) (partsOn (r .tolerance) p cs)
 
--- its most: its Moves and Arcs, and that of each chain, Bezier steps counted
-unfoldable pub courseMost : Float → List Command → ℕ
-courseMost tol cs = mostOf (courseParts tol cs)
+-- their most: their Moves and Arcs, and that of each chain, Bezier steps counted
+unfoldable pub mostOn : Float → Point3D → List Command → ℕ
+mostOn tol p cs = mostOf (partsOn tol p cs)
+
+-- where they end: at the end of the last one, of whatever kind
+unfoldable pub endOn : Point3D → List Command → Point3D
+endOn p [] = p
+endOn p (c ∷ cs) = endOn (endOf c) cs
+
+-- ---- a course of `fit_arcs`, "which needs no Move": the Rust starts it at the origin
+abbrev pub courseParts : Float → List Command → List Part
+courseParts tol cs = partsOn tol origin cs
+
+abbrev pub courseFit : Rule → List Command → List Command
+courseFit r cs = fitOn r origin cs
+
+abbrev pub courseMost : Float → List Command → ℕ
+courseMost tol cs = mostOn tol origin cs
 
 -- the commands that are lent as the kinds ks and the numbers ns
 abbrev pub lentCourse : List ℕ → List Float → List Command

@@ -10,7 +10,7 @@ use Rattle.floats.specs.Ops.{if_then_else_}
 use Rattle.geo.specs.declared.types.Point3D.{Point3D}
 use Rattle.geo.specs.declared.types.Command.{Command}
 use Rattle.geo.specs.declared.types.Command.the-variants.{Line}
-use Rattle.geo.specs.Lent.{pointAt, triple, flat, origin, endOf}
+use Rattle.geo.specs.Lent.{pointAt, triple, flat, endOf}
 use Rattle.fitting.specs.declared.fitting.Rule.{Rule}
 use Rattle.fitting.specs.Commands.{keptOf}
 use Rattle.fitting.specs.Written.{Noted, noted, notedIn, chainNoted, NotedPlaced}
@@ -18,7 +18,7 @@ use Rattle.course.specs.declared.course.Walk.{Walk}
 use Rattle.course.specs.declared.course.Flush.{Flush}
 use Rattle.course.specs.declared.course.Flush.the-variants.{Fitted, AsItStands, Lines}
 use Rattle.course.specs.Parts.{Part, chain, kept, Join, adds, ends, closed, carried, partsFrom, mostOf}
-use Rattle.course.specs.Course.{joined, linesJoined, courseParts}
+use Rattle.course.specs.Course.{joined, linesJoined, partsOn}
 
 -- ---- counts
 -- "The most of a course ... above 800" is refused; so a chain has at most one point more, its first included, of three numbers each
@@ -59,8 +59,9 @@ joinsBeziers Lines = false
 unfoldable pub joinedBy : Flush → Float → Point3D → Command → Join
 joinedBy f tol last c = if joinsBeziers f then joined tol last c else linesJoined last c
 
-unfoldable pub partsBy : Flush → Float → List Command → List Part
-partsBy f tol cs = partsFrom (joinedBy f tol) origin (triple origin) cs
+-- from the start p
+unfoldable pub partsBy : Flush → Float → Point3D → List Command → List Part
+partsBy f tol p cs = partsFrom (joinedBy f tol) p (triple p) cs
 
 -- ---- what is written, with the steps that each command covers: a Line to the next point that is kept covers one
 unfoldable pub lineNoted : Point3D → Noted
@@ -79,12 +80,12 @@ partNoted fit (kept c) = noted c 0 ∷ []
 unfoldable pub notedOf : (List Float → List Noted) → List Part → List Noted
 notedOf fit ps = flat (partNoted fit) ps
 
-unfoldable pub fitBy : Flush → Rule → List Command → List Noted
-fitBy f r cs = notedOf (flushedBy f r) (partsBy f (r .tolerance) cs)
+unfoldable pub fitBy : Flush → Rule → Point3D → List Command → List Noted
+fitBy f r p cs = notedOf (flushedBy f r) (partsBy f (r .tolerance) p cs)
 
--- the fit of a course
-unfoldable pub courseNoted : Rule → List Command → List Noted
-courseNoted r cs = notedOf (chainNoted r) (courseParts (r .tolerance) cs)
+-- the fit of a course from the start p
+unfoldable pub notedOn : Rule → Point3D → List Command → List Noted
+notedOn r p cs = notedOf (chainNoted r) (partsOn (r .tolerance) p cs)
 
 -- ---- one command
 -- the chain under way, at the front of its buffer

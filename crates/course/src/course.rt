@@ -24,7 +24,7 @@ ghost use Prim.Native.Nat.{_+_, _-_, _*_, _/_, _<_, _≤_};
 ghost use lib.ListN.{length};
 ghost use lib.Seq.{sets};
 ghost use Rattle.floats.specs.Ops.{_≺_, _⊗_, +0};
-ghost use Rattle.geo.specs.Lent.{origin, triple, flat, pointAt};
+ghost use Rattle.geo.specs.Lent.{triple, flat, pointAt};
 ghost use Rattle.geo.specs.Walk.{listFrom};
 ghost use Rattle.geo.specs.Outcome.{refusal};
 ghost use Rattle.geo.specs.Commands.{WroteCommands};
@@ -33,8 +33,8 @@ ghost use Rattle.fitting.specs.Written.{FitPlaced, NotedPlaced};
 ghost use Rattle.course.specs.Parts.{ends, mostOf};
 ghost use Rattle.floats.specs.Limits.{quarter};
 ghost use Rattle.course.specs.declared.course.Flush.the-variants.{AsItStands, Lines};
-ghost use Rattle.course.specs.Course.{joined, courseFit, courseMost, lentCourse, inputRows, arcsRows, arcsCall, optimizeCall};
-ghost use Rattle.course.specs.Walks.{mostCommands, chainPoints, chainNumbers, cap, weightOf, pathFlush, joinsBeziers, joinedBy, lineNoted, flushedBy, partsBy, fitBy, courseNoted, Room, Stepped};
+ghost use Rattle.course.specs.Course.{joined, fitOn, mostOn, lentCourse, inputRows, arcsRows, arcsCall, optimizeCall};
+ghost use Rattle.course.specs.Walks.{mostCommands, chainPoints, chainNumbers, cap, weightOf, pathFlush, joinsBeziers, joinedBy, lineNoted, flushedBy, partsBy, fitBy, notedOn, Room, Stepped};
 
 // Where a walk along a course stands.
 pub struct Walk {
@@ -82,12 +82,12 @@ impl Walk {
     pub const NUMBERS: usize = 7200;
 
     // A chain has its first point from the start.
-    fn new() -> Self
-        ensures { λ r. ⌜ r ≡ record { points = 1; last = origin; written = 0 } ⌝ }
+    fn new(start: Point3D) -> Self
+        ensures { λ r. ⌜ r ≡ record { points = 1; last = start; written = 0 } ⌝ }
     {
         Self {
             points: 1,
-            last: Point3D::ZERO,
+            last: start,
             written: 0,
         }
     }
@@ -142,13 +142,13 @@ pub fn add_capped(a: usize, b: usize) -> usize
     n
 }
 
-// The most of a course, 801 for all above 800.
-pub fn course_most(kinds: &[u8], nums: &[f64], tolerance: f64) -> usize
+// The most of a course from its start, 801 for all above 800.
+pub fn course_most(kinds: &[u8], nums: &[f64], start: Point3D, tolerance: f64) -> usize
     requires { ⌜ 9 * length (now kinds) ≤ length (now nums) ⌝ }
-    ensures { λ r. ⌜ r ≡ cap (courseMost tolerance (lentCourse (now (kinds .entry)) (now (nums .entry)))) ⌝ }
+    ensures { λ r. ⌜ r ≡ cap (mostOn tolerance start (lentCourse (now (kinds .entry)) (now (nums .entry)))) ⌝ }
 {
     let mut most = 0;
-    let mut last = Point3D::ZERO;
+    let mut last = start;
     for i in 0..kinds.len() {
         let c = command_at(kinds, nums, i);
         most = add_capped(most, weight(c, last, tolerance));
@@ -339,11 +339,12 @@ fn take_command(
     }
 }
 
-// Walks along a course, and answers how many commands it gives. The caller lends the chain's buffer, so that many courses
+// Walks along a course from its start, and answers how many commands it gives. The caller lends the chain's buffer, so that many courses
 // share one, and a column for the steps that each command covers, empty where nobody wants them.
 fn walk_course(
     kinds: &[u8],
     nums: &[f64],
+    start: Point3D,
     how: Flush,
     rule: Rule,
     chain: &mut [f64],
@@ -351,13 +352,13 @@ fn walk_course(
     out_nums: &mut [f64],
     steps: &mut [u32],
 ) -> usize
-    requires { ⌜ ((+0 ≺ rule .tolerance) ≡ true) × ((9 * length (now kinds) ≤ length (now nums)) × (mostOf (partsBy how (rule .tolerance) (lentCourse (now kinds) (now nums))) ≤ mostCommands) × (mostOf (partsBy how (rule .tolerance) (lentCourse (now kinds) (now nums))) ≤ length (now «out_kinds»)) × (9 * mostOf (partsBy how (rule .tolerance) (lentCourse (now kinds) (now nums))) ≤ length (now «out_nums»)) × (length (now chain) ≡ chainNumbers)) ⌝ }
+    requires { ⌜ ((+0 ≺ rule .tolerance) ≡ true) × ((9 * length (now kinds) ≤ length (now nums)) × (mostOf (partsBy how (rule .tolerance) start (lentCourse (now kinds) (now nums))) ≤ mostCommands) × (mostOf (partsBy how (rule .tolerance) start (lentCourse (now kinds) (now nums))) ≤ length (now «out_kinds»)) × (9 * mostOf (partsBy how (rule .tolerance) start (lentCourse (now kinds) (now nums))) ≤ length (now «out_nums»)) × (length (now chain) ≡ chainNumbers)) ⌝ }
     // What the chain holds at exit is left open.
-    ensures { λ r. ⌜ NotedPlaced (fitBy how rule (lentCourse (now (kinds .entry)) (now (nums .entry)))) 0 r (now («out_kinds» .entry)) (now («out_kinds» .exit)) (now («out_nums» .entry)) (now («out_nums» .exit)) (now (steps .entry)) (now (steps .exit)) ⌝ }
+    ensures { λ r. ⌜ NotedPlaced (fitBy how rule start (lentCourse (now (kinds .entry)) (now (nums .entry)))) 0 r (now («out_kinds» .entry)) (now («out_kinds» .exit)) (now («out_nums» .entry)) (now («out_nums» .exit)) (now (steps .entry)) (now (steps .exit)) ⌝ }
 {
-    let mut w = Walk::new();
+    let mut w = Walk::new(start);
     // The buffer may still hold the chain of another course.
-    put_point(chain, 0, Point3D::ZERO);
+    put_point(chain, 0, start);
     for i in 0..kinds.len() {
         let c = command_at(kinds, nums, i);
         w = take_command(c, how, rule, w, chain, out_kinds, out_nums, steps);
@@ -374,23 +375,25 @@ fn walk_course(
     w.written + n
 }
 
-// Fits a course, notes how many steps each command covers, and answers how many commands there are.
+// Fits a course from its start, notes how many steps each command covers, and answers how many commands there are.
 pub fn fit_course_with_steps(
     kinds: &[u8],
     nums: &[f64],
+    start: Point3D,
     rule: Rule,
     chain: &mut [f64],
     out_kinds: &mut [u8],
     out_nums: &mut [f64],
     steps: &mut [u32],
 ) -> usize
-    requires { ⌜ ((+0 ≺ rule .tolerance) ≡ true) × ((9 * length (now kinds) ≤ length (now nums)) × (courseMost (rule .tolerance) (lentCourse (now kinds) (now nums)) ≤ mostCommands) × (courseMost (rule .tolerance) (lentCourse (now kinds) (now nums)) ≤ length (now «out_kinds»)) × (9 * courseMost (rule .tolerance) (lentCourse (now kinds) (now nums)) ≤ length (now «out_nums»)) × (length (now chain) ≡ chainNumbers)) ⌝ }
+    requires { ⌜ ((+0 ≺ rule .tolerance) ≡ true) × ((9 * length (now kinds) ≤ length (now nums)) × (mostOn (rule .tolerance) start (lentCourse (now kinds) (now nums)) ≤ mostCommands) × (mostOn (rule .tolerance) start (lentCourse (now kinds) (now nums)) ≤ length (now «out_kinds»)) × (9 * mostOn (rule .tolerance) start (lentCourse (now kinds) (now nums)) ≤ length (now «out_nums»)) × (length (now chain) ≡ chainNumbers)) ⌝ }
     // The chain is lent as room to work in: what it holds at exit is left open.
-    ensures { λ r. ⌜ NotedPlaced (courseNoted rule (lentCourse (now (kinds .entry)) (now (nums .entry)))) 0 r (now («out_kinds» .entry)) (now («out_kinds» .exit)) (now («out_nums» .entry)) (now («out_nums» .exit)) (now (steps .entry)) (now (steps .exit)) ⌝ }
+    ensures { λ r. ⌜ NotedPlaced (notedOn rule start (lentCourse (now (kinds .entry)) (now (nums .entry)))) 0 r (now («out_kinds» .entry)) (now («out_kinds» .exit)) (now («out_nums» .entry)) (now («out_nums» .exit)) (now (steps .entry)) (now (steps .exit)) ⌝ }
 {
     walk_course(
         kinds,
         nums,
+        start,
         Flush::Fitted,
         rule,
         chain,
@@ -400,20 +403,30 @@ pub fn fit_course_with_steps(
     )
 }
 
-// Fits a course, and answers how many commands it gives.
+// Fits a course from its start, and answers how many commands it gives.
 pub fn fit_course(
     kinds: &[u8],
     nums: &[f64],
+    start: Point3D,
     rule: Rule,
     chain: &mut [f64],
     out_kinds: &mut [u8],
     out_nums: &mut [f64],
 ) -> usize
-    requires { ⌜ ((+0 ≺ rule .tolerance) ≡ true) × ((9 * length (now kinds) ≤ length (now nums)) × (courseMost (rule .tolerance) (lentCourse (now kinds) (now nums)) ≤ mostCommands) × (courseMost (rule .tolerance) (lentCourse (now kinds) (now nums)) ≤ length (now «out_kinds»)) × (9 * courseMost (rule .tolerance) (lentCourse (now kinds) (now nums)) ≤ length (now «out_nums»)) × (length (now chain) ≡ chainNumbers)) ⌝ }
+    requires { ⌜ ((+0 ≺ rule .tolerance) ≡ true) × ((9 * length (now kinds) ≤ length (now nums)) × (mostOn (rule .tolerance) start (lentCourse (now kinds) (now nums)) ≤ mostCommands) × (mostOn (rule .tolerance) start (lentCourse (now kinds) (now nums)) ≤ length (now «out_kinds»)) × (9 * mostOn (rule .tolerance) start (lentCourse (now kinds) (now nums)) ≤ length (now «out_nums»)) × (length (now chain) ≡ chainNumbers)) ⌝ }
     // The chain is lent as room to work in: what it holds at exit is left open.
-    ensures { λ r. ⌜ FitPlaced (courseFit rule (lentCourse (now (kinds .entry)) (now (nums .entry)))) 0 r (now («out_kinds» .entry)) (now («out_kinds» .exit)) (now («out_nums» .entry)) (now («out_nums» .exit)) ⌝ }
+    ensures { λ r. ⌜ FitPlaced (fitOn rule start (lentCourse (now (kinds .entry)) (now (nums .entry)))) 0 r (now («out_kinds» .entry)) (now («out_kinds» .exit)) (now («out_nums» .entry)) (now («out_nums» .exit)) ⌝ }
 {
-    fit_course_with_steps(kinds, nums, rule, chain, out_kinds, out_nums, &mut [])
+    fit_course_with_steps(
+        kinds,
+        nums,
+        start,
+        rule,
+        chain,
+        out_kinds,
+        out_nums,
+        &mut [],
+    )
 }
 
 // Why the commands of a course are refused, or 0: rows 1 to 6.
@@ -460,7 +473,7 @@ fn check_course(
     if refused != 0 {
         return refused;
     }
-    let most = course_most(kinds, nums, tolerance);
+    let most = course_most(kinds, nums, Point3D::ZERO, tolerance);
     if Walk::MOST < most {
         return 8;
     }
@@ -489,7 +502,15 @@ pub fn fit_arcs(
     }
     let mut chain = [0.0; Walk::CHAIN];
     let rule = Rule::of_laps(tolerance);
-    Answer::Written(fit_course(kinds, nums, rule, &mut chain, out_kinds, out_nums))
+    Answer::Written(fit_course(
+        kinds,
+        nums,
+        Point3D::ZERO,
+        rule,
+        &mut chain,
+        out_kinds,
+        out_nums,
+    ))
 }
 
 // How a path's chains are written.
@@ -523,6 +544,7 @@ pub fn optimize_path_from_array(
     Answer::Written(walk_course(
         kinds,
         nums,
+        Point3D::ZERO,
         how,
         rule,
         &mut chain,

@@ -9,7 +9,7 @@ use lib.Seq.{sets, length-sets}
 use lib.Ieee.{Float}
 use Rattle.floats.specs.Ops.{_≺_, +0}
 use Rattle.geo.specs.declared.types.Command.{Command}
-use Rattle.geo.specs.Lent.{flat, kindOf, numbersOf, commandsFrom}
+use Rattle.geo.specs.Lent.{flat, origin, kindOf, numbersOf, commandsFrom}
 use Rattle.file.specs.Command.{commandsAt, decoded, enc}
 use Rattle.file.proofs.Lent.{back-part, back-front}
 use Rattle.fitting.specs.Written.{FitPlaced}
@@ -50,7 +50,7 @@ body-enc (c ∷ cs) = ap (λ (l : List ℕ). enc c ++ l) (body-enc cs)
 module _ (tol : Float) (pos : (+0 ≺ tol) ≡ true) (ks : List ℕ) (ns : List Float) (few : courseMost tol (lentCourse ks ns) ≤ 800) (n : ℕ) (fk₀ fk : List ℕ) (fn₀ fn : List Float)
     (p : FitPlaced (courseFit (lapsRule tol) (lentCourse ks ns)) 0 n fk₀ fk fn₀ fn) (h : 800 ≤ length fk₀) (k : 7200 ≤ length fn₀) where
   counted : n ≤ 800
-  counted = let a = course-few (lapsRule tol) pos (lentCourse ks ns) in let b = p .count in omega arith
+  counted = let a = course-few (lapsRule tol) pos origin (lentCourse ks ns) in let b = p .count in omega arith
 
   pub fits-kinds : n ≤ length fk
   fits-kinds = let a = counted in let l = ap length (p .kinds) ∙ length-sets fk₀ 0 (map kindOf (courseFit (lapsRule tol) (lentCourse ks ns))) in omega arith

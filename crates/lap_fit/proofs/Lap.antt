@@ -29,11 +29,11 @@ use Rattle.lap_fit.specs.Fit.{fitLap, mostLap, lapsMost, fitNew}
 module _ (tol : Float) (pos : (+0 ≺ tol) ≡ true) where
   pub fit-most : (l : Lap) → length (fitLap tol l) ≤ mostLap tol l
   unfolding fitLap mostLap
-  fit-most l = rw (length-map (courseFit (lapsRule tol) (map decoded l)) enc) (course-few (lapsRule tol) pos (map decoded l))
+  fit-most l = rw (length-map (courseFit (lapsRule tol) (map decoded l)) enc) (course-few (lapsRule tol) pos origin (map decoded l))
 
   pub new-most : (ks : List ℕ) (ns : List Float) → length (fitNew tol ks ns) ≤ courseMost tol (lentCourse ks ns)
   unfolding fitNew
-  new-most ks ns = rw (length-map (courseFit (lapsRule tol) (lentCourse ks ns)) enc) (course-few (lapsRule tol) pos (lentCourse ks ns))
+  new-most ks ns = rw (length-map (courseFit (lapsRule tol) (lentCourse ks ns)) enc) (course-few (lapsRule tol) pos origin (lentCourse ks ns))
 
 -- and something where the lap starts with a Move, as row 4 asks
 starts-with-move : (c : List ℕ) → formOk true c ≡ true → decoded c ≡ Move (pointFrom c 1)
@@ -80,7 +80,7 @@ module _ (tol : Float) where
 
   pub weights-all : (s : List ℕ) (at n : ℕ) → weights s origin at n ≡ mostLap tol (commandsAt s at n)
   unfolding mostLap
-  weights-all s at n = sym (most-of-commands tol (map decoded (commandsAt s at n)))
+  weights-all s at n = sym (most-of-commands tol origin (map decoded (commandsAt s at n)))
 
   pub weights-step : (s : List ℕ) (last last′ : Point3D) (c : Command) (b n i : ℕ) → i < n → c ≡ decoded (take (b + 73 - b) (drop b s)) → last′ ≡ endOf c
       → weights s last b (n - i) ≡ weightOf (joined tol last c) + weights s last′ (b + 73) (n - (i + 1))

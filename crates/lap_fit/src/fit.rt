@@ -82,7 +82,7 @@ fn fit_lent(
     ensures { λ r. ⌜ PutLap (fitNew tolerance (now (kinds .entry)) (now (nums .entry))) (now (out .entry)) (now (out .exit)) to r ⌝ }
 {
     let rule = Rule::of_laps(tolerance);
-    let n = fit_course(kinds, nums, rule, chain, out_kinds, out_nums);
+    let n = fit_course(kinds, nums, Point3D::ZERO, rule, chain, out_kinds, out_nums);
     write_commands(out_kinds, out_nums, n, out, to);
     n
 }

@@ -12,7 +12,7 @@ use lib.Ieee.{Float}
 use Rattle.floats.specs.Ops.{_≺_, +0}
 use Rattle.geo.specs.Domain.{commandsIn}
 use Rattle.geo.specs.Outcome.{gives, refusal}
-use Rattle.geo.specs.Lent.{flat, kindOf, numbersOf}
+use Rattle.geo.specs.Lent.{flat, origin, kindOf, numbersOf}
 use Rattle.geo.proofs.Rows.{unless-gives}
 use Rattle.geo.proofs.Tolerance.{tolerance-positive}
 use Rattle.file.specs.Command.{decoded, enc, lentLap}
@@ -77,7 +77,7 @@ each-lap-gives s f tol room e =
       λ j g h. record {
         commands = courseFit (lapsRule tol) (map decoded (lapAt s j));
         bytes = lap-fitted s f tol q j g h;
-        parts = course-gives (lapsRule tol) pos (map decoded (lapAt s j));
+        parts = course-gives (lapsRule tol) pos origin (map decoded (lapAt s j));
       },
     )
 

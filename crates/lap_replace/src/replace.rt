@@ -5,6 +5,7 @@ use geo::domain::commands_formed;
 use geo::domain::commands_in;
 use geo::domain::is_tolerance;
 use geo::types::Answer;
+use geo::types::Point3D;
 use lap_fit::fit::fit_commands;
 use laps::lap_file::Check;
 use laps::lap_file::MOST_COMMANDS;
@@ -282,7 +283,7 @@ fn check_replacement(
     if refused != 0 {
         return refused;
     }
-    let most = course_most(kinds, nums, tolerance) + others_of(f, k);
+    let most = course_most(kinds, nums, Point3D::ZERO, tolerance) + others_of(f, k);
     check_sizes(lap_count(f), most, room)
 }
 

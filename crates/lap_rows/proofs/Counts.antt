@@ -7,11 +7,12 @@ use native.Mathlib.Omega.{arith}
 use lib.ListN.{length}
 use lib.Ieee.{Float}
 use Rattle.floats.specs.Ops.{_≺_, +0}
+use Rattle.geo.specs.Lent.{origin}
 use Rattle.file.specs.Command.{decoded}
 use Rattle.fitting.specs.Pieces.{lapsRule}
 use Rattle.course.specs.Parts.{Part, chain, kept, partMost}
 use Rattle.course.specs.Parts as parts
-use Rattle.course.specs.Course.{courseParts, courseMost}
+use Rattle.course.specs.Course.{courseParts, mostOn}
 use Rattle.listing.specs.Rows.{stepsIn, sumOf, chainsSteps}
 use Rattle.listing.proofs.Laws.{chain-few, course-steps, course-rows-few}
 use Rattle.laps.specs.File.{Lap}
@@ -28,7 +29,7 @@ chains-few tol (kept c ∷ ps) = let a = chains-few tol ps in omega arith
 
 -- a lap has no more steps than its most, and laps no more than theirs together
 pub lap-few : (tol : Float) (l : Lap) → lapSteps tol l ≤ mostLap tol l
-unfolding lapSteps mostLap courseMost
+unfolding lapSteps mostLap mostOn
 lap-few tol l = chains-few tol (courseParts tol (map decoded l))
 
 pub laps-few : (tol : Float) (ls : List Lap) → lapsSteps tol ls ≤ lapsMost tol ls
@@ -41,12 +42,12 @@ module _ (tol : Float) (pos : (+0 ≺ tol) ≡ true) where
   module _ (l : Lap) where
     pub rows-few : length (lapRows tol l) ≤ mostLap tol l
     unfolding lapRows mostLap
-    rows-few = course-rows-few (lapsRule tol) pos (map decoded l)
+    rows-few = course-rows-few (lapsRule tol) pos origin (map decoded l)
 
     -- the steps that its rows give are those of its chains
     pub rows-steps : sumOf (stepsIn (lapRows tol l)) ≡ lapSteps tol l
     unfolding lapRows lapSteps
-    rows-steps = course-steps (lapsRule tol) pos (map decoded l)
+    rows-steps = course-steps (lapsRule tol) pos origin (map decoded l)
 
     pub rows-short : mostLap tol l ≤ 800 → sumOf (stepsIn (lapRows tol l)) < 1000
     rows-short h = let a = rows-steps in let b = lap-few tol l in omega arith

@@ -12,13 +12,13 @@ use Rattle.floats.proofs.Order.{lt-or-ge}
 use Rattle.geo.specs.declared.types.Command.{Command}
 use Rattle.geo.specs.Domain.{tolerance}
 use Rattle.geo.specs.Outcome.{refusal, Outcome, refused, gives, unless}
-use Rattle.geo.specs.Lent.{kindOf, flat}
+use Rattle.geo.specs.Lent.{origin, kindOf, flat}
 use Rattle.geo.proofs.Rows.{refusal-front, unless-gives}
 use Rattle.geo.proofs.Tolerance.{tolerance-positive}
 use Rattle.file.specs.Command.{decoded, enc}
 use Rattle.fitting.specs.Pieces.{lapsRule}
 use Rattle.course.specs.Course.{courseFit}
-use Rattle.listing.specs.Rows.{chainRows, partRows, rowsOf, courseRows, stepsIn, sumOf}
+use Rattle.listing.specs.Rows.{chainRows, partRows, rowsOf, rowsOn, stepsIn, sumOf}
 use Rattle.listing.proofs.Columns.{steps-append}
 use Rattle.listing.proofs.Laws.{course-kinds, course-steps, sum-append}
 use Rattle.laps.specs.File.{Lap, lapCount, lapsOf}
@@ -130,12 +130,12 @@ unfolding lapRows
 kinds-of-the-fit s f tol room e k a b =
     let cs = map decoded (lapAt s k) in
     let l = laps-are-fitted s f tol room e .1 k a b in
-    course-kinds (lapsRule tol) cs ∙ sym (ap (map kindByte) l ∙ kind-bytes (courseFit (lapsRule tol) cs))
+    course-kinds (lapsRule tol) origin cs ∙ sym (ap (map kindByte) l ∙ kind-bytes (courseFit (lapsRule tol) cs))
 
 -- ---- steps
 -- They are those of the lap's parts in order,
 pub rows-of-the-parts : RowsOfTheParts
-unfolding lapRows courseRows rowsOf
+unfolding lapRows rowsOn rowsOf
 rows-of-the-parts s tol k = refl
 
 -- of a chain one for each piece of its fit, with the piece's steps.
@@ -146,7 +146,7 @@ rows-of-a-chain tol points = refl
 -- The steps that they give are, together, those of the lap's chains.
 pub steps-of-the-chains : StepsOfTheChains
 unfolding lapRows
-steps-of-the-chains s f tol room e k a b = course-steps (lapsRule tol) (tolerance-positive tol (accepted s tol room f e .passed .within)) (map decoded (lapAt s k))
+steps-of-the-chains s f tol room e k a b = course-steps (lapsRule tol) (tolerance-positive tol (accepted s tol room f e .passed .within)) origin (map decoded (lapAt s k))
 
 -- ---- the sum under the listing
 -- a file that is listed passes the rows, and the text is its listing

@@ -9,13 +9,13 @@ use lib.Dec.{ltb}
 use lib.Ieee.{Float}
 use Rattle.floats.specs.Ops.{if_then_else_}
 use Rattle.geo.specs.Domain.{tolerance}
-use Rattle.geo.specs.Lent.{flat}
+use Rattle.geo.specs.Lent.{flat, origin}
 use Rattle.geo.specs.Outcome.{Row, row, refusal, Outcome, unless}
 use Rattle.geo.specs.Walk.{listFrom}
 use Rattle.file.specs.Command.{decoded}
 use Rattle.fitting.specs.Pieces.{lapsRule}
 use Rattle.course.specs.Course.{courseParts}
-use Rattle.listing.specs.Rows.{ListRow, letterOf, courseRows, chainsSteps}
+use Rattle.listing.specs.Rows.{ListRow, letterOf, rowsOn, chainsSteps}
 use Rattle.laps.specs.File.{Lap, lapsOf}
 use Rattle.laps.specs.Rows.{fileRows}
 use Rattle.lap_fit.specs.Fit.{lapsMost}
@@ -49,7 +49,7 @@ rowsText lap rs = flat (rowText lap) rs
 
 -- whose rows are those of its commands
 unfoldable pub lapRows : Float → Lap → List ListRow
-lapRows tol l = courseRows (lapsRule tol) (map decoded l)
+lapRows tol l = rowsOn (lapsRule tol) origin (map decoded l)
 
 unfoldable pub lapText : Float → ℕ → Lap → List ℕ
 lapText tol lap l = rowsText lap (lapRows tol l)

@@ -6,6 +6,7 @@ use file::command::read_commands;
 use fitting::fitting::Rule;
 use geo::domain::is_tolerance;
 use geo::types::Answer;
+use geo::types::Point3D;
 use lap_fit::fit::most_of;
 use laps::lap_file::check_file;
 use laps::lap_file::count_at;
@@ -121,6 +122,7 @@ fn list_commands(
     fit_course_with_steps(
         &kinds[..n],
         &nums[..m],
+        Point3D::ZERO,
         rule,
         chain,
         out_kinds,

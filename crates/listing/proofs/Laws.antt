@@ -14,7 +14,7 @@ use Rattle.floats.proofs.Order.{lt-or-ge}
 use Rattle.geo.specs.declared.types.Point3D.{Point3D}
 use Rattle.geo.specs.declared.types.Command.{Command}
 use Rattle.geo.specs.declared.types.Command.the-variants.{Move, Line, Arc, Bezier}
-use Rattle.geo.specs.Lent.{triple, flat, origin, endOf, kindOf}
+use Rattle.geo.specs.Lent.{triple, flat, endOf, kindOf}
 use Rattle.geo.proofs.Flat.{flat-append, flat-one}
 use Rattle.fitting.specs.declared.fitting.Rule.{Rule}
 use Rattle.fitting.specs.Pieces.{Shape, line, arc, Piece, piecesBy}
@@ -23,11 +23,11 @@ use Rattle.fitting.specs.Laws.{Covers}
 use Rattle.fitting.proofs.Pieces.{pieces-cover}
 use Rattle.fitting.proofs.Chain.{kept-few, kept-some}
 use Rattle.course.specs.Parts.{Part, chain, kept, closed, carried, partsFrom, partFit, fitOf}
-use Rattle.course.specs.Course.{joined, courseParts, courseFit, courseMost}
+use Rattle.course.specs.Course.{joined, partsOn, fitOn, mostOn}
 use Rattle.course.specs.Demand.{thinnedAt, stepsOf, chainPieces}
 use Rattle.course.proofs.Parts.{parts-step, parts-end}
 use Rattle.course.proofs.Accepted.{course-few}
-use Rattle.listing.specs.Rows.{ListRow, keptRow, shapeKind, letterOf, pieceRow, chainRows, partRows, rowsOf, courseRows, kindsOf, stepsIn, Lettered, sumOf, chainSteps, chainsSteps}
+use Rattle.listing.specs.Rows.{ListRow, keptRow, shapeKind, letterOf, pieceRow, chainRows, partRows, rowsOf, rowsOn, kindsOf, stepsIn, Lettered, sumOf, chainSteps, chainsSteps}
 use Rattle.listing.proofs.Columns.{kinds-append, steps-append, kinds-length}
 
 -- ---- rows of parts: one list of them behind another, one chain alone, and a chain with no step, which has no row
@@ -75,9 +75,9 @@ parts-kinds rule (p ∷ ps) =
     ∙ ap (λ (l : List ℕ). map kindOf (partFit (chainFit rule) p) ++ l) (parts-kinds rule ps) ∙ sym (map-append kindOf (partFit (chainFit rule) p) (fitOf (chainFit rule) ps))
 
 -- A course has one row for each command that its fit writes, in order, with that command's kind.
-pub course-kinds : (rule : Rule) (cs : List Command) → kindsOf (courseRows rule cs) ≡ map kindOf (courseFit rule cs)
-unfolding courseRows courseFit
-course-kinds rule cs = parts-kinds rule (courseParts (rule .tolerance) cs)
+pub course-kinds : (rule : Rule) (p : Point3D) (cs : List Command) → kindsOf (rowsOn rule p cs) ≡ map kindOf (fitOn rule p cs)
+unfolding rowsOn fitOn
+course-kinds rule p cs = parts-kinds rule (partsOn (rule .tolerance) p cs)
 
 -- ---- letters
 -- the letter of a kind above 1
@@ -133,9 +133,9 @@ parts-lettered rule last s (c ∷ cs) =
     subst (λ (l : List ℕ). Lettered l) (sym e) (lettered-append (kindsOf (rowsOf rule (closed s c j))) (kindsOf (rowsOf rule next)) (closed-lettered rule last s c) (parts-lettered rule (endOf c) (carried s c j) cs))
 
 -- Each row is of a Move, a Line or an Arc: the three letters are enough, and an A is an Arc.
-pub course-letters : (rule : Rule) (cs : List Command) → Lettered (kindsOf (courseRows rule cs))
-unfolding courseRows courseParts
-course-letters rule cs = parts-lettered rule origin (triple origin) cs
+pub course-letters : (rule : Rule) (p : Point3D) (cs : List Command) → Lettered (kindsOf (rowsOn rule p cs))
+unfolding rowsOn partsOn
+course-letters rule p cs = parts-lettered rule p (triple p) cs
 
 -- ---- steps
 pub sum-append : (xs ys : List ℕ) → sumOf (xs ++ ys) ≡ sumOf xs + sumOf ys
@@ -200,14 +200,14 @@ parts-steps rule pos (chain s ∷ ps) =
 parts-steps rule pos (kept c ∷ ps) = no-step c (rowsOf rule ps) ∙ parts-steps rule pos ps
 
 -- So the steps that a course's rows give are, together, those of its chains; a kept command adds none.
-pub course-steps : (rule : Rule) → (+0 ≺ rule .tolerance) ≡ true → (cs : List Command) → sumOf (stepsIn (courseRows rule cs)) ≡ chainsSteps rule (courseParts (rule .tolerance) cs)
-unfolding courseRows
-course-steps rule pos cs = parts-steps rule pos (courseParts (rule .tolerance) cs)
+pub course-steps : (rule : Rule) → (+0 ≺ rule .tolerance) ≡ true → (p : Point3D) (cs : List Command) → sumOf (stepsIn (rowsOn rule p cs)) ≡ chainsSteps rule (partsOn (rule .tolerance) p cs)
+unfolding rowsOn
+course-steps rule pos p cs = parts-steps rule pos (partsOn (rule .tolerance) p cs)
 
 -- There are at most as many rows as the most of the course.
-pub course-rows-few : (rule : Rule) → (+0 ≺ rule .tolerance) ≡ true → (cs : List Command) → length (courseRows rule cs) ≤ courseMost (rule .tolerance) cs
-course-rows-few rule pos cs =
-    let a = kinds-length (courseRows rule cs) in
-    let b = ap length (course-kinds rule cs) in
-    let c = length-map (courseFit rule cs) kindOf in
-    let d = course-few rule pos cs in omega arith
+pub course-rows-few : (rule : Rule) → (+0 ≺ rule .tolerance) ≡ true → (p : Point3D) (cs : List Command) → length (rowsOn rule p cs) ≤ mostOn (rule .tolerance) p cs
+course-rows-few rule pos p cs =
+    let a = kinds-length (rowsOn rule p cs) in
+    let b = ap length (course-kinds rule p cs) in
+    let c = length-map (fitOn rule p cs) kindOf in
+    let d = course-few rule pos p cs in omega arith

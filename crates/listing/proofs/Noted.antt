@@ -17,11 +17,11 @@ use Rattle.fitting.specs.Commands.{pieceWorst}
 use Rattle.fitting.specs.Written.{commandsOf, notesOf, noteBy, pieceNoted, notedIn, chainNoted, NotedPlaced}
 use Rattle.fitting.proofs.Writing.{notes-append}
 use Rattle.course.specs.Parts.{Part, chain, kept}
-use Rattle.course.specs.Course.{courseParts, courseFit}
+use Rattle.course.specs.Course.{partsOn}
 use Rattle.course.specs.Demand.{thinnedAt, chainPieces}
-use Rattle.course.specs.Walks.{partNoted, notedOf, courseNoted}
+use Rattle.course.specs.Walks.{partNoted, notedOf, notedOn}
 use Rattle.course.proofs.Accepted.{course-commands}
-use Rattle.listing.specs.Rows.{keptRow, pieceRow, chainRows, partRows, rowsOf, courseRows, kindsOf, stepsIn}
+use Rattle.listing.specs.Rows.{keptRow, pieceRow, chainRows, partRows, rowsOf, rowsOn, kindsOf, stepsIn}
 use Rattle.listing.specs.Placed.{RowsPlaced}
 use Rattle.listing.proofs.Columns.{steps-append, kinds-length}
 use Rattle.listing.proofs.Laws.{course-kinds}
@@ -47,21 +47,21 @@ module _ (rule : Rule) (noting : rule .note ≡ Steps) where
       ∙ ap (λ (l : List ℕ). stepsIn (partRows rule p) ++ l) (parts-notes ps) ∙ sym (steps-append (partRows rule p) (rowsOf rule ps))
 
   -- what is noted beside a course's commands are the steps of its rows
-  pub course-notes : (cs : List Command) → notesOf (courseNoted rule cs) ≡ stepsIn (courseRows rule cs)
-  unfolding courseNoted courseRows
-  course-notes cs = parts-notes (courseParts (rule .tolerance) cs)
+  pub course-notes : (p : Point3D) (cs : List Command) → notesOf (notedOn rule p cs) ≡ stepsIn (rowsOn rule p cs)
+  unfolding notedOn rowsOn
+  course-notes p cs = parts-notes (partsOn (rule .tolerance) p cs)
 
   -- So the fit with steps leaves the course's rows.
-  pub rows-placed : (cs : List Command) (n : ℕ) (ks ks′ : List ℕ) (ns ns′ : List Float) (ss ss′ : List ℕ)
-      → NotedPlaced (courseNoted rule cs) 0 n ks ks′ ns ns′ ss ss′ → RowsPlaced (courseRows rule cs) n ks ks′ ss ss′
-  rows-placed cs n ks ks′ ns ns′ ss ss′ p =
-      let e : map kindOf (commandsOf (courseNoted rule cs)) ≡ kindsOf (courseRows rule cs) = ap (map kindOf) (course-commands rule cs) ∙ sym (course-kinds rule cs) in
-      let a = p .commands .count in
-      let b = length-map (commandsOf (courseNoted rule cs)) kindOf in
+  pub rows-placed : (p : Point3D) (cs : List Command) (n : ℕ) (ks ks′ : List ℕ) (ns ns′ : List Float) (ss ss′ : List ℕ)
+      → NotedPlaced (notedOn rule p cs) 0 n ks ks′ ns ns′ ss ss′ → RowsPlaced (rowsOn rule p cs) n ks ks′ ss ss′
+  rows-placed p cs n ks ks′ ns ns′ ss ss′ placed =
+      let e : map kindOf (commandsOf (notedOn rule p cs)) ≡ kindsOf (rowsOn rule p cs) = ap (map kindOf) (course-commands rule p cs) ∙ sym (course-kinds rule p cs) in
+      let a = placed .commands .count in
+      let b = length-map (commandsOf (notedOn rule p cs)) kindOf in
       let c = ap length e in
-      let d = kinds-length (courseRows rule cs) in
+      let d = kinds-length (rowsOn rule p cs) in
       record {
         count = omega arith;
-        kinds = p .commands .kinds ∙ ap (sets ks 0) e;
-        steps = p .notes ∙ ap (sets ss 0) (course-notes cs);
+        kinds = placed .commands .kinds ∙ ap (sets ks 0) e;
+        steps = placed .notes ∙ ap (sets ss 0) (course-notes p cs);
       }

@@ -6,12 +6,13 @@ use lib.Dec.{ltb}
 use lib.ListN.{length}
 use lib.Ieee.{Float}
 use Rattle.floats.specs.Ops.{if_then_else_}
+use Rattle.geo.specs.declared.types.Point3D.{Point3D}
 use Rattle.geo.specs.declared.types.Command.{Command}
 use Rattle.geo.specs.Lent.{flat, kindOf}
 use Rattle.fitting.specs.declared.fitting.Rule.{Rule}
 use Rattle.fitting.specs.Pieces.{Shape, line, arc, Piece}
 use Rattle.course.specs.Parts.{Part, chain, kept}
-use Rattle.course.specs.Course.{courseParts}
+use Rattle.course.specs.Course.{partsOn}
 use Rattle.course.specs.Demand.{thinnedChain, chainPieces}
 
 -- the kind of a command that is written, and how many steps of a thinned chain it covers
@@ -50,9 +51,9 @@ partRows rule (kept c) = keptRow c ∷ []
 unfoldable pub rowsOf : Rule → List Part → List ListRow
 rowsOf rule ps = flat (partRows rule) ps
 
--- the rows of a course
-unfoldable pub courseRows : Rule → List Command → List ListRow
-courseRows rule cs = rowsOf rule (courseParts (rule .tolerance) cs)
+-- the rows of commands that start at p
+unfoldable pub rowsOn : Rule → Point3D → List Command → List ListRow
+rowsOn rule p cs = rowsOf rule (partsOn (rule .tolerance) p cs)
 
 -- ---- their two columns
 unfoldable pub kindsOf : List ListRow → List ℕ

@@ -8,7 +8,7 @@ use native.Mathlib.Omega.{arith}
 use mathlib.Core.Path.{_≡_, sym, ap, _∙_, subst}
 use Prim.Native.Nat.{ℕ, _+_, _-_, _≤_}
 use lib.ListN.{length}
-use Rattle.geo.specs.Lent.{origin, commandsFrom}
+use Rattle.geo.specs.Lent.{commandsFrom}
 use Rattle.course.specs.Course.{joined, lentCourse}
 use Rattle.course.specs.Walks.{cap, weightsFrom}
 use Rattle.course.proofs.Walking.{commands-done}
@@ -16,7 +16,7 @@ use Rattle.course.proofs.course.course_most.Statement.{statement}
 use Rattle.course.proofs.course.course_most.Tie as tie
 
 abbrev Inv-loop : tie.InvT-loop
-Inv-loop kinds nums tolerance most₀ last₀ i₀ i-end most last i = (cap (most + weightsFrom (joined tolerance) last (commandsFrom kinds nums (length kinds - i) i)) ≡ cap (weightsFrom (joined tolerance) origin (lentCourse kinds nums))) × (most ≤ 801) × (cap most ≡ most)
+Inv-loop kinds nums tolerance most₀ last₀ i₀ i-end most last i = (cap (most + weightsFrom (joined tolerance) last (commandsFrom kinds nums (length kinds - i) i)) ≡ cap (weightsFrom (joined tolerance) last₀ (lentCourse kinds nums))) × (most ≤ 801) × (cap most ≡ most)
 
 abbrev μ-loop : tie.MeasureT-loop
 μ-loop kinds nums tolerance most₀ last₀ i₀ i-end most last i = length kinds - i
@@ -24,7 +24,7 @@ abbrev μ-loop : tie.MeasureT-loop
 loop-holds : tie.Need-loop-holds Inv-loop μ-loop
 loop-holds c = let a = c .before .before .args in
     let q : length (a .kinds .now) - 0 ≡ length (a .kinds .now) = omega arith in
-    let z : 0 + weightsFrom (joined (a .tolerance)) origin (lentCourse (a .kinds .now) (a .nums .now)) ≡ weightsFrom (joined (a .tolerance)) origin (lentCourse (a .kinds .now) (a .nums .now)) = omega arith in
+    let z : 0 + weightsFrom (joined (a .tolerance)) (a .start) (lentCourse (a .kinds .now) (a .nums .now)) ≡ weightsFrom (joined (a .tolerance)) (a .start) (lentCourse (a .kinds .now) (a .nums .now)) = omega arith in
     (rw q (ap cap z), omega arith, cap-few 0 (omega arith))
 
 command-at-requires : tie.Need-command-at-requires Inv-loop μ-loop
@@ -55,7 +55,7 @@ unfolding weightsFrom
 returns c = let a = c .before .before .before .before .args in
     let l = c .before .loop in
     let z : l .most + 0 ≡ l .most = omega arith in
-    sym (l .inv .2) ∙ ap cap (sym z) ∙ sym (ap (λ (cs : List Command). cap (l .most + weightsFrom (joined (a .tolerance)) (l .last) cs)) (commands-done (a .kinds .now) (a .nums .now) (length (a .kinds .now)) (l .i) (c .loop-test .left))) ∙ l .inv .0 ∙ ap cap (sym (most-of-commands (a .tolerance) (lentCourse (a .kinds .now) (a .nums .now))))
+    sym (l .inv .2) ∙ ap cap (sym z) ∙ sym (ap (λ (cs : List Command). cap (l .most + weightsFrom (joined (a .tolerance)) (l .last) cs)) (commands-done (a .kinds .now) (a .nums .now) (length (a .kinds .now)) (l .i) (c .loop-test .left))) ∙ l .inv .0 ∙ ap cap (sym (most-of-commands (a .tolerance) (a .start) (lentCourse (a .kinds .now) (a .nums .now))))
 
 pub course-most-spec : {M : Type 1} → statement M
 course-most-spec =

@@ -23,7 +23,7 @@ same-length-3 c = search needs
 
 returns : tie.Need-returns
 returns c = let a = c .before .before .before .before .before .before .before .before .before .before .before .before .before .before .before .before .before .args in
-    commands-placed _ _ 0 _ (a .out-kinds .now) _ (a .out-nums .now) _ _ _ (course-commands (a .rule) (lentCourse (a .kinds .now) (a .nums .now))) (c .before .before .before .before .before .before .before .fit-course-with-steps .ensures)
+    commands-placed _ _ 0 _ (a .out-kinds .now) _ (a .out-nums .now) _ _ _ (course-commands (a .rule) (a .start) (lentCourse (a .kinds .now) (a .nums .now))) (c .before .before .before .before .before .before .before .fit-course-with-steps .ensures)
 
 pub fit-course-spec : {M : Type 1} → statement M
 fit-course-spec =

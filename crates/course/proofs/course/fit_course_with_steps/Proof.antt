@@ -10,7 +10,7 @@ use Rattle.course.proofs.course.fit_course_with_steps.Tie as tie
 walk-course-requires : tie.Need-walk-course-requires
 walk-course-requires c κs = let a = c .before .before .before .before .before .before .before .before .before .before .args in
     let p = c .before .before .before .before .before .before .before .before .before .before .pre .1 in
-    let m = course-most (a .rule .tolerance) (lentCourse (a .kinds .now) (a .nums .now)) in (c .before .before .before .before .before .before .before .before .before .before .pre .0, (p .0, omega (arith, p, m), omega (arith, p, m), omega (arith, p, m), p .4))
+    let m = course-most (a .rule .tolerance) (a .start) (lentCourse (a .kinds .now) (a .nums .now)) in (c .before .before .before .before .before .before .before .before .before .before .pre .0, (p .0, omega (arith, p, m), omega (arith, p, m), omega (arith, p, m), p .4))
 
 same-length : tie.Need-same-length
 same-length c = search needs
@@ -26,7 +26,7 @@ same-length-4 c = search needs
 
 returns : tie.Need-returns
 returns c = let a = c .before .before .before .before .before .before .before .before .before .before .before .before .before .before .before .before .before .before .before .args in
-    same-noted _ _ 0 _ (a .out-kinds .now) _ (a .out-nums .now) _ (a .steps .now) _ (course-fit (a .rule) (lentCourse (a .kinds .now) (a .nums .now))) (c .before .before .before .before .before .before .before .before .walk-course .ensures)
+    same-noted _ _ 0 _ (a .out-kinds .now) _ (a .out-nums .now) _ (a .steps .now) _ (course-fit (a .rule) (a .start) (lentCourse (a .kinds .now) (a .nums .now))) (c .before .before .before .before .before .before .before .before .walk-course .ensures)
 
 pub fit-course-with-steps-spec : {M : Type 1} → statement M
 fit-course-with-steps-spec =

@@ -2,8 +2,9 @@
 use mathlib.Core.Path.{refl, sym, ap}
 use native.Mathlib.Omega.{arith}
 use Rattle.fitting.specs.Pieces.{lapsRule}
+use Rattle.geo.specs.Lent.{origin}
 use Rattle.course.specs.Course.{lentCourse}
-use Rattle.listing.specs.Rows.{courseRows}
+use Rattle.listing.specs.Rows.{rowsOn}
 use Rattle.listing.proofs.Noted.{rows-placed}
 use Rattle.lap_fit.proofs.Arrays.{long-kinds, long-numbers, read-back, most-read}
 use Rattle.lap_rows.specs.Listing.{lapRows}
@@ -62,7 +63,7 @@ same-length-6 c = search needs
 returns : tie.Need-returns
 unfolding lapRows
 returns c = let a = c .before .before .before .before .before .before .before .before .before .before .before .before .before .before .before .before .before .before .before .before .before .before .before .before .before .before .before .before .before .before .args in let p = c .before .before .before .before .before .before .before .before .before .before .before .before .before .before .before .before .before .before .before .before .before .before .before .before .before .before .before .before .before .before .pre in let r = c .before .before .before .before .before .before .before .before .before .before .before .before .before .before .before .before .before .before .before .before .read-commands .ensures in
-    placed-same _ _ _ _ _ _ _ (ap (courseRows (lapsRule (a .tolerance))) (read-back (a .s .now) (a .at) (a .n) _ _ _ _ (p .2) (p .3) (r .0) (r .1))) (rows-placed (lapsRule (a .tolerance)) refl _ _ (a .out-kinds .now) _ (a .out-nums .now) _ (a .out-steps .now) _ (rw (c .before .before .before .before .before .before .before .before .before .before .before .before .before .before .before .of-laps .ensures) at (c .before .before .before .before .before .before .before .before .fit-course-with-steps .ensures)))
+    placed-same _ _ _ _ _ _ _ (ap (rowsOn (lapsRule (a .tolerance)) origin) (read-back (a .s .now) (a .at) (a .n) _ _ _ _ (p .2) (p .3) (r .0) (r .1))) (rows-placed (lapsRule (a .tolerance)) refl origin _ _ (a .out-kinds .now) _ (a .out-nums .now) _ (a .out-steps .now) _ (rw (c .before .before .before .before .before .before .before .before .before .before .before .before .before .before .before .of-laps .ensures) at (c .before .before .before .before .before .before .before .before .fit-course-with-steps .ensures)))
 
 pub list-commands-spec : {M : Type 1} → statement M
 list-commands-spec =
