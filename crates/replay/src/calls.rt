@@ -69,6 +69,7 @@ pub fn call(
         28 => crate::thinner::retune(t, numbers, h.first, h.second, out),
         29 => crate::drawings::flatten_arc(kinds, numbers, t, bytes, out),
         30 => svg::reading::read_course(recorded, bytes),
+        31 => crate::straights::fewest_straights(numbers, t, h.first, h.second, out),
         _ => Answer::Refused(DAMAGED),
     }
 }

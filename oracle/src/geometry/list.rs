@@ -5,8 +5,8 @@
 //! |---|---|
 //! | 0 | the function: its place in `NAMES` |
 //! | 1 | the pattern of the tolerance, of a Bezier's parameter or of its resolution; 0 where there is none |
-//! | 2 | the start of a range, the step count, the depth, the lap, a live thinner's count; 1 where a tolerance is given, or arcs are fitted |
-//! | 3 | the end of a range, a live thinner's flag; of `fit_points_with_primitives` the ranges examined |
+//! | 2 | the start of a range, the step count, the depth, the lap, a live thinner's count, a budget; 1 where a tolerance is given, or arcs are fitted |
+//! | 3 | the end of a range, a live thinner's flag; of `fit_points_with_primitives` the ranges examined, of `fewest_straights` the pairs tested |
 //! | 4 | how many numbers are lent |
 //! | 5 | how many kinds |
 //! | 6 | how many bytes of a recorded file, of a text, or of the list of worst steps that a fit of points leaves |
@@ -28,10 +28,10 @@
 use super::frame::Compared;
 use super::laps::first_bytes;
 use super::lent::{Lent, Purpose};
-use super::{list_bezier, list_course, list_fit, list_flatten, list_laps, list_live, list_simplify, list_svg};
+use super::{list_bezier, list_course, list_fewest, list_fit, list_flatten, list_laps, list_live, list_simplify, list_svg};
 use std::io::{Result, Write};
 
-const NAMES: [&str; 31] = [
+const NAMES: [&str; 32] = [
     "get_midpoint_3d",
     "get_bezier_point_at",
     "split_bezier",
@@ -63,6 +63,7 @@ const NAMES: [&str; 31] = [
     "live_retune",
     "flatten_arc",
     "read_course",
+    "fewest_straights",
 ];
 
 const VALUES: [&str; 4] = ["t", "tolerance_sq", "resolution", "tolerance"];
@@ -160,7 +161,7 @@ pub fn filled(mut records: Vec<Record>, count: usize, mut drawn: impl FnMut(usiz
 type Layer = fn(usize, u64) -> Vec<Record>;
 
 /// The layers, each with its share of a list.
-const LAYERS: [(usize, Layer); 8] = [
+const LAYERS: [(usize, Layer); 9] = [
     (200, list_bezier::records),
     (100, list_simplify::records),
     (100, list_fit::records),
@@ -169,6 +170,7 @@ const LAYERS: [(usize, Layer); 8] = [
     (20, list_live::records),
     (10, list_flatten::records),
     (16, list_svg::records),
+    (10, list_fewest::records),
 ];
 
 /// Writes `count` records, layer by layer, each from the seed.

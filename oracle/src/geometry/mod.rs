@@ -30,6 +30,7 @@ pub mod lent;
 pub mod list;
 pub mod list_bezier;
 pub mod list_course;
+pub mod list_fewest;
 pub mod list_fit;
 pub mod list_flatten;
 pub mod list_laps;
