@@ -190,7 +190,7 @@ static unsigned char recorded[ROOM], fitted[ROOM], out[PZ_MOST_OUTPUT_BYTES];
 static int fit(char **words, int force)
 {
     size_t count, size = read_file(words[1], recorded);
-    uint32_t refused = rt_fit_file(recorded, size, number(words[0]), out, sizeof out, &count);
+    uint32_t refused = pz_fit_file(recorded, size, number(words[0]), out, sizeof out, &count);
     return refused ? (int)refused : write_file(words[2], force, out, count);
 }
 
@@ -200,7 +200,7 @@ static int replace(char **words, int force)
     static double nums[9 * PZ_MOST_COMMANDS];
     size_t size = read_file(words[0], recorded), fitted_size = read_file(words[1], fitted);
     size_t count, lap = lap_number(words[2]), commands = one_lap(words[3], kinds, nums);
-    uint32_t refused = rt_replace_lap(recorded, size, fitted, fitted_size, lap,
+    uint32_t refused = pz_replace_lap(recorded, size, fitted, fitted_size, lap,
         kinds, commands, nums, 9 * commands, number(words[4]), out, sizeof out, &count);
     return refused ? (int)refused : write_file(words[5], force, out, count);
 }
@@ -215,18 +215,18 @@ static void print_ends(size_t call, const double *ends, size_t handed)
 /* Plays the points and the new tolerances of standard input through the live thinner. */
 static int live(char **words)
 {
-    static pz_live thinner;
+    static pz_thinner thinner;
     static double ends[3 * PZ_LIVE_MOST_ENDS];
     char line[256];
     double found[3];
     size_t call = 0, handed = 0;
-    uint32_t refused = pz_live_start(&thinner, number(words[0]));
+    uint32_t refused = pz_thinner_start(&thinner, number(words[0]));
     while (!refused && fgets(line, sizeof line, stdin)) {
         int numbers = sscanf(line, "%lf %lf %lf", &found[0], &found[1], &found[2]);
         if (numbers == 3) {
-            refused = pz_live_feed(&thinner, found, ends, &handed);
+            refused = pz_thinner_feed(&thinner, found, ends, &handed);
         } else if (numbers == 1) {
-            refused = pz_live_retune(&thinner, found[0], ends, sizeof ends / sizeof *ends, &handed);
+            refused = pz_thinner_retune(&thinner, found[0], ends, sizeof ends / sizeof *ends, &handed);
         } else {
             fail("is no point and no tolerance", line);
         }
@@ -234,7 +234,7 @@ static int live(char **words)
         print_ends(call, ends, refused ? 0 : handed);
     }
     if (!refused) {
-        refused = pz_live_close(&thinner, ends, &handed);
+        refused = pz_thinner_close(&thinner, ends, &handed);
         print_ends(call + 1, ends, refused ? 0 : handed);
     }
     return fflush(stdout) ? fail(strerror(errno), "standard output") : (int)refused;
@@ -253,7 +253,7 @@ static int straights(char **words)
             fail("is no point", line);
         }
     }
-    uint32_t refused = rt_fewest_straights(points, 3 * n, number(words[0]), strtoull(words[1], NULL, 10),
+    uint32_t refused = pz_fewest_straights(points, 3 * n, number(words[0]), strtoull(words[1], NULL, 10),
         ends, sizeof ends / sizeof *ends, &count, &tested, &bound);
     if (!refused) {
         printf("%zu %llu %zu\n", count, (unsigned long long)tested, bound);
@@ -315,7 +315,7 @@ static uint32_t draw_command(struct grown *file, const char *name, double tolera
     size_t count = 0;
     read_command(at, &kind, nums);
     if (kind == PZ_ARC) {
-        uint32_t refused = rt_flatten_arc(kind, nums, 9, end[0], end[1], end[2], tolerance,
+        uint32_t refused = pz_flatten_arc(kind, nums, 9, end[0], end[1], end[2], tolerance,
             kinds, PZ_MOST_LINES, lines, 9 * PZ_MOST_LINES, &count);
         if (refused) {
             return refused;
@@ -358,7 +358,7 @@ static int lines(char **words, int force)
 static int read_course(char **words, int force)
 {
     size_t count, size = read_file(words[0], recorded);
-    uint32_t refused = rt_read_course(recorded, size, out, sizeof out, &count);
+    uint32_t refused = pz_read_course(recorded, size, out, sizeof out, &count);
     return refused ? (int)refused : write_file(words[1], force, out, count);
 }
 

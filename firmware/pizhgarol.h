@@ -27,16 +27,16 @@
    most often (2,048 points, or 800 commands, each cut taking one point off): thinning recurses as deep as it cuts, and so
    does the cut of the fewest straights (256 points); a fit
    does not. And the greatest circle drawn by Lines. firmware/run prints what it finds. On x86-64 Linux it was, in bytes, for the archive that this header came with:
-     rt_simplify_polyline            231328 bytes
-     rt_simplify_polyline_3d         231328 bytes
-     rt_simplify_data                117200 bytes
-     rt_fit_points_with_primitives     4608 bytes
-     rt_fit_arcs                     113728 bytes
-     rt_fit_file                     230576 bytes
-     rt_replace_lap                  230512 bytes
-     rt_flatten_arc                    4992 bytes
-     rt_read_course                     696 bytes
-     rt_fewest_straights              41976 bytes
+     pz_simplify_polyline            231328 bytes
+     pz_simplify_polyline_3d         231328 bytes
+     pz_simplify_data                117200 bytes
+     pz_fit_points_with_primitives     4608 bytes
+     pz_fit_arcs                     113728 bytes
+     pz_fit_file                     230576 bytes
+     pz_replace_lap                  230512 bytes
+     pz_flatten_arc                    4992 bytes
+     pz_read_course                     696 bytes
+     pz_fewest_straights              41976 bytes
    No input recurses deeper, since each cut takes a point off. What the innermost call takes beside that was measured on
    these zigzags alone, and bytes that a call reserves but never writes do not show: leave a margin of some KiB. */
 #ifndef PIZHGAROL_H
@@ -61,7 +61,7 @@ extern "C" {
 #define PZ_TOO_MUCH 8u      /* the most of a course or a replacement is above 800 */
 #define PZ_NO_ROOM 9u       /* the lent output holds less than the most */
 #define PZ_CLOSED 10u       /* a call on a live thinner that was closed */
-#define PZ_NOT_DRAWABLE 11u /* rt_flatten_arc alone, before 8 and 9: see there */
+#define PZ_NOT_DRAWABLE 11u /* pz_flatten_arc alone, before 8 and 9: see there */
 #define PZ_BAD_TEXT 14u     /* path data that breaks its rules */
 
 /* Kinds of a command. */
@@ -88,14 +88,14 @@ static inline size_t pz_file_bytes(size_t laps, size_t commands)
 /* Fits each lap of a recorded file; *count is the fitted file's bytes. This call, the replacement of a lap and the fit of a
    course measure from the segment between two points: the far turn of a run out and back stays. Every other call measures from
    the endless line through them. */
-uint32_t rt_fit_file(
+uint32_t pz_fit_file(
     const uint8_t *recorded, size_t recorded_bytes,
     double tolerance,
     uint8_t *out, size_t out_bytes, size_t *count);
 
 /* Replaces lap `lap`, from 1: `out` gets the fit of the new commands, and of the fitted file every other lap's body as it
-   stands. The recorded file is the one that was fitted. Distances are to the segment, as in rt_fit_file. */
-uint32_t rt_replace_lap(
+   stands. The recorded file is the one that was fitted. Distances are to the segment, as in pz_fit_file. */
+uint32_t pz_replace_lap(
     const uint8_t *recorded, size_t recorded_bytes,
     const uint8_t *fitted, size_t fitted_bytes,
     size_t lap,
@@ -107,33 +107,33 @@ uint32_t rt_replace_lap(
    ranges of points the fit looked at, for planning the battery: 0 below two points, else 2 * commands - 1. `worst` gets
    one number a command, for marking a bend on the screen: for an Arc the index, in the points, of the one at which the
    first step starts that is farthest from it, 0 where each step lies on it; for a Line 0. */
-uint32_t rt_fit_points_with_primitives(
+uint32_t pz_fit_points_with_primitives(
     const double *points, size_t points_length,
     double tolerance,
     uint8_t *kinds, size_t kinds_length, double *nums, size_t nums_length, uint32_t *worst, size_t worst_length,
     size_t *count, size_t *ranges);
 
 /* Fits a course: a list of commands, which needs no Move; *count is the commands. Arcs stay as they are. Distances are to the
-   segment, as in rt_fit_file. */
-uint32_t rt_fit_arcs(
+   segment, as in pz_fit_file. */
+uint32_t pz_fit_arcs(
     const uint8_t *kinds, size_t kinds_length, const double *nums, size_t nums_length,
     double tolerance,
     uint8_t *out_kinds, size_t out_kinds_length, double *out_nums, size_t out_nums_length, size_t *count);
 
 /* Thins points in the plane (x, y); *count is the points. */
-uint32_t rt_simplify_polyline(
+uint32_t pz_simplify_polyline(
     const double *points, size_t points_length,
     double tolerance,
     double *out, size_t out_length, size_t *count);
 
 /* Thins points in space (x, y, z), by their distance in x and y; *count is the points. */
-uint32_t rt_simplify_polyline_3d(
+uint32_t pz_simplify_polyline_3d(
     const double *points, size_t points_length,
     double tolerance,
     double *out, size_t out_length, size_t *count);
 
 /* Thins commands by their ends, keeping every Move; *count is the commands. */
-uint32_t rt_simplify_data(
+uint32_t pz_simplify_data(
     const uint8_t *kinds, size_t kinds_length, const double *nums, size_t nums_length,
     double tolerance,
     uint8_t *out_kinds, size_t out_kinds_length, double *out_nums, size_t out_nums_length, size_t *count);
@@ -152,20 +152,20 @@ typedef struct {
     double points[PZ_LIVE_NUMBERS];
     size_t count;
     uint32_t closed;
-} pz_live;
+} pz_thinner;
 
 /* Starts a thinner: writes the whole state, with no point fed. PZ_BAD_TOLERANCE alone. */
-uint32_t rt_live_start(double tolerance, double *kept, double *points, size_t *count, uint32_t *closed);
+uint32_t pz_live_start(double tolerance, double *kept, double *points, size_t *count, uint32_t *closed);
 
 /* Feeds a point, three numbers. Where the line from the anchor to it is at or above the tolerance from a point between, or 64 points
    are held already, the previous point is handed out: *handed is 1 and `end` has its three numbers; else *handed is 0 and `end`
    stays. */
-uint32_t rt_live_feed(
+uint32_t pz_live_feed(
     double tolerance, double *points, size_t *count, uint32_t closed,
     const double *point, double *end, size_t *handed);
 
 /* Closes the thinner: the last point fed is handed out, save where it is the only one; *closed is 1 then. */
-uint32_t rt_live_close(
+uint32_t pz_live_close(
     double tolerance, const double *points, size_t count, uint32_t *closed,
     double *end, size_t *handed);
 
@@ -173,28 +173,28 @@ uint32_t rt_live_close(
    to `out`, three numbers each, and their count to *handed; ends handed out before stand. Refusals: PZ_NOT_WHOLE (out not whole
    points), PZ_TOO_MANY, PZ_BAD_NUMBER, PZ_BAD_TOLERANCE (either tolerance), PZ_CLOSED, PZ_NO_ROOM (out below 63 points, whatever is
    held). */
-uint32_t rt_live_retune(
+uint32_t pz_live_retune(
     double finer, double *tolerance, double *points, size_t *count, uint32_t closed,
     double *out, size_t out_length, size_t *handed);
 
-static inline uint32_t pz_live_start(pz_live *s, double tolerance)
+static inline uint32_t pz_thinner_start(pz_thinner *s, double tolerance)
 {
-    return rt_live_start(tolerance, &s->tolerance, s->points, &s->count, &s->closed);
+    return pz_live_start(tolerance, &s->tolerance, s->points, &s->count, &s->closed);
 }
 
-static inline uint32_t pz_live_feed(pz_live *s, const double point[3], double end[3], size_t *handed)
+static inline uint32_t pz_thinner_feed(pz_thinner *s, const double point[3], double end[3], size_t *handed)
 {
-    return rt_live_feed(s->tolerance, s->points, &s->count, s->closed, point, end, handed);
+    return pz_live_feed(s->tolerance, s->points, &s->count, s->closed, point, end, handed);
 }
 
-static inline uint32_t pz_live_retune(pz_live *s, double finer, double *out, size_t out_length, size_t *handed)
+static inline uint32_t pz_thinner_retune(pz_thinner *s, double finer, double *out, size_t out_length, size_t *handed)
 {
-    return rt_live_retune(finer, &s->tolerance, s->points, &s->count, s->closed, out, out_length, handed);
+    return pz_live_retune(finer, &s->tolerance, s->points, &s->count, s->closed, out, out_length, handed);
 }
 
-static inline uint32_t pz_live_close(pz_live *s, double end[3], size_t *handed)
+static inline uint32_t pz_thinner_close(pz_thinner *s, double end[3], size_t *handed)
 {
-    return rt_live_close(s->tolerance, s->points, s->count, &s->closed, end, handed);
+    return pz_live_close(s->tolerance, s->points, s->count, &s->closed, end, handed);
 }
 
 /* An Arc drawn by at most so many Lines. */
@@ -206,7 +206,7 @@ static inline uint32_t pz_live_close(pz_live *s, double end[3], size_t *handed)
    output must have room for PZ_MOST_LINES kinds, and nine times as many numbers (294,912 bytes). PZ_NOT_DRAWABLE: the
    command is no Arc, its normal is neither (0, 0, 1) nor (0, 0, -1), its offset is above 1,000,000 in a coordinate, the
    start or the end is less than 1e-9 from the centre, or their distances from it differ by the tolerance or more. */
-uint32_t rt_flatten_arc(
+uint32_t pz_flatten_arc(
     uint8_t kind, const double *command, size_t command_length,
     double x, double y, double z,
     double tolerance,
@@ -217,10 +217,10 @@ uint32_t rt_flatten_arc(
    three decimals; single spaces stand between all items, and nothing else is read. A number is its thousandths divided by
    1000, z is 0, each M opens a lap, and no text (0 bytes) is the file of no laps. Refusals, in this order: PZ_TOO_MANY (a text
    above PZ_MOST_TEXT_BYTES), PZ_BAD_TEXT, PZ_TOO_MANY (above 64 laps or 800 commands), PZ_BAD_NUMBER, PZ_NO_ROOM. What is read
-   is a recorded file: rt_fit_file refuses it by none of 1 to 5. */
+   is a recorded file: pz_fit_file refuses it by none of 1 to 5. */
 #define PZ_MOST_TEXT_BYTES 65536u
 
-uint32_t rt_read_course(
+uint32_t pz_read_course(
     const uint8_t *text, size_t text_bytes,
     uint8_t *out, size_t out_bytes, size_t *count);
 
@@ -232,7 +232,7 @@ uint32_t rt_read_course(
    PZ_MOST_STRAIGHT_POINTS), PZ_BAD_NUMBER, PZ_BAD_TOLERANCE, PZ_NO_ROOM (out below n - 1 points). */
 #define PZ_MOST_STRAIGHT_POINTS 256u
 
-uint32_t rt_fewest_straights(
+uint32_t pz_fewest_straights(
     const double *points, size_t points_length, double tolerance, uint64_t budget,
     double *out, size_t out_length, size_t *count, uint64_t *tested, size_t *bound);
 

@@ -44,7 +44,7 @@ static void head(void)
         memcpy(file + 17 + PZ_COMMAND_BYTES * i, nums + 9 * i, 72);
     }
     file_size = pz_file_bytes(1, PZ_MOST_COMMANDS);
-    rt_fit_file(file, file_size, 0.5, fitted, sizeof fitted, &fitted_size);
+    pz_fit_file(file, file_size, 0.5, fitted, sizeof fitted, &fitted_size);
 }
 
 /* Path data of a Move and as many curves as a course may have. */
@@ -60,46 +60,46 @@ static void *nothing(void *a) { return a; }
 
 static void *thin_plane(void *a)
 {
-    answer = rt_simplify_polyline(planar, 2 * PZ_MOST_POINTS, 0.5, out_nums, 2 * PZ_MOST_POINTS, &count);
+    answer = pz_simplify_polyline(planar, 2 * PZ_MOST_POINTS, 0.5, out_nums, 2 * PZ_MOST_POINTS, &count);
     return a;
 }
 
 static void *thin(void *a)
 {
-    answer = rt_simplify_polyline_3d(points, 3 * PZ_MOST_POINTS, 0.5, out_nums, 3 * PZ_MOST_POINTS, &count);
+    answer = pz_simplify_polyline_3d(points, 3 * PZ_MOST_POINTS, 0.5, out_nums, 3 * PZ_MOST_POINTS, &count);
     return a;
 }
 
 static void *thin_data(void *a)
 {
-    answer = rt_simplify_data(kinds, PZ_MOST_COMMANDS, nums, 9 * PZ_MOST_COMMANDS, 0.5,
+    answer = pz_simplify_data(kinds, PZ_MOST_COMMANDS, nums, 9 * PZ_MOST_COMMANDS, 0.5,
         out_kinds, PZ_MOST_COMMANDS, out_nums, 9 * PZ_MOST_COMMANDS, &count);
     return a;
 }
 
 static void *fit_points(void *a)
 {
-    answer = rt_fit_points_with_primitives(points, 3 * PZ_MOST_POINTS, 0.5,
+    answer = pz_fit_points_with_primitives(points, 3 * PZ_MOST_POINTS, 0.5,
         out_kinds, PZ_MOST_POINTS, out_nums, 9 * PZ_MOST_POINTS, worst, PZ_MOST_POINTS, &count, &ranges);
     return a;
 }
 
 static void *fit_course(void *a)
 {
-    answer = rt_fit_arcs(kinds, PZ_MOST_COMMANDS, nums, 9 * PZ_MOST_COMMANDS, 0.5,
+    answer = pz_fit_arcs(kinds, PZ_MOST_COMMANDS, nums, 9 * PZ_MOST_COMMANDS, 0.5,
         out_kinds, PZ_MOST_COMMANDS, out_nums, 9 * PZ_MOST_COMMANDS, &count);
     return a;
 }
 
 static void *fit_file(void *a)
 {
-    answer = rt_fit_file(file, file_size, 0.5, out, sizeof out, &count);
+    answer = pz_fit_file(file, file_size, 0.5, out, sizeof out, &count);
     return a;
 }
 
 static void *replace(void *a)
 {
-    answer = rt_replace_lap(file, file_size, fitted, fitted_size, 1,
+    answer = pz_replace_lap(file, file_size, fitted, fitted_size, 1,
         kinds, PZ_MOST_COMMANDS, nums, 9 * PZ_MOST_COMMANDS, 0.5, out, sizeof out, &count);
     return a;
 }
@@ -110,14 +110,14 @@ static void *draw_arc(void *a)
     static const double circle[9] = {1e6, 0, 0, -1e6, 0, 0, 0, 0, 1};
     static uint8_t line_kinds[PZ_MOST_LINES];
     static double line_nums[9 * PZ_MOST_LINES];
-    answer = rt_flatten_arc(PZ_ARC, circle, 9, 1e6, 0, 0, 0.001,
+    answer = pz_flatten_arc(PZ_ARC, circle, 9, 1e6, 0, 0, 0.001,
         line_kinds, PZ_MOST_LINES, line_nums, 9 * PZ_MOST_LINES, &count);
     return a;
 }
 
 static void *read_course(void *a)
 {
-    answer = rt_read_course((const uint8_t *)text, text_size, out, sizeof out, &count);
+    answer = pz_read_course((const uint8_t *)text, text_size, out, sizeof out, &count);
     return a;
 }
 
@@ -125,7 +125,7 @@ static void *read_course(void *a)
 static void *find_straights(void *a)
 {
     uint64_t tested;
-    answer = rt_fewest_straights(points, 3 * PZ_MOST_STRAIGHT_POINTS, 0.5, 0, out_nums, 3 * PZ_MOST_STRAIGHT_POINTS, &count, &tested, &ranges);
+    answer = pz_fewest_straights(points, 3 * PZ_MOST_STRAIGHT_POINTS, 0.5, 0, out_nums, 3 * PZ_MOST_STRAIGHT_POINTS, &count, &tested, &ranges);
     return a;
 }
 
@@ -173,15 +173,15 @@ static int row(const char *name, void *(*call)(void *))
 
 int main(void)
 {
-    int missing = row("rt_simplify_polyline", thin_plane);
-    missing |= row("rt_simplify_polyline_3d", thin);
-    missing |= row("rt_simplify_data", thin_data);
-    missing |= row("rt_fit_points_with_primitives", fit_points);
-    missing |= row("rt_fit_arcs", fit_course);
-    missing |= row("rt_fit_file", fit_file);
-    missing |= row("rt_replace_lap", replace);
-    missing |= row("rt_flatten_arc", draw_arc);
-    missing |= row("rt_read_course", read_course);
-    missing |= row("rt_fewest_straights", find_straights);
+    int missing = row("pz_simplify_polyline", thin_plane);
+    missing |= row("pz_simplify_polyline_3d", thin);
+    missing |= row("pz_simplify_data", thin_data);
+    missing |= row("pz_fit_points_with_primitives", fit_points);
+    missing |= row("pz_fit_arcs", fit_course);
+    missing |= row("pz_fit_file", fit_file);
+    missing |= row("pz_replace_lap", replace);
+    missing |= row("pz_flatten_arc", draw_arc);
+    missing |= row("pz_read_course", read_course);
+    missing |= row("pz_fewest_straights", find_straights);
     return missing;
 }

@@ -39,22 +39,22 @@ static void test_points(void)
     double *nums = lend(144), *points = lend_input(bend, sizeof bend);
     size_t *count = lend(sizeof *count), *ranges = lend(sizeof *ranges);
     uint32_t *worst = lend(8);
-    uint32_t r = rt_fit_points_with_primitives(points, 9, 0.3, kinds, 2, nums, 18, worst, 1, count, ranges);
+    uint32_t r = pz_fit_points_with_primitives(points, 9, 0.3, kinds, 2, nums, 18, worst, 1, count, ranges);
     check(r == PZ_NO_ROOM && kept(worst, 8, 0) && kept(kinds, 2, 0), "a list of worst steps that is too short");
-    r = rt_fit_points_with_primitives(points, 9, 0.3, kinds, 2, nums, 18, worst, 2, count, ranges);
+    r = pz_fit_points_with_primitives(points, 9, 0.3, kinds, 2, nums, 18, worst, 2, count, ranges);
     const double arc[9] = {5, 0, 0, -3, -4, 0, 0, 0, -1};
     check(r == PZ_DONE && *count == 1 && kinds[0] == PZ_ARC, "0.3 gives one Arc");
     check(*ranges == 1, "one piece, one range");
     check(worst[0] == 1 && kept(worst, 8, 4), "its second step is the worst, and no more is told");
     check(memcmp(nums, arc, sizeof arc) == 0, "the Arc's end, offset and normal");
     check(kept(kinds, 2, 1) && kept(nums, 144, 72), "no more than one command is written");
-    r = rt_fit_points_with_primitives(points, 9, 0.25, kinds, 2, nums, 18, worst, 2, count, ranges);
+    r = pz_fit_points_with_primitives(points, 9, 0.25, kinds, 2, nums, 18, worst, 2, count, ranges);
     check(r == PZ_DONE && *count == 2 && kinds[0] == PZ_LINE && kinds[1] == PZ_LINE, "0.25 gives two Lines");
     check(*ranges == 3, "a cut and two pieces are three ranges");
     check(worst[0] == 0 && worst[1] == 0 && kept(worst, 8, 8), "a Line has no worst step");
     worst[0] = worst[1] = 77;
     check(kept(kinds, 2, 2) && kept(nums, 144, 144) && kept(count, 8, 8), "nothing beside the lent commands is touched");
-    r = rt_fit_points_with_primitives(points, 8, 0.25, kinds, 2, nums, 18, worst, 2, count, ranges);
+    r = pz_fit_points_with_primitives(points, 8, 0.25, kinds, 2, nums, 18, worst, 2, count, ranges);
     check(r == PZ_NOT_WHOLE && *count == 2 && *ranges == 3, "eight numbers are not whole points, and nothing is told");
     check(worst[0] == 77 && worst[1] == 77, "no worst step either");
     give_back(kinds, 2);
@@ -71,9 +71,9 @@ static void test_thinning(void)
     double *out = lend(72), *flat = lend(48);
     double *in = lend_input(line, sizeof line), *in_plane = lend_input(plane, sizeof plane);
     size_t count = 77;
-    uint32_t r = rt_simplify_polyline_3d(in, 9, 0.5, out, 9, &count);
+    uint32_t r = pz_simplify_polyline_3d(in, 9, 0.5, out, 9, &count);
     check(r == PZ_DONE && count == 2 && out[3] == 20 && kept(out, 72, 48), "a straight is thinned to its ends");
-    r = rt_simplify_polyline(in_plane, 6, 0.5, flat, 6, &count);
+    r = pz_simplify_polyline(in_plane, 6, 0.5, flat, 6, &count);
     check(r == PZ_DONE && count == 2 && flat[2] == 20 && kept(flat, 48, 32), "a straight in the plane too");
     give_back(out, 72);
     give_back(flat, 48);
@@ -87,14 +87,14 @@ static void test_commands(void)
     uint8_t *kinds = lend(3), *in_kinds = lend_input(corner_kinds, 3);
     double *nums = lend(216), *in_nums = lend_input(corner_nums, 216);
     size_t count = 77;
-    uint32_t r = rt_fit_arcs(in_kinds, 3, in_nums, 27, 0.5, kinds, 2, nums, 27, &count);
+    uint32_t r = pz_fit_arcs(in_kinds, 3, in_nums, 27, 0.5, kinds, 2, nums, 27, &count);
     check(r == PZ_NO_ROOM && count == 77 && kept(kinds, 3, 0) && kept(nums, 216, 0), "no room for the most of a fit");
-    r = rt_simplify_data(in_kinds, 3, in_nums, 27, 0.5, kinds, 3, nums, 18, &count);
+    r = pz_simplify_data(in_kinds, 3, in_nums, 27, 0.5, kinds, 3, nums, 18, &count);
     check(r == PZ_NO_ROOM && count == 77 && kept(kinds, 3, 0) && kept(nums, 216, 0), "no room for the most of thinning");
-    r = rt_simplify_data(in_kinds, 3, in_nums, 27, 0.5, kinds, 3, nums, 27, &count);
+    r = pz_simplify_data(in_kinds, 3, in_nums, 27, 0.5, kinds, 3, nums, 27, &count);
     check(r == PZ_DONE && count == 3 && memcmp(nums, corner_nums, 216) == 0, "a corner's commands are all kept");
     memset(nums, MARK, 216);
-    r = rt_fit_arcs(in_kinds, 3, in_nums, 27, 0.5, kinds, 3, nums, 27, &count);
+    r = pz_fit_arcs(in_kinds, 3, in_nums, 27, 0.5, kinds, 3, nums, 27, &count);
     check(r == PZ_DONE && count == 3 && memcmp(kinds, corner_kinds, 3) == 0, "a corner is a Move and two Lines");
     check(memcmp(nums, corner_nums, 216) == 0 && kept(nums, 216, 216) && kept(kinds, 3, 3), "and no byte more");
     give_back(kinds, 3);
@@ -108,7 +108,7 @@ static void refused(uint32_t number, const unsigned char *file, size_t size, dou
 {
     unsigned char *out = lend(room), *in = lend_input(file, size);
     size_t count = 77;
-    check(rt_fit_file(in, size, tolerance, out, room, &count) == number, what);
+    check(pz_fit_file(in, size, tolerance, out, room, &count) == number, what);
     check(kept(out, room, 0) && count == 77, "a refusal changes nothing");
     give_back(out, room);
     give_back(in, size);
@@ -144,11 +144,11 @@ static void test_replacement(void)
     size_t size = write_file(recorded, 2, corner_kinds, corner_nums, 3);
     size_t room = pz_file_bytes(2, 6), count = 77, fit_size;
     unsigned char *out = lend(room), *in = lend_input(recorded, size);
-    uint32_t r = rt_fit_file(in, size, 0.3, fitted, sizeof fitted, &fit_size);
+    uint32_t r = pz_fit_file(in, size, 0.3, fitted, sizeof fitted, &fit_size);
     check(r == PZ_DONE && fit_size == size, "the fit of a file");
-    r = rt_replace_lap(in, size, fitted, fit_size, 0, corner_kinds, 3, nums, 27, 0.3, out, room, &count);
+    r = pz_replace_lap(in, size, fitted, fit_size, 0, corner_kinds, 3, nums, 27, 0.3, out, room, &count);
     check(r == PZ_NO_SUCH && count == 77 && kept(out, room, 0), "lap 0 is refused");
-    r = rt_replace_lap(in, size, fitted, fit_size, 2, corner_kinds, 3, nums, 27, 0.3, out, room, &count);
+    r = pz_replace_lap(in, size, fitted, fit_size, 2, corner_kinds, 3, nums, 27, 0.3, out, room, &count);
     check(r == PZ_DONE && count == pz_file_bytes(2, 5), "lap 2 becomes a Move and an Arc");
     check(memcmp(out + 24, fitted + 24, 3 * PZ_COMMAND_BYTES) == 0, "lap 1 stays as it was fitted");
     check(out[24 + 4 * PZ_COMMAND_BYTES] == PZ_ARC && kept(out, room, count), "and nothing past the file is touched");
@@ -163,11 +163,11 @@ static void test_fresh(void)
     size_t fit_size, fresh_size, swapped_size;
     const double nums[27] = {3, 4, [9] = 4, 3, [18] = 5, 0};
     size_t size = write_file(recorded, 1, corner_kinds, corner_nums, 3);
-    rt_fit_file(recorded, size, 0.3, fitted, sizeof fitted, &fit_size);
-    rt_replace_lap(recorded, size, fitted, fit_size, 1, corner_kinds, 3, nums, 27, 0.3,
+    pz_fit_file(recorded, size, 0.3, fitted, sizeof fitted, &fit_size);
+    pz_replace_lap(recorded, size, fitted, fit_size, 1, corner_kinds, 3, nums, 27, 0.3,
         swapped, sizeof swapped, &swapped_size);
     size = write_file(recorded, 1, corner_kinds, nums, 3);
-    rt_fit_file(recorded, size, 0.3, fresh, sizeof fresh, &fresh_size);
+    pz_fit_file(recorded, size, 0.3, fresh, sizeof fresh, &fresh_size);
     check(fresh_size == swapped_size && memcmp(fresh, swapped, fresh_size) == 0, "replacement and fresh fit agree");
 }
 
@@ -185,7 +185,7 @@ static void test_largest(void)
     }
     size_t size = write_file(file, 64, kinds, nums, 12), room = pz_file_bytes(64, 768);
     unsigned char *out = lend(room), *in = lend_input(file, size);
-    check(rt_fit_file(in, size, 0.5, out, room, &count) == PZ_DONE, "64 laps of 12 commands");
+    check(pz_fit_file(in, size, 0.5, out, room, &count) == PZ_DONE, "64 laps of 12 commands");
     check(count == size && memcmp(out, file, size) == 0 && kept(out, room, count), "a zigzag fits to itself");
     check(pz_file_bytes(64, 800) == PZ_MOST_OUTPUT_BYTES, "the largest output");
     give_back(out, room);

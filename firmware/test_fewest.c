@@ -21,7 +21,7 @@ static uint32_t find(const double *points, size_t length, double tolerance, uint
     double *lent = lend_input(points, 8 * length), *out = lend(8 * room);
     size_t *count = lend(sizeof *count), *bound = lend(sizeof *bound);
     uint64_t *tested = lend(sizeof *tested);
-    uint32_t answer = rt_fewest_straights(lent, length, tolerance, budget, out, room, count, tested, bound);
+    uint32_t answer = pz_fewest_straights(lent, length, tolerance, budget, out, room, count, tested, bound);
     check(kept(out, 8 * room, 24 * lines), "behind the ends all is as it was");
     check(lines ? *count == lines : kept(count, sizeof *count, 0) && kept(tested, sizeof *tested, 0) && kept(bound, sizeof *bound, 0),
         "the count of Lines, or none of the three");

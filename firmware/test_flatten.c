@@ -16,7 +16,7 @@ static uint32_t draw(uint8_t kind, const double *command, size_t length, double 
     double *nums = lend(8 * nums_length), *lent = lend_input(command, 8 * length);
     size_t *count = lend(sizeof *count);
     uint32_t answer =
-        rt_flatten_arc(kind, lent, length, 5, 0, 0, tolerance, kinds, kinds_length, nums, nums_length, count);
+        pz_flatten_arc(kind, lent, length, 5, 0, 0, tolerance, kinds, kinds_length, nums, nums_length, count);
     check(kept(kinds, kinds_length, lines) && kept(nums, 8 * nums_length, 72 * lines), "behind the Lines all is as it was");
     check(lines ? *count == lines : kept(count, sizeof *count, 0), "the count of Lines, or none");
     for (size_t i = 0; i < lines; i++) {

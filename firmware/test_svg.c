@@ -1,4 +1,4 @@
-/* Calls rt_read_course through pizhgarol.h: files, refusals in their order, and that only lent memory is touched. What is lent
+/* Calls pz_read_course through pizhgarol.h: files, refusals in their order, and that only lent memory is touched. What is lent
    is allocated to the byte, so that valgrind sees a read or a write past it; outputs hold a mark in each byte, and guard bytes
    stand behind them. */
 #include <stdio.h>
@@ -44,7 +44,7 @@ static struct read read_bytes(const char *text, size_t size, size_t room, const 
     uint8_t *copy = malloc(size ? size : 1);
     struct read r = { 0, UNTOUCHED, lend(room) };
     memcpy(copy, text, size);
-    r.answer = rt_read_course(copy, size, r.out, room, &r.count);
+    r.answer = pz_read_course(copy, size, r.out, room, &r.count);
     check(!memcmp(copy, text, size), what);
     check((r.answer == PZ_DONE) != (r.count == UNTOUCHED), what);
     for (size_t i = r.answer == PZ_DONE ? r.count : 0; i < room + GUARD; i++) {
@@ -169,7 +169,7 @@ static void fits_what_was_read(void)
     struct read r = read_bytes(text, strlen(text), PZ_MOST_OUTPUT_BYTES, text);
     uint8_t *fitted = lend(PZ_MOST_OUTPUT_BYTES);
     size_t count = 0;
-    check(rt_fit_file(r.out, r.count, 0.5, fitted, PZ_MOST_OUTPUT_BYTES, &count) == PZ_DONE, "the fit of a course that was read");
+    check(pz_fit_file(r.out, r.count, 0.5, fitted, PZ_MOST_OUTPUT_BYTES, &count) == PZ_DONE, "the fit of a course that was read");
     check(count == pz_file_bytes(1, fitted[12]) && !memcmp(fitted, "LAPS\1\0\0\0\20\0\0\0", 12), "its bytes");
     free(r.out);
     free(fitted);

@@ -2,11 +2,11 @@
 use std::arch::asm;
 
 unsafe extern "C" {
-    pub safe fn rt_sqrt(x: f64) -> f64;
-    pub safe fn rt_ceil(x: f64) -> f64;
-    pub safe fn rt_abs(x: f64) -> f64;
-    pub safe fn rt_max(a: f64, b: f64) -> f64;
-    pub safe fn rt_clamp(x: f64, least: f64, most: f64) -> f64;
+    pub safe fn pz_sqrt(x: f64) -> f64;
+    pub safe fn pz_ceil(x: f64) -> f64;
+    pub safe fn pz_abs(x: f64) -> f64;
+    pub safe fn pz_max(a: f64, b: f64) -> f64;
+    pub safe fn pz_clamp(x: f64, least: f64, most: f64) -> f64;
 }
 
 /// The machine's root: one instruction and the return.

@@ -6,7 +6,7 @@ ghost use Rattle.exports.specs.Plain.{planePoint, Told};
 
 // Whether points go clockwise round a centre.
 #[no_mangle]
-pub extern "C" fn rt_is_arc_clockwise(points: &[f64], cx: f64, cy: f64, clockwise: &mut bool) -> u32
+pub extern "C" fn pz_is_arc_clockwise(points: &[f64], cx: f64, cy: f64, clockwise: &mut bool) -> u32
     ensures { λ r. ⌜ Told (λ b. b) (directionCall (now (points .entry)) (planePoint cx cy)) (now (clockwise .entry)) (now (clockwise .exit)) r ⌝ }
 {
     let center = Point { x: cx, y: cy };

@@ -22,7 +22,7 @@ ghost use Rattle.exports.specs.Plain.{planePoint, point3, eight, sixteen
 
 // The planePoint at t of a curve in the plane.
 #[no_mangle]
-pub extern "C" fn rt_get_bezier_point_at(
+pub extern "C" fn pz_get_bezier_point_at(
     p0x: f64,
     p0y: f64,
     c1x: f64,
@@ -63,7 +63,7 @@ fn put_curve(out: &mut [f64], at: usize, q: CubicBezier)
 
 // The two parts of a curve at t.
 #[no_mangle]
-pub extern "C" fn rt_split_bezier(
+pub extern "C" fn pz_split_bezier(
     p0x: f64,
     p0y: f64,
     c1x: f64,
@@ -94,7 +94,7 @@ pub extern "C" fn rt_split_bezier(
 
 // Whether a curve is flat enough.
 #[no_mangle]
-pub extern "C" fn rt_is_bezier_flat(
+pub extern "C" fn pz_is_bezier_flat(
     p0x: f64,
     p0y: f64,
     c1x: f64,
@@ -124,7 +124,7 @@ pub extern "C" fn rt_is_bezier_flat(
 
 // A curve as steps of equal parameter.
 #[no_mangle]
-pub extern "C" fn rt_linearize_bezier(
+pub extern "C" fn pz_linearize_bezier(
     p0x: f64,
     p0y: f64,
     p0z: f64,
@@ -169,7 +169,7 @@ pub extern "C" fn rt_linearize_bezier(
 
 // A curve from a command's numbers, as steps of the resolution.
 #[no_mangle]
-pub extern "C" fn rt_linearize_bezier_from_params(
+pub extern "C" fn pz_linearize_bezier_from_params(
     ex: f64,
     ey: f64,
     ez: f64,
@@ -214,7 +214,7 @@ pub extern "C" fn rt_linearize_bezier_from_params(
 
 // A curve in the plane as the ends of flat parts.
 #[no_mangle]
-pub extern "C" fn rt_linearize_bezier_adaptive(
+pub extern "C" fn pz_linearize_bezier_adaptive(
     p0x: f64,
     p0y: f64,
     c1x: f64,
@@ -258,7 +258,7 @@ fn tolerance_by(given: bool, t: f64) -> Tolerance
 
 // A curve in space as the ends of flat parts.
 #[no_mangle]
-pub extern "C" fn rt_linearize_bezier_segment(
+pub extern "C" fn pz_linearize_bezier_segment(
     p0x: f64,
     p0y: f64,
     p0z: f64,
@@ -305,7 +305,7 @@ pub extern "C" fn rt_linearize_bezier_segment(
 
 // The curve fitted to points in the plane, if there is one.
 #[no_mangle]
-pub extern "C" fn rt_fit_cubic_bezier(
+pub extern "C" fn pz_fit_cubic_bezier(
     points: &[f64],
     found: &mut bool,
     answer: &mut [f64; 8],

@@ -14,7 +14,7 @@ ghost use Rattle.exports.specs.Plain.{planePoint, point3, isFound, throu
 
 // Whether points lie on a straight line.
 #[no_mangle]
-pub extern "C" fn rt_are_points_collinear_3d(
+pub extern "C" fn pz_are_points_collinear_3d(
     points: &[f64],
     tolerance: f64,
     collinear: &mut bool,
@@ -33,7 +33,7 @@ pub extern "C" fn rt_are_points_collinear_3d(
 
 // The circle through three points, if there is one: its centre and its radius.
 #[no_mangle]
-pub extern "C" fn rt_fit_circle_to_3_points(
+pub extern "C" fn pz_fit_circle_to_3_points(
     p1x: f64,
     p1y: f64,
     p1z: f64,
@@ -86,7 +86,7 @@ pub extern "C" fn rt_fit_circle_to_3_points(
 
 // The circle of least squares, if there is one: its centre, its radius and its greatest error.
 #[no_mangle]
-pub extern "C" fn rt_fit_circle_to_points_3d(
+pub extern "C" fn pz_fit_circle_to_points_3d(
     points: &[f64],
     found: &mut bool,
     answer: &mut [f64; 4],
@@ -120,7 +120,7 @@ pub extern "C" fn rt_fit_circle_to_points_3d(
 
 // A centre moved to the bisector of the chord from p1 to p2.
 #[no_mangle]
-pub extern "C" fn rt_project_circle_center_to_bisector(
+pub extern "C" fn pz_project_circle_center_to_bisector(
     p1x: f64,
     p1y: f64,
     p1z: f64,

@@ -6,7 +6,7 @@ ghost use Rattle.exports.specs.Plain.{ListedCommands};
 
 // Fits the chains of a course.
 #[no_mangle]
-pub extern "C" fn rt_fit_arcs(
+pub extern "C" fn pz_fit_arcs(
     kinds: &[u8],
     nums: &[f64],
     tolerance: f64,
@@ -22,7 +22,7 @@ pub extern "C" fn rt_fit_arcs(
 
 // Thins or fits the chains of Lines of a path.
 #[no_mangle]
-pub extern "C" fn rt_optimize_path_from_array(
+pub extern "C" fn pz_optimize_path_from_array(
     kinds: &[u8],
     nums: &[f64],
     tolerance: f64,

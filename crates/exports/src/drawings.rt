@@ -8,7 +8,7 @@ ghost use Rattle.exports.specs.Plain.{Listed};
 
 // Reads path data into a lap file.
 #[no_mangle]
-pub extern "C" fn rt_read_course(text: &[u8], out: &mut [u8], count: &mut usize) -> u32
+pub extern "C" fn pz_read_course(text: &[u8], out: &mut [u8], count: &mut usize) -> u32
     ensures { λ r. ⌜ Listed (λ (bytes : List ℕ). bytes) (readCourse (now (text .entry)) (length (now (out .entry)))) (now (out .entry)) (now (out .exit)) (now (count .entry)) (now (count .exit)) r ⌝ }
 {
     let a = svg::reading::read_course(text, out);

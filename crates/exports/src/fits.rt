@@ -12,7 +12,7 @@ ghost use Rattle.exports.specs.Plain.{planePoint, Told, ListedCommands};
 
 // The greatest distance of a planePoint from the line through the points at start and end, and the first planePoint that has it.
 #[no_mangle]
-pub extern "C" fn rt_get_polyline_line_deviation(
+pub extern "C" fn pz_get_polyline_line_deviation(
     points: &[f64],
     start: usize,
     end: usize,
@@ -35,7 +35,7 @@ pub extern "C" fn rt_get_polyline_line_deviation(
 
 // The greatest deviation of a polyline from a circle, and the first step that reaches it.
 #[no_mangle]
-pub extern "C" fn rt_get_polyline_arc_deviation(
+pub extern "C" fn pz_get_polyline_arc_deviation(
     points: &[f64],
     cx: f64,
     cy: f64,
@@ -60,7 +60,7 @@ pub extern "C" fn rt_get_polyline_arc_deviation(
 
 // Fits the points from start to end; beside each command the worst step of an Arc, 0 for a Line.
 #[no_mangle]
-pub extern "C" fn rt_fit_points_recursive(
+pub extern "C" fn pz_fit_points_recursive(
     points: &[f64],
     tolerance: f64,
     start: usize,
@@ -87,7 +87,7 @@ pub extern "C" fn rt_fit_points_recursive(
 
 // Fits all points, and tells how many ranges were examined; beside each command the worst step of an Arc, 0 for a Line.
 #[no_mangle]
-pub extern "C" fn rt_fit_points_with_primitives(
+pub extern "C" fn pz_fit_points_with_primitives(
     points: &[f64],
     tolerance: f64,
     kinds: &mut [u8],

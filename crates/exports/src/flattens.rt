@@ -7,7 +7,7 @@ ghost use Rattle.exports.specs.Plain.{point3, ListedCommands};
 
 // Draws the Arc command of this kind and these nine numbers, from its start (x, y, z) on, by Lines.
 #[no_mangle]
-pub extern "C" fn rt_flatten_arc(
+pub extern "C" fn pz_flatten_arc(
     kind: u8,
     command: &[f64],
     x: f64,

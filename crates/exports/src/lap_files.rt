@@ -9,7 +9,7 @@ ghost use Rattle.exports.specs.Plain.{Listed};
 
 // Fits each lap of a recorded file.
 #[no_mangle]
-pub extern "C" fn rt_fit_file(
+pub extern "C" fn pz_fit_file(
     recorded: &[u8],
     tolerance: f64,
     out: &mut [u8],
@@ -23,7 +23,7 @@ pub extern "C" fn rt_fit_file(
 
 // Replaces one lap of a fitted file.
 #[no_mangle]
-pub extern "C" fn rt_replace_lap(
+pub extern "C" fn pz_replace_lap(
     recorded: &[u8],
     fitted: &[u8],
     lap: usize,

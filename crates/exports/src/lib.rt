@@ -1,5 +1,5 @@
 // The functions that C or Rust can call. Each calls the function that it exposes and has its whole contract, and its
-// name starts with `rt_`, so that it meets no name of the program that links it.
+// name starts with `pz_`, so that it meets no name of the program that links it.
 //
 // A point passes as its numbers, and a slice as a pointer and a length. A call that may be refused answers 0 or the
 // refusal's number; what else it has to say goes to memory that the caller lends, which a refusal leaves as it was.

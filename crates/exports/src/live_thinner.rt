@@ -11,7 +11,7 @@ ghost use Rattle.exports.specs.LiveState.{pointOf, lentState, startCall,
 
 // Starts a thinner: all of its state is written.
 #[no_mangle]
-pub extern "C" fn rt_live_start(
+pub extern "C" fn pz_live_start(
     tolerance: f64,
     kept: &mut f64,
     points: &mut [f64; Live::NUMBERS],
@@ -35,7 +35,7 @@ pub extern "C" fn rt_live_start(
 
 // Feeds a point: the end that it hands out, if there is one, goes to `end`, and how many there are to `handed`.
 #[no_mangle]
-pub extern "C" fn rt_live_feed(
+pub extern "C" fn pz_live_feed(
     tolerance: f64,
     points: &mut [f64; Live::NUMBERS],
     count: &mut usize,
@@ -79,7 +79,7 @@ pub extern "C" fn rt_live_feed(
 
 // Closes the thinner: of its state the flag changes alone.
 #[no_mangle]
-pub extern "C" fn rt_live_close(
+pub extern "C" fn pz_live_close(
     tolerance: f64,
     points: &[f64; Live::NUMBERS],
     count: usize,
@@ -117,7 +117,7 @@ pub extern "C" fn rt_live_close(
 
 // Sets a new tolerance: the ends that the held points come to under it go to `out`, and how many there are to `handed`.
 #[no_mangle]
-pub extern "C" fn rt_live_retune(
+pub extern "C" fn pz_live_retune(
     finer: f64,
     tolerance: &mut f64,
     points: &mut [f64; Live::NUMBERS],

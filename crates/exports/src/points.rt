@@ -8,7 +8,7 @@ ghost use Rattle.exports.specs.Plain.{point3, Gave};
 
 // The midpoint of two points.
 #[no_mangle]
-pub extern "C" fn rt_get_midpoint_3d(
+pub extern "C" fn pz_get_midpoint_3d(
     ax: f64,
     ay: f64,
     az: f64,

@@ -7,7 +7,7 @@ ghost use Rattle.exports.specs.Plain.{Listed, ListedCommands};
 
 // Thins points in the plane.
 #[no_mangle]
-pub extern "C" fn rt_simplify_polyline(
+pub extern "C" fn pz_simplify_polyline(
     points: &[f64],
     tolerance: f64,
     out: &mut [f64],
@@ -21,7 +21,7 @@ pub extern "C" fn rt_simplify_polyline(
 
 // Thins points in space.
 #[no_mangle]
-pub extern "C" fn rt_simplify_polyline_3d(
+pub extern "C" fn pz_simplify_polyline_3d(
     points: &[f64],
     tolerance: f64,
     out: &mut [f64],
@@ -35,7 +35,7 @@ pub extern "C" fn rt_simplify_polyline_3d(
 
 // Thins commands.
 #[no_mangle]
-pub extern "C" fn rt_simplify_data(
+pub extern "C" fn pz_simplify_data(
     kinds: &[u8],
     nums: &[f64],
     tolerance: f64,

@@ -11,7 +11,7 @@ ghost use Rattle.exports.specs.Plain.{Told};
 // Finds the fewest Lines from the first point to the last, by a budget of tests, and tells how many they are, how many pairs
 // were tested, and a lower bound of the count.
 #[no_mangle]
-pub extern "C" fn rt_fewest_straights(
+pub extern "C" fn pz_fewest_straights(
     points: &[f64],
     tolerance: f64,
     budget: u64,

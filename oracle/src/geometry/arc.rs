@@ -1,6 +1,6 @@
 //! The function of arc.rs.
 use super::bezier::pairs;
-use super::calls::rt_is_arc_clockwise;
+use super::calls::pz_is_arc_clockwise;
 use super::draw::Draw;
 use super::frame::{Call, Compared, Function};
 use super::lent::{Lent, patterns};
@@ -32,7 +32,7 @@ pub fn direction_of(list: &[f64], centre: [f64; 2], start: bool) -> Compared {
     call.compare(
         |lent| unsafe {
             let (points, clockwise) = (lent[0].as_mut_ptr::<f64>(), lent[1].as_mut_ptr());
-            rt_is_arc_clockwise(points, list.len(), centre[0], centre[1], clockwise)
+            pz_is_arc_clockwise(points, list.len(), centre[0], centre[1], clockwise)
         },
         |before| {
             let clockwise = arc::is_arc_clockwise(&pairs(list), Point::new(centre[0], centre[1]));

@@ -27,7 +27,7 @@ fn uniform(steps: usize) -> Row<'static> {
         proved: Box::new(move || {
             let (c, mut count) = (black_box(BEND), 0);
             // SAFETY: the length is that of the output
-            unsafe { twelve!(rt_linearize_bezier, c, steps, out.as_mut_ptr(), out.len(), &mut count) };
+            unsafe { twelve!(pz_linearize_bezier, c, steps, out.as_mut_ptr(), out.len(), &mut count) };
             count
         }),
     }
@@ -48,7 +48,7 @@ fn from_params(steps: usize) -> Row<'static> {
             let (c, mut count) = (black_box(c), 0);
             // SAFETY: the length is that of the output
             unsafe {
-                twelve!(rt_linearize_bezier_from_params, c, resolution, out.as_mut_ptr(), out.len(), &mut count)
+                twelve!(pz_linearize_bezier_from_params, c, resolution, out.as_mut_ptr(), out.len(), &mut count)
             };
             count
         }),
@@ -67,7 +67,7 @@ fn adaptive(tolerance_sq: f64) -> Row<'static> {
             let (c, mut count) = (black_box(PLANE), 0);
             // SAFETY: the length is that of the output
             unsafe {
-                eight!(rt_linearize_bezier_adaptive, c, tolerance_sq, 10, out.as_mut_ptr(), out.len(), &mut count)
+                eight!(pz_linearize_bezier_adaptive, c, tolerance_sq, 10, out.as_mut_ptr(), out.len(), &mut count)
             };
             count
         }),
@@ -86,7 +86,7 @@ fn segment(tolerance: f64) -> Row<'static> {
             let (c, mut count) = (black_box(BEND), 0);
             // SAFETY: the length is that of the output
             unsafe {
-                twelve!(rt_linearize_bezier_segment, c, true, tolerance, out.as_mut_ptr(), out.len(), &mut count)
+                twelve!(pz_linearize_bezier_segment, c, true, tolerance, out.as_mut_ptr(), out.len(), &mut count)
             };
             count
         }),
@@ -103,7 +103,7 @@ fn fitted(list: Vec<f64>) -> Row<'static> {
         proved: Box::new(move || {
             let mut found = false;
             // SAFETY: the length is that of the list, and a curve has eight numbers
-            unsafe { rt_fit_cubic_bezier(list.as_ptr(), list.len(), &mut found, curve.as_mut_ptr()) };
+            unsafe { pz_fit_cubic_bezier(list.as_ptr(), list.len(), &mut found, curve.as_mut_ptr()) };
             found as usize
         }),
     }

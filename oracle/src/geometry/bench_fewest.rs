@@ -1,6 +1,6 @@
 //! The time of the fewest straights: the proved search and the plain one over the given line deviation, on the same lists, in one run.
 use super::bench::{Row, table};
-use super::calls::rt_fewest_straights;
+use super::calls::pz_fewest_straights;
 use super::draw::Draw;
 use super::fewest::model;
 use super::shapes::{track, zigzag};
@@ -13,7 +13,7 @@ fn proved(list: &[f64], tolerance: f64, out: &mut [f64]) -> usize {
     let (mut count, mut tested, mut bound) = (0, 0, 0);
     // SAFETY: the lengths are those of the slices
     unsafe {
-        rt_fewest_straights(
+        pz_fewest_straights(
             list.as_ptr(),
             list.len(),
             tolerance,

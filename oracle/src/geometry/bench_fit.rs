@@ -1,7 +1,7 @@
 //! The time of a fit: the proved functions and the given Rust on the same points, in one run.
 use super::bench::{Output, Row, table};
 use super::bezier::triple;
-use super::calls::{rt_fit_points_recursive, rt_fit_points_with_primitives};
+use super::calls::{pz_fit_points_recursive, pz_fit_points_with_primitives};
 use super::draw::Draw;
 use super::shapes::{raised, reversed, track, turn, zigzag};
 use super::simplify::triples;
@@ -29,7 +29,7 @@ fn primitives(list: &[f64], tolerance: f64, out: &mut Output) -> usize {
     let (worst, places) = out.worst();
     // SAFETY: the lengths are those of the lists
     out.count(|k, ks, x, xs, count| unsafe {
-        rt_fit_points_with_primitives(points, n, tolerance, k, ks, x, xs, worst, places, count, &mut 0)
+        pz_fit_points_with_primitives(points, n, tolerance, k, ks, x, xs, worst, places, count, &mut 0)
     })
 }
 
@@ -51,7 +51,7 @@ fn recursive(list: &[f64], tolerance: f64, [start, end]: [usize; 2], out: &mut O
     let (worst, places) = out.worst();
     // SAFETY: the lengths are those of the lists
     out.count(|k, ks, x, xs, count| unsafe {
-        rt_fit_points_recursive(points, n, tolerance, start, end, k, ks, x, xs, worst, places, count)
+        pz_fit_points_recursive(points, n, tolerance, start, end, k, ks, x, xs, worst, places, count)
     })
 }
 

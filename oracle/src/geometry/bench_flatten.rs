@@ -1,6 +1,6 @@
 //! The time of an Arc drawn by Lines: the proved function and the plain model on the same arcs, in one run, at falling tolerances.
 use super::bench::{Output, Row, table};
-use super::calls::rt_flatten_arc;
+use super::calls::pz_flatten_arc;
 use super::flatten::{Input, MOST, lines_of};
 use std::hint::black_box;
 
@@ -9,7 +9,7 @@ fn proved(input: &Input, out: &mut Output) -> usize {
     let (command, n) = (numbers.as_ptr(), numbers.len());
     // SAFETY: the length is that of the numbers
     out.count(|k, ks, nums, room, count| unsafe {
-        rt_flatten_arc(*kind, command, n, *x, *y, *z, *tolerance, k, ks, nums, room, count)
+        pz_flatten_arc(*kind, command, n, *x, *y, *z, *tolerance, k, ks, nums, room, count)
     })
 }
 

@@ -6,7 +6,7 @@
 //! once with no check but of mark and table.
 use super::bench::{Output, Row, table};
 use super::bezier::steps_needed;
-use super::calls::{rt_fit_arcs, rt_fit_file, rt_replace_lap};
+use super::calls::{pz_fit_arcs, pz_fit_file, pz_replace_lap};
 use super::draw::Draw;
 use super::laps::{bodies, body, file, recording};
 use super::shapes::track;
@@ -141,7 +141,7 @@ fn whole(name: String, bytes: Vec<u8>, tolerance: f64, checked: bool) -> Row<'st
         proved: Box::new(move || {
             let mut count = 0;
             // SAFETY: the lengths are those of the file and of the output
-            unsafe { rt_fit_file(bytes.as_ptr(), bytes.len(), tolerance, out.as_mut_ptr(), out.len(), &mut count) };
+            unsafe { pz_fit_file(bytes.as_ptr(), bytes.len(), tolerance, out.as_mut_ptr(), out.len(), &mut count) };
             count
         }),
     }
@@ -159,7 +159,7 @@ fn replaced(name: String, recorded: Vec<u8>, lap: usize, new: Commands, toleranc
             let mut count = 0;
             // SAFETY: the lengths are those of the files, of the new commands and of the output
             unsafe {
-                rt_replace_lap(
+                pz_replace_lap(
                     recorded.as_ptr(),
                     recorded.len(),
                     fitted.as_ptr(),
@@ -189,7 +189,7 @@ fn course(name: String, c: Commands, tolerance: f64) -> Row<'static> {
             let (kinds, n, nums, size) = (c.kinds.as_ptr(), c.kinds.len(), c.numbers.as_ptr(), c.numbers.len());
             // SAFETY: the lengths are those of the commands
             out.count(|k, ks, x, xs, count| unsafe {
-                rt_fit_arcs(kinds, n, nums, size, tolerance, k, ks, x, xs, count)
+                pz_fit_arcs(kinds, n, nums, size, tolerance, k, ks, x, xs, count)
             })
         }),
     }

@@ -2,7 +2,7 @@
 //! given Rust's deviation and checks the same numbers. Both are lent the same state, which each copies before the call, so that
 //! every call meets as many held points.
 use super::bench::{Row, table};
-use super::calls::rt_live_feed;
+use super::calls::pz_live_feed;
 use super::draw::Draw;
 use super::live::{SLOTS, State, Triple};
 use super::shapes::{raised, track};
@@ -38,7 +38,7 @@ fn feed(name: &str, points: usize, tolerance: f64) -> Row<'static> {
             let (mut end, mut handed) = ([0.0; 3], 0);
             // SAFETY: the lengths are those of the header
             unsafe {
-                rt_live_feed(
+                pz_live_feed(
                     ours.tolerance,
                     ours.points.as_mut_ptr(),
                     &mut ours.count,

@@ -1,7 +1,7 @@
 //! The time of thinning: the proved functions and the given Rust on the same points, in one run.
 use super::bench::{Output, Row, table};
 use super::bezier::pairs;
-use super::calls::{rt_simplify_data, rt_simplify_polyline, rt_simplify_polyline_3d};
+use super::calls::{pz_simplify_data, pz_simplify_polyline, pz_simplify_polyline_3d};
 use super::draw::Draw;
 use super::shapes::{raised, reversed, track, zigzag};
 use super::simplify::{Commands, triples};
@@ -19,7 +19,7 @@ fn in_plane(name: String, list: Vec<f64>, tolerance: f64) -> Row<'static> {
             let mut count = 0;
             // SAFETY: the lengths are those of the list and of the output
             unsafe {
-                rt_simplify_polyline(list.as_ptr(), list.len(), tolerance, out.as_mut_ptr(), out.len(), &mut count)
+                pz_simplify_polyline(list.as_ptr(), list.len(), tolerance, out.as_mut_ptr(), out.len(), &mut count)
             };
             count
         }),
@@ -36,7 +36,7 @@ fn in_space(name: String, list: Vec<f64>, tolerance: f64) -> Row<'static> {
             let mut count = 0;
             // SAFETY: the lengths are those of the list and of the output
             unsafe {
-                rt_simplify_polyline_3d(list.as_ptr(), list.len(), tolerance, out.as_mut_ptr(), out.len(), &mut count)
+                pz_simplify_polyline_3d(list.as_ptr(), list.len(), tolerance, out.as_mut_ptr(), out.len(), &mut count)
             };
             count
         }),
@@ -57,7 +57,7 @@ fn as_commands(name: String, list: &[f64], tolerance: f64) -> Row<'static> {
             let (kinds, nums) = (c.kinds.as_ptr(), c.numbers.as_ptr());
             // SAFETY: the lengths are those of the lists
             out.count(|k, ks, x, xs, count| unsafe {
-                rt_simplify_data(kinds, n, nums, 9 * n, tolerance, k, ks, x, xs, count)
+                pz_simplify_data(kinds, n, nums, 9 * n, tolerance, k, ks, x, xs, count)
             })
         }),
     }

@@ -85,7 +85,7 @@ pub fn midpoint_of(p: &[f64]) -> Compared {
         lent: vec![Lent::room(3)],
     };
     call.compare(
-        |lent| unsafe { rt_get_midpoint_3d(p[0], p[1], p[2], p[3], p[4], p[5], lent[0].as_mut_ptr()) },
+        |lent| unsafe { pz_get_midpoint_3d(p[0], p[1], p[2], p[3], p[4], p[5], lent[0].as_mut_ptr()) },
         |before| {
             let middle = point::get_midpoint_3d(triple(p, 0), triple(p, 1));
             vec![before[0].written(&words_of_triples(&[middle]))]
@@ -112,7 +112,7 @@ fn get_bezier_point_at(draw: &mut Draw) -> Compared {
 
 pub fn point_of(c: &[f64], t: f64) -> Compared {
     at_parameter("get_bezier_point_at", c, t, 2).compare(
-        |lent| unsafe { eight!(rt_get_bezier_point_at, c, t, lent[0].as_mut_ptr()) },
+        |lent| unsafe { eight!(pz_get_bezier_point_at, c, t, lent[0].as_mut_ptr()) },
         |before| {
             let (p0, c1, c2, p1) = plane(c);
             vec![before[0].written(&words_of_pairs(&[bezier::get_bezier_point_at(p0, c1, c2, p1, t)]))]
@@ -127,7 +127,7 @@ fn split_bezier(draw: &mut Draw) -> Compared {
 
 pub fn split_of(c: &[f64], t: f64) -> Compared {
     at_parameter("split_bezier", c, t, 16).compare(
-        |lent| unsafe { eight!(rt_split_bezier, c, t, lent[0].as_mut_ptr()) },
+        |lent| unsafe { eight!(pz_split_bezier, c, t, lent[0].as_mut_ptr()) },
         |before| {
             let (p0, c1, c2, p1) = plane(c);
             let (left, right) = bezier::split_bezier(p0, c1, c2, p1, t);
@@ -167,7 +167,7 @@ pub fn flat_of(c: &[f64], limit: f64, start: bool) -> Compared {
         lent: vec![Lent::flag(start)],
     };
     call.compare(
-        |lent| unsafe { eight!(rt_is_bezier_flat, c, limit, lent[0].as_mut_ptr()) },
+        |lent| unsafe { eight!(pz_is_bezier_flat, c, limit, lent[0].as_mut_ptr()) },
         |before| {
             let (p0, c1, c2, p1) = plane(c);
             vec![before[0].flagged(bezier::is_bezier_flat(p0, c1, c2, p1, limit))]
@@ -208,7 +208,7 @@ pub fn adaptive_of(c: &[f64], limit: f64, depth: usize, room: usize) -> Compared
     call.compare(
         |lent| unsafe {
             let (out, count) = (lent[0].as_mut_ptr(), lent[1].as_mut_ptr());
-            eight!(rt_linearize_bezier_adaptive, c, limit, depth, out, room, count)
+            eight!(pz_linearize_bezier_adaptive, c, limit, depth, out, room, count)
         },
         |before| {
             let (p0, c1, c2, p1) = plane(c);
@@ -240,7 +240,7 @@ pub fn steps_of(c: &[f64], steps: usize, room: usize) -> Compared {
     call.compare(
         |lent| unsafe {
             let (out, count) = (lent[0].as_mut_ptr(), lent[1].as_mut_ptr());
-            twelve!(rt_linearize_bezier, c, steps, out, room, count)
+            twelve!(pz_linearize_bezier, c, steps, out, room, count)
         },
         |before| {
             let (p0, c1, c2, p1) = space(c);
@@ -316,7 +316,7 @@ pub fn params_of(c: &[f64], resolution: f64, room: usize) -> Compared {
     call.compare(
         |lent| unsafe {
             let (out, count) = (lent[0].as_mut_ptr(), lent[1].as_mut_ptr());
-            twelve!(rt_linearize_bezier_from_params, c, resolution, out, room, count)
+            twelve!(pz_linearize_bezier_from_params, c, resolution, out, room, count)
         },
         |before| {
             let (end, c1, c2, start) = space(c);
@@ -372,7 +372,7 @@ pub fn segment_of(c: &[f64], tolerance: Option<f64>, room: usize) -> Compared {
         |lent| unsafe {
             let (out, count) = (lent[0].as_mut_ptr(), lent[1].as_mut_ptr());
             let (given, t) = (tolerance.is_some(), tolerance.unwrap_or(0.0));
-            twelve!(rt_linearize_bezier_segment, c, given, t, out, room, count)
+            twelve!(pz_linearize_bezier_segment, c, given, t, out, room, count)
         },
         |before| {
             let (p0, c1, c2, p1) = space(c);
@@ -403,7 +403,7 @@ pub fn fit_of(list: &[f64], start: bool) -> Compared {
     call.compare(
         |lent| unsafe {
             let (points, found, answer) = (lent[0].as_mut_ptr::<f64>(), lent[1].as_mut_ptr(), lent[2].as_mut_ptr());
-            rt_fit_cubic_bezier(points, list.len(), found, answer)
+            pz_fit_cubic_bezier(points, list.len(), found, answer)
         },
         |before| {
             let curve = bezier::fit_cubic_bezier(&pairs(list));

@@ -17,9 +17,9 @@ macro_rules! twelve {
 }
 
 unsafe extern "C" {
-    pub fn rt_get_midpoint_3d(ax: f64, ay: f64, az: f64, bx: f64, by: f64, bz: f64, answer: *mut f64) -> u32;
+    pub fn pz_get_midpoint_3d(ax: f64, ay: f64, az: f64, bx: f64, by: f64, bz: f64, answer: *mut f64) -> u32;
 
-    pub fn rt_get_bezier_point_at(
+    pub fn pz_get_bezier_point_at(
         p0x: f64,
         p0y: f64,
         c1x: f64,
@@ -32,7 +32,7 @@ unsafe extern "C" {
         answer: *mut f64,
     ) -> u32;
 
-    pub fn rt_split_bezier(
+    pub fn pz_split_bezier(
         p0x: f64,
         p0y: f64,
         c1x: f64,
@@ -45,7 +45,7 @@ unsafe extern "C" {
         answer: *mut f64,
     ) -> u32;
 
-    pub fn rt_is_bezier_flat(
+    pub fn pz_is_bezier_flat(
         p0x: f64,
         p0y: f64,
         c1x: f64,
@@ -58,7 +58,7 @@ unsafe extern "C" {
         flat: *mut bool,
     ) -> u32;
 
-    pub fn rt_linearize_bezier(
+    pub fn pz_linearize_bezier(
         p0x: f64,
         p0y: f64,
         p0z: f64,
@@ -77,7 +77,7 @@ unsafe extern "C" {
         count: *mut usize,
     ) -> u32;
 
-    pub fn rt_linearize_bezier_from_params(
+    pub fn pz_linearize_bezier_from_params(
         ex: f64,
         ey: f64,
         ez: f64,
@@ -96,7 +96,7 @@ unsafe extern "C" {
         count: *mut usize,
     ) -> u32;
 
-    pub fn rt_linearize_bezier_adaptive(
+    pub fn pz_linearize_bezier_adaptive(
         p0x: f64,
         p0y: f64,
         c1x: f64,
@@ -112,7 +112,7 @@ unsafe extern "C" {
         count: *mut usize,
     ) -> u32;
 
-    pub fn rt_linearize_bezier_segment(
+    pub fn pz_linearize_bezier_segment(
         p0x: f64,
         p0y: f64,
         p0z: f64,
@@ -132,11 +132,11 @@ unsafe extern "C" {
         count: *mut usize,
     ) -> u32;
 
-    pub fn rt_fit_cubic_bezier(points: *const f64, length: usize, found: *mut bool, answer: *mut f64) -> u32;
+    pub fn pz_fit_cubic_bezier(points: *const f64, length: usize, found: *mut bool, answer: *mut f64) -> u32;
 
-    pub fn rt_is_arc_clockwise(points: *const f64, length: usize, cx: f64, cy: f64, clockwise: *mut bool) -> u32;
+    pub fn pz_is_arc_clockwise(points: *const f64, length: usize, cx: f64, cy: f64, clockwise: *mut bool) -> u32;
 
-    pub fn rt_simplify_polyline(
+    pub fn pz_simplify_polyline(
         points: *const f64,
         length: usize,
         tolerance: f64,
@@ -145,7 +145,7 @@ unsafe extern "C" {
         count: *mut usize,
     ) -> u32;
 
-    pub fn rt_simplify_polyline_3d(
+    pub fn pz_simplify_polyline_3d(
         points: *const f64,
         length: usize,
         tolerance: f64,
@@ -154,7 +154,7 @@ unsafe extern "C" {
         count: *mut usize,
     ) -> u32;
 
-    pub fn rt_simplify_data(
+    pub fn pz_simplify_data(
         kinds: *const u8,
         commands: usize,
         nums: *const f64,
@@ -167,9 +167,9 @@ unsafe extern "C" {
         count: *mut usize,
     ) -> u32;
 
-    pub fn rt_are_points_collinear_3d(points: *const f64, length: usize, tolerance: f64, collinear: *mut bool) -> u32;
+    pub fn pz_are_points_collinear_3d(points: *const f64, length: usize, tolerance: f64, collinear: *mut bool) -> u32;
 
-    pub fn rt_fit_circle_to_3_points(
+    pub fn pz_fit_circle_to_3_points(
         p1x: f64,
         p1y: f64,
         p1z: f64,
@@ -183,9 +183,9 @@ unsafe extern "C" {
         answer: *mut f64,
     ) -> u32;
 
-    pub fn rt_fit_circle_to_points_3d(points: *const f64, length: usize, found: *mut bool, answer: *mut f64) -> u32;
+    pub fn pz_fit_circle_to_points_3d(points: *const f64, length: usize, found: *mut bool, answer: *mut f64) -> u32;
 
-    pub fn rt_project_circle_center_to_bisector(
+    pub fn pz_project_circle_center_to_bisector(
         p1x: f64,
         p1y: f64,
         p1z: f64,
@@ -197,7 +197,7 @@ unsafe extern "C" {
         answer: *mut f64,
     ) -> u32;
 
-    pub fn rt_get_polyline_line_deviation(
+    pub fn pz_get_polyline_line_deviation(
         points: *const f64,
         length: usize,
         start: usize,
@@ -206,7 +206,7 @@ unsafe extern "C" {
         index: *mut usize,
     ) -> u32;
 
-    pub fn rt_get_polyline_arc_deviation(
+    pub fn pz_get_polyline_arc_deviation(
         points: *const f64,
         length: usize,
         cx: f64,
@@ -216,7 +216,7 @@ unsafe extern "C" {
         index: *mut usize,
     ) -> u32;
 
-    pub fn rt_fit_points_recursive(
+    pub fn pz_fit_points_recursive(
         points: *const f64,
         length: usize,
         tolerance: f64,
@@ -231,7 +231,7 @@ unsafe extern "C" {
         count: *mut usize,
     ) -> u32;
 
-    pub fn rt_fit_points_with_primitives(
+    pub fn pz_fit_points_with_primitives(
         points: *const f64,
         length: usize,
         tolerance: f64,
@@ -245,7 +245,7 @@ unsafe extern "C" {
         ranges: *mut usize,
     ) -> u32;
 
-    pub fn rt_live_start(
+    pub fn pz_live_start(
         tolerance: f64,
         kept: *mut f64,
         points: *mut f64,
@@ -253,7 +253,7 @@ unsafe extern "C" {
         closed: *mut u32,
     ) -> u32;
 
-    pub fn rt_live_feed(
+    pub fn pz_live_feed(
         tolerance: f64,
         points: *mut f64,
         count: *mut usize,
@@ -263,7 +263,7 @@ unsafe extern "C" {
         handed: *mut usize,
     ) -> u32;
 
-    pub fn rt_live_close(
+    pub fn pz_live_close(
         tolerance: f64,
         points: *const f64,
         count: usize,
@@ -272,7 +272,7 @@ unsafe extern "C" {
         handed: *mut usize,
     ) -> u32;
 
-    pub fn rt_live_retune(
+    pub fn pz_live_retune(
         finer: f64,
         tolerance: *mut f64,
         points: *mut f64,
@@ -283,7 +283,7 @@ unsafe extern "C" {
         handed: *mut usize,
     ) -> u32;
 
-    pub fn rt_flatten_arc(
+    pub fn pz_flatten_arc(
         kind: u8,
         command: *const f64,
         length: usize,
@@ -298,7 +298,7 @@ unsafe extern "C" {
         count: *mut usize,
     ) -> u32;
 
-    pub fn rt_fewest_straights(
+    pub fn pz_fewest_straights(
         points: *const f64,
         length: usize,
         tolerance: f64,
@@ -310,7 +310,7 @@ unsafe extern "C" {
         bound: *mut usize,
     ) -> u32;
 
-    pub fn rt_fit_arcs(
+    pub fn pz_fit_arcs(
         kinds: *const u8,
         count_kinds: usize,
         nums: *const f64,
@@ -323,7 +323,7 @@ unsafe extern "C" {
         count: *mut usize,
     ) -> u32;
 
-    pub fn rt_optimize_path_from_array(
+    pub fn pz_optimize_path_from_array(
         kinds: *const u8,
         count_kinds: usize,
         nums: *const f64,
@@ -337,7 +337,7 @@ unsafe extern "C" {
         count: *mut usize,
     ) -> u32;
 
-    pub fn rt_fit_file(
+    pub fn pz_fit_file(
         recorded: *const u8,
         length: usize,
         tolerance: f64,
@@ -346,7 +346,7 @@ unsafe extern "C" {
         count: *mut usize,
     ) -> u32;
 
-    pub fn rt_replace_lap(
+    pub fn pz_replace_lap(
         recorded: *const u8,
         length: usize,
         fitted: *const u8,
@@ -362,5 +362,5 @@ unsafe extern "C" {
         count: *mut usize,
     ) -> u32;
 
-    pub fn rt_read_course(text: *const u8, length: usize, out: *mut u8, room: usize, count: *mut usize) -> u32;
+    pub fn pz_read_course(text: *const u8, length: usize, out: *mut u8, room: usize, count: *mut usize) -> u32;
 }

@@ -59,7 +59,7 @@ pub fn collinear_of(list: &[f64], tolerance: f64, start: bool) -> Compared {
     call.compare(
         |lent| unsafe {
             let (flag, points) = (lent[0].as_mut_ptr(), lent[1].as_mut_ptr::<f64>());
-            rt_are_points_collinear_3d(points, list.len(), tolerance, flag)
+            pz_are_points_collinear_3d(points, list.len(), tolerance, flag)
         },
         |before| {
             let is = fitting::are_points_collinear_3d(&triples(list), tolerance);
@@ -99,7 +99,7 @@ pub fn through_of(p: &[f64], start: bool) -> Compared {
     call.compare(
         |lent| unsafe {
             let (flag, answer) = (lent[0].as_mut_ptr(), lent[1].as_mut_ptr());
-            rt_fit_circle_to_3_points(p[0], p[1], p[2], p[3], p[4], p[5], p[6], p[7], p[8], flag, answer)
+            pz_fit_circle_to_3_points(p[0], p[1], p[2], p[3], p[4], p[5], p[6], p[7], p[8], flag, answer)
         },
         |before| {
             let circle = fitting::fit_circle_to_3_points(triple(p, 0), triple(p, 1), triple(p, 2));
@@ -130,7 +130,7 @@ pub fn circle_of(list: &[f64], start: bool) -> Compared {
     call.compare(
         |lent| unsafe {
             let (flag, answer, points) = (lent[0].as_mut_ptr(), lent[1].as_mut_ptr(), lent[2].as_mut_ptr::<f64>());
-            rt_fit_circle_to_points_3d(points, list.len(), flag, answer)
+            pz_fit_circle_to_points_3d(points, list.len(), flag, answer)
         },
         |before| {
             let circle = fitting::fit_circle_to_points_3d(&triples(list));
@@ -164,7 +164,7 @@ pub fn bisector_of(p: &[f64], centre: [f64; 2]) -> Compared {
     call.compare(
         |lent| unsafe {
             let answer = lent[0].as_mut_ptr();
-            rt_project_circle_center_to_bisector(p[0], p[1], p[2], p[3], p[4], p[5], x, y, answer)
+            pz_project_circle_center_to_bisector(p[0], p[1], p[2], p[3], p[4], p[5], x, y, answer)
         },
         |before| {
             let moved = fitting::project_circle_center_to_bisector(triple(p, 0), triple(p, 1), Point::new(x, y));
@@ -224,7 +224,7 @@ pub fn line_of(list: &[f64], [start, end]: [usize; 2]) -> Compared {
     call.compare(
         |lent| unsafe {
             let (dist, index, points) = (lent[0].as_mut_ptr(), lent[1].as_mut_ptr(), lent[2].as_mut_ptr::<f64>());
-            rt_get_polyline_line_deviation(points, list.len(), start, end, dist, index)
+            pz_get_polyline_line_deviation(points, list.len(), start, end, dist, index)
         },
         |before| {
             let (dist, index) = fitting::get_polyline_line_deviation(&triples(list), start, end);
@@ -295,7 +295,7 @@ pub fn arc_exactly(list: &[f64], centre: [f64; 2], radius: f64) -> Compared {
     call.compare(
         |lent| unsafe {
             let (dist, index, points) = (lent[0].as_mut_ptr(), lent[1].as_mut_ptr(), lent[2].as_mut_ptr::<f64>());
-            rt_get_polyline_arc_deviation(points, list.len(), x, y, radius, dist, index)
+            pz_get_polyline_arc_deviation(points, list.len(), x, y, radius, dist, index)
         },
         |before| {
             let (points, centre) = (triples(list), Point::new(x, y));

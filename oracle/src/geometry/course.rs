@@ -183,7 +183,7 @@ pub fn arcs_of(c: &Commands, tolerance: f64, rooms: Rooms) -> Judged {
             let (nums, kinds) = (lent[3].as_mut_ptr::<f64>(), lent[4].as_mut_ptr::<u8>());
             let (n, size) = (c.kinds.len(), c.numbers.len());
             let (ok, on) = (rooms.kinds, rooms.numbers);
-            calls::rt_fit_arcs(kinds, n, nums, size, tolerance, out_kinds, ok, out_nums, on, count)
+            calls::pz_fit_arcs(kinds, n, nums, size, tolerance, out_kinds, ok, out_nums, on, count)
         },
         |before| {
             let data = c.given();
@@ -206,7 +206,7 @@ pub fn optimized_of(c: &Commands, tolerance: f64, fitted: bool, rooms: Rooms) ->
             let (nums, kinds) = (lent[3].as_mut_ptr::<f64>(), lent[4].as_mut_ptr::<u8>());
             let (n, size) = (c.kinds.len(), c.numbers.len());
             let (ok, on) = (rooms.kinds, rooms.numbers);
-            calls::rt_optimize_path_from_array(
+            calls::pz_optimize_path_from_array(
                 kinds, n, nums, size, tolerance, fitted, out_kinds, ok, out_nums, on, count,
             )
         },

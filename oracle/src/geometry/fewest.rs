@@ -1,7 +1,7 @@
 //! The fewest straights (document 02, §10), beside a plain search of the request's words over the given line deviation, and of short
 //! lists beside a search of all ways.
 use super::bezier::words_of_triples;
-use super::calls::rt_fewest_straights;
+use super::calls::pz_fewest_straights;
 use super::draw::Draw;
 use super::frame::{Call, Compared, Function};
 use super::lent::{Lent, patterns};
@@ -145,7 +145,7 @@ pub fn straights(input: &Input, room: usize) -> Compared {
         |lent| unsafe {
             let (out, count, tested) = (lent[0].as_mut_ptr(), lent[1].as_mut_ptr(), lent[2].as_mut_ptr());
             let (bound, points) = (lent[3].as_mut_ptr(), lent[4].as_mut_ptr::<f64>());
-            rt_fewest_straights(points, list.len(), *tolerance, *budget, out, room, count, tested, bound)
+            pz_fewest_straights(points, list.len(), *tolerance, *budget, out, room, count, tested, bound)
         },
         |before| {
             let points = triples(list);

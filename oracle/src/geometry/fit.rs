@@ -5,7 +5,7 @@
 //! document 02's law of worst steps holds of them.
 use super::bends;
 use super::bezier::words_of_triples;
-use super::calls::{rt_fit_points_recursive, rt_fit_points_with_primitives};
+use super::calls::{pz_fit_points_recursive, pz_fit_points_with_primitives};
 use super::circle::{self, drawn, range, rows};
 use super::draw::Draw;
 use super::frame::{Call, Compared, Function};
@@ -265,7 +265,7 @@ pub fn recursive_of(list: &[f64], tolerance: f64, range: [usize; 2], rooms: Room
             let (nums, count, kinds) = (lent[0].as_mut_ptr(), lent[1].as_mut_ptr(), lent[2].as_mut_ptr());
             let (points, n, worst) = (lent[3].as_mut_ptr::<f64>(), list.len(), lent[4].as_mut_ptr());
             let (ks, xs) = (rooms.kinds, rooms.numbers);
-            rt_fit_points_recursive(points, n, tolerance, start, end, kinds, ks, nums, xs, worst, places, count)
+            pz_fit_points_recursive(points, n, tolerance, start, end, kinds, ks, nums, xs, worst, places, count)
         },
         |before| {
             let commands = fitting::fit_points_recursive(&points, tolerance, start, end);
@@ -290,7 +290,7 @@ pub fn primitives_of(list: &[f64], tolerance: f64, rooms: Rooms, places: usize) 
             let (nums, count, kinds) = (lent[0].as_mut_ptr(), lent[1].as_mut_ptr(), lent[2].as_mut_ptr());
             let (points, n, worst) = (lent[3].as_mut_ptr::<f64>(), list.len(), lent[4].as_mut_ptr());
             let (ks, xs, ranges) = (rooms.kinds, rooms.numbers, lent[5].as_mut_ptr());
-            rt_fit_points_with_primitives(points, n, tolerance, kinds, ks, nums, xs, worst, places, count, ranges)
+            pz_fit_points_with_primitives(points, n, tolerance, kinds, ks, nums, xs, worst, places, count, ranges)
         },
         |before| {
             let commands = fitting::fit_points_with_primitives(&points, tolerance);

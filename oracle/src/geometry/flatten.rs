@@ -1,7 +1,7 @@
 //! Arcs drawn by Lines (document 02, §6), beside a plain model written from the request's words: quarter turns are taken one at a
 //! time, and each is asked whether it falls strictly before the end.
 use super::bezier::triple;
-use super::calls::rt_flatten_arc;
+use super::calls::pz_flatten_arc;
 use super::draw::Draw;
 use super::fit::outputs;
 use super::frame::{Call, Compared, Function};
@@ -148,7 +148,7 @@ pub fn flattened(input: &Input, rooms: Rooms) -> Compared {
         |lent| unsafe {
             let (nums, count, kinds) = (lent[0].as_mut_ptr(), lent[1].as_mut_ptr(), lent[2].as_mut_ptr());
             let (command, n) = (lent[3].as_mut_ptr::<f64>(), numbers.len());
-            rt_flatten_arc(
+            pz_flatten_arc(
                 *kind,
                 command,
                 n,

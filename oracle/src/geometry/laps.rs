@@ -4,7 +4,7 @@
 //! the bytes of a file. The fit of a lap is the `fit_arcs` of the given Rust into which the distance to the segment is put
 //! (document 02, §4). Where document 01's margins do not hold for a lap, that lap's answer is left open: there the proved
 //! function's commands are taken as they are, and all else is compared.
-use super::calls::{rt_fit_file, rt_replace_lap};
+use super::calls::{pz_fit_file, pz_replace_lap};
 use super::course::{self, controls, way_of_arcs};
 use super::draw::Draw;
 use super::fit::{Judged, Stands};
@@ -253,7 +253,7 @@ pub fn fit_of(recorded: &[u8], tolerance: f64, room: usize) -> Judged {
     let compared = call.compare(
         |lent| unsafe {
             let (out, count, file) = (lent[0].as_mut_ptr(), lent[1].as_mut_ptr(), lent[2].as_mut_ptr::<u8>());
-            rt_fit_file(file, recorded.len(), tolerance, out, room, count)
+            pz_fit_file(file, recorded.len(), tolerance, out, room, count)
         },
         |before| {
             let laps = laps_of(recorded).expect("a table that was accepted");
@@ -293,7 +293,7 @@ pub fn replacement_of(r: &Replacement) -> Judged {
             let (recorded, fitted) = (lent[2].as_mut_ptr::<u8>(), lent[3].as_mut_ptr::<u8>());
             let (kinds, nums) = (lent[4].as_mut_ptr::<u8>(), lent[5].as_mut_ptr::<f64>());
             let (s, f, k, n) = (r.recorded.len(), r.fitted.len(), r.new.kinds.len(), r.new.numbers.len());
-            rt_replace_lap(recorded, s, fitted, f, r.lap, kinds, k, nums, n, r.tolerance, out, r.room, count)
+            pz_replace_lap(recorded, s, fitted, f, r.lap, kinds, k, nums, n, r.tolerance, out, r.room, count)
         },
         |before| {
             let all = bodies(&r.fitted).expect("a table that was accepted");
@@ -310,7 +310,7 @@ fn proved_fit(recorded: &[u8], tolerance: f64, room: usize) -> Option<Vec<u8>> {
     let (mut out, mut count) = (vec![0; room], 0);
     // SAFETY: the lengths are those of both slices
     let number =
-        unsafe { rt_fit_file(recorded.as_ptr(), recorded.len(), tolerance, out.as_mut_ptr(), out.len(), &mut count) };
+        unsafe { pz_fit_file(recorded.as_ptr(), recorded.len(), tolerance, out.as_mut_ptr(), out.len(), &mut count) };
     (number == 0).then(|| out[..count].to_vec())
 }
 

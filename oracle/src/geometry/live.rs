@@ -1,7 +1,7 @@
 //! The live thinner beside a plain model of document 02's words (§2, §12) over the given Rust's deviation: whole runs, each
 //! call given the last one's state, and single calls on states that no run reaches.
 use super::bezier::triple;
-use super::calls::{rt_live_close, rt_live_feed, rt_live_retune, rt_live_start};
+use super::calls::{pz_live_close, pz_live_feed, pz_live_retune, pz_live_start};
 use super::draw::Draw;
 use super::frame::{Call, Compared, Function, Outcome};
 use super::lent::{Lent, patterns};
@@ -142,13 +142,13 @@ fn arguments(s: &State, own: &[f64]) -> Vec<(&'static str, Vec<u64>)> {
 fn proved_feed(s: &State, p: &Triple, lent: &mut [Lent]) -> u32 {
     let (points, count) = (lent[0].as_mut_ptr(), lent[1].as_mut_ptr());
     let (end, handed) = (lent[3].as_mut_ptr(), lent[4].as_mut_ptr());
-    unsafe { rt_live_feed(s.tolerance, points, count, s.closed, p.as_ptr(), end, handed) }
+    unsafe { pz_live_feed(s.tolerance, points, count, s.closed, p.as_ptr(), end, handed) }
 }
 
 fn proved_close(s: &State, lent: &mut [Lent]) -> u32 {
     let (points, closed) = (lent[0].as_mut_ptr::<f64>(), lent[2].as_mut_ptr());
     let (end, handed) = (lent[3].as_mut_ptr(), lent[4].as_mut_ptr());
-    unsafe { rt_live_close(s.tolerance, points, s.count, closed, end, handed) }
+    unsafe { pz_live_close(s.tolerance, points, s.count, closed, end, handed) }
 }
 
 pub fn feed_of(s: &State, p: Triple) -> Compared {
@@ -188,7 +188,7 @@ pub fn retune_of(s: &State, finer: f64, room: usize) -> Compared {
         |lent| {
             let (points, count, out) = (lent[0].as_mut_ptr(), lent[1].as_mut_ptr(), lent[3].as_mut_ptr());
             let (handed, tolerance) = (lent[4].as_mut_ptr(), lent[5].as_mut_ptr());
-            unsafe { rt_live_retune(finer, tolerance, points, count, s.closed, out, room, handed) }
+            unsafe { pz_live_retune(finer, tolerance, points, count, s.closed, out, room, handed) }
         },
         |before| {
             let mut next = s.clone();
@@ -214,7 +214,7 @@ pub fn start_of(tolerance: f64) -> Compared {
     call.compare(
         |lent| {
             let (points, count, closed) = (lent[0].as_mut_ptr(), lent[1].as_mut_ptr(), lent[2].as_mut_ptr());
-            unsafe { rt_live_start(tolerance, lent[4].as_mut_ptr(), points, count, closed) }
+            unsafe { pz_live_start(tolerance, lent[4].as_mut_ptr(), points, count, closed) }
         },
         |before| {
             let mut after = lent_state(&State::new(tolerance));
@@ -413,19 +413,19 @@ fn modelled(tolerance: f64, events: &[Event]) -> Vec<u64> {
 fn proved(tolerance: f64, events: &[Event]) -> Vec<u64> {
     let (mut s, mut words) = (State::new(f64::NAN), Vec::new());
     s.points.fill(f64::NAN);
-    unsafe { rt_live_start(tolerance, &mut s.tolerance, s.points.as_mut_ptr(), &mut s.count, &mut s.closed) };
+    unsafe { pz_live_start(tolerance, &mut s.tolerance, s.points.as_mut_ptr(), &mut s.count, &mut s.closed) };
     let mut out = vec![0.0; 4 * MOST];
     for event in events {
         let (mut handed, points, end) = (0, s.points.as_mut_ptr(), out.as_mut_ptr());
         let refused = match event {
             Event::Feed(p) => unsafe {
-                rt_live_feed(s.tolerance, points, &mut s.count, s.closed, p.as_ptr(), end, &mut handed)
+                pz_live_feed(s.tolerance, points, &mut s.count, s.closed, p.as_ptr(), end, &mut handed)
             },
             Event::Retune(finer, room) => unsafe {
-                rt_live_retune(*finer, &mut s.tolerance, points, &mut s.count, s.closed, end, *room, &mut handed)
+                pz_live_retune(*finer, &mut s.tolerance, points, &mut s.count, s.closed, end, *room, &mut handed)
             },
             Event::Close => unsafe {
-                rt_live_close(s.tolerance, points, s.count, &mut s.closed, end, &mut handed)
+                pz_live_close(s.tolerance, points, s.count, &mut s.closed, end, &mut handed)
             },
         };
         answered(&mut words, refused, &out[..3 * handed], &s);

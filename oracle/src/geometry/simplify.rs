@@ -1,6 +1,6 @@
 //! The functions of simplify.rs.
 use super::bezier::{items, pairs, triple, words_of_pairs, words_of_triples};
-use super::calls::{rt_simplify_data, rt_simplify_polyline, rt_simplify_polyline_3d};
+use super::calls::{pz_simplify_data, pz_simplify_polyline, pz_simplify_polyline_3d};
 use super::draw::Draw;
 use super::frame::{Call, Compared, Function, Outcome};
 use super::lent::{Lent, patterns};
@@ -105,7 +105,7 @@ fn thin_pairs(list: &[f64], tolerance: f64, room: usize) -> Compared {
     on_points("simplify_polyline", list, 2, tolerance, room).compare(
         |lent| unsafe {
             let (out, count, points) = (lent[0].as_mut_ptr(), lent[1].as_mut_ptr(), lent[2].as_mut_ptr());
-            rt_simplify_polyline(points, list.len(), tolerance, out, room, count)
+            pz_simplify_polyline(points, list.len(), tolerance, out, room, count)
         },
         |before| {
             let mut left = items(before, &words_of_pairs(&simplify::simplify_polyline(&pairs(list), tolerance)), 2);
@@ -119,7 +119,7 @@ fn thin_triples(list: &[f64], tolerance: f64, room: usize) -> Compared {
     on_points("simplify_polyline_3d", list, 3, tolerance, room).compare(
         |lent| unsafe {
             let (out, count, points) = (lent[0].as_mut_ptr(), lent[1].as_mut_ptr(), lent[2].as_mut_ptr());
-            rt_simplify_polyline_3d(points, list.len(), tolerance, out, room, count)
+            pz_simplify_polyline_3d(points, list.len(), tolerance, out, room, count)
         },
         |before| {
             let mut left =
@@ -222,7 +222,7 @@ pub fn data_of(c: &Commands, tolerance: f64, rooms: Rooms) -> Compared {
             let (out_nums, count, out_kinds) = (lent[0].as_mut_ptr(), lent[1].as_mut_ptr(), lent[2].as_mut_ptr());
             let (nums, kinds) = (lent[3].as_mut_ptr::<f64>(), lent[4].as_mut_ptr::<u8>());
             let (n, size) = (c.kinds.len(), c.numbers.len());
-            rt_simplify_data(kinds, n, nums, size, tolerance, out_kinds, rooms.kinds, out_nums, rooms.numbers, count)
+            pz_simplify_data(kinds, n, nums, size, tolerance, out_kinds, rooms.kinds, out_nums, rooms.numbers, count)
         },
         |before| written_commands(before, rooms, &simplify::simplify_data(&c.given(), tolerance)),
     )

@@ -3,7 +3,7 @@
 //! Document 02 §11 stands here once more, written apart from the proved code: the items of a text, its numbers in whole
 //! thousandths, its rows and its file. No function of the given Rust reads text.
 use super::bench::{Row, table};
-use super::calls::rt_read_course;
+use super::calls::pz_read_course;
 use super::draw::Draw;
 use super::frame::{Call, Compared, Tally};
 use super::laps::{argument, file, first_bytes};
@@ -121,7 +121,7 @@ pub fn reading_of(text: &[u8], room: usize) -> Compared {
     call.compare(
         |lent| unsafe {
             let (out, count, text_at) = (lent[0].as_mut_ptr(), lent[1].as_mut_ptr(), lent[2].as_mut_ptr::<u8>());
-            rt_read_course(text_at, text.len(), out, room, count)
+            pz_read_course(text_at, text.len(), out, room, count)
         },
         |before| {
             let bytes = expected.as_ref().expect("a text that is read");
@@ -389,7 +389,7 @@ pub fn bench() -> bool {
         given: Box::new(move || read(text, ROOM).map_or(0, |file| file.len())),
         proved: Box::new(move || unsafe {
             let mut count = 0;
-            rt_read_course(text.as_ptr(), text.len(), out.as_mut_ptr(), out.len(), &mut count);
+            pz_read_course(text.as_ptr(), text.len(), out.as_mut_ptr(), out.len(), &mut count);
             count
         }),
     });

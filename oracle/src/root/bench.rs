@@ -5,7 +5,7 @@
 //! answer goes into a sum or into the next argument, so the compiler removes no call and vectorises none. "machine, no
 //! call" is the bare instruction, written as such so that it is not vectorised either.
 use super::digits::digit_sqrt;
-use crate::calls::{black_box_register, machine_sqrt, rt_sqrt, same};
+use crate::calls::{black_box_register, machine_sqrt, pz_sqrt, same};
 use crate::random::Random;
 use std::arch::asm;
 use std::hint::black_box;
@@ -61,7 +61,7 @@ macro_rules! row {
 fn rows() -> [Row; 6] {
     [
         row!("machine, call", machine_sqrt),
-        row!("proved, call", rt_sqrt),
+        row!("proved, call", pz_sqrt),
         row!("by digits, call", digit_sqrt),
         row!("machine, no call", instruction),
         row!("an empty call", same),

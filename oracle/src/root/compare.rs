@@ -1,7 +1,7 @@
 //! The proved functions against the machine's own, bit for bit.
 use super::digits::digit_sqrt;
 use super::patterns::{class_at, names, pattern};
-use crate::calls::{rt_abs, rt_ceil, rt_clamp, rt_max, rt_sqrt};
+use crate::calls::{pz_abs, pz_ceil, pz_clamp, pz_max, pz_sqrt};
 use crate::random::Random;
 
 /// What was compared, and what differed.
@@ -40,16 +40,16 @@ impl Tally {
 
     fn all_of(&mut self, x: f64, y: f64) {
         let root = x.sqrt();
-        self.compare("sqrt", &[x], rt_sqrt(x), root);
+        self.compare("sqrt", &[x], pz_sqrt(x), root);
         self.compare("the root by digits", &[x], digit_sqrt(x), root);
-        self.compare("ceil", &[x], rt_ceil(x), x.ceil());
-        self.compare("abs", &[x], rt_abs(x), x.abs());
-        self.compare("clamp", &[x], rt_clamp(x, -1.0, 1.0), x.clamp(-1.0, 1.0));
+        self.compare("ceil", &[x], pz_ceil(x), x.ceil());
+        self.compare("abs", &[x], pz_abs(x), x.abs());
+        self.compare("clamp", &[x], pz_clamp(x, -1.0, 1.0), x.clamp(-1.0, 1.0));
         // of two zeros Rust's `max` may give either
         if x == 0.0 && y == 0.0 && x.to_bits() != y.to_bits() {
             self.skipped += 1;
         } else {
-            self.compare("max", &[x, y], rt_max(x, y), x.max(y));
+            self.compare("max", &[x, y], pz_max(x, y), x.max(y));
         }
     }
 }
