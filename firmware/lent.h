@@ -1,25 +1,14 @@
 /* Memory that the tests lend. What is lent ends where a page ends that nothing may touch, so a read or a write past it ends
    the test at once; inputs stand in pages that may only be read; and outputs have guard bytes in front of them, and hold a
    mark in each byte. */
-#include <stdio.h>
 #include <stdlib.h>
 #include <string.h>
 #include <sys/mman.h>
 #include <unistd.h>
+#include "checks.h"
 
 #define GUARD 64
 #define MARK 0xA5
-
-static int failures, checks;
-
-static void check(int right, const char *what)
-{
-    checks++;
-    if (!right) {
-        failures++;
-        printf("wrong: %s\n", what);
-    }
-}
 
 /* How many bytes the pages of a buffer have, its guard bytes included. */
 static size_t pages_of(size_t size)

@@ -3,13 +3,19 @@
    LENT MEMORY. A list passes as a pointer and its length in elements (bytes for a file, numbers for points and commands,
    not points or commands). The functions keep no pointer after they return, allocate nothing and have no state of their
    own, so two threads may call them at once on different memory; of other libraries they need memset and memcpy
-   alone. The archive (rt staticlib exports) is for x86-64 and no other processor. The caller sees to it that
-   - each pointer is valid for its length and aligned for its type (8 bytes for numbers and for size_t, 4 for uint32_t),
+   alone. The archive (firmware/archive builds it, firmware/install puts it where a program looks for it) is for x86-64 and
+   no other processor. The caller sees to it that
+   - each pointer is valid for its length and aligned for its type (8 bytes for numbers and for size_t, 4 for uint32_t), and a lent bool is
+     one, 0 or 1. A list of length 0 may have any pointer, NULL too, since nothing is read or written through it; no other
+     pointer may be NULL, those to one number or to an array of fixed size neither;
    - what is written (outputs and `count`) overlaps nothing else that is passed to the same call.
    Any contents are allowed: every call ends, reads and writes only what was lent, and unfit input meets a refusal.
 
    ANSWERS. 0 (PZ_DONE), or the number of the first refusal that applies. A refusal leaves all lent memory as it was, and
    `count` too. An accepted call writes the front of its output, as far as `count` tells, and leaves the rest alone.
+   Each function names its refusals, in the order in which they are checked: that of their numbers where nothing else is said.
+
+   NAMES. All that is here begins with pz_ or PZ_, and the archive has no other global name than the functions declared here.
 
    SIZES. A point is two numbers in the plane, three in space. A command is a kind byte and nine numbers: its end, then
    the centre's offset from the start and the normal (Arc), or both controls (Bezier); unused numbers are +0. An output
@@ -19,7 +25,8 @@
    - a fit of a course: one command for each Move, Line and Arc, and one for each step of a Bezier; above 800 refused;
    - a fit of a file: 8 + 8 * L + 73 * most bytes, most as for a course; at most 58,920 bytes in all (64 laps, 800 commands);
    - a replacement: the same, with the new lap's most plus the fitted file's commands in all other laps;
-   - an Arc drawn by Lines: 4,096 commands.
+   - an Arc drawn by Lines: 4,096 commands;
+   - a curve as n steps: n times six numbers; as parts halved d times: 1 + 2^d points;
    - the fewest straights of n points: n - 1 points;
    - a course read from path data: 8 + 8 * L + 73 * commands bytes, a lap for each M.
 
@@ -42,6 +49,7 @@
 #ifndef PIZHGAROL_H
 #define PIZHGAROL_H
 
+#include <stdbool.h>
 #include <stddef.h>
 #include <stdint.h>
 
@@ -49,16 +57,27 @@
 extern "C" {
 #endif
 
+/* The version of this header, and that of the archive in the same form, 0xMMmmpp: where the two differ, the archive is not this
+   header's. A change that callers must follow raises the first number, another addition the second, any other change the third. */
+#define PZ_VERSION_MAJOR 1u
+#define PZ_VERSION_MINOR 0u
+#define PZ_VERSION_PATCH 0u
+#define PZ_VERSION ((PZ_VERSION_MAJOR * 256u + PZ_VERSION_MINOR) * 256u + PZ_VERSION_PATCH)
+
+uint32_t pz_version(void);
+
 /* Answers. */
 #define PZ_DONE 0u
 #define PZ_NOT_WHOLE 1u     /* a slice is not whole points or commands; a file under 8 bytes */
-#define PZ_TOO_MANY 2u      /* more than 2,048 points, 800 commands, 64 laps, or 65,536 bytes of a file or a text */
+#define PZ_TOO_MANY 2u      /* more than 2,048 points, 800 commands, 64 laps, 65,536 bytes of a file or a text, 10 halvings or
+                               2,048 steps; 0 steps */
 #define PZ_BAD_FILE 3u      /* wrong mark or table, over 800 commands in a table, lap counts that differ */
 #define PZ_BAD_COMMAND 4u   /* unknown kind, unused number not +0, or in a lap a Move missing or misplaced */
-#define PZ_BAD_NUMBER 5u    /* an end or control not finite or above 1,000,000; an offset or normal not finite */
-#define PZ_BAD_TOLERANCE 6u /* tolerance not from 0.001 to 1,000 metres */
-#define PZ_NO_SUCH 7u       /* lap 0, or above the file's lap count */
-#define PZ_TOO_MUCH 8u      /* the most of a course or a replacement is above 800 */
+#define PZ_BAD_NUMBER 5u    /* an end or control not finite or above 1,000,000; an offset or normal not finite; a centre above 1e12, a
+                               radius not from 0 to 1e12, a parameter not from 0 to 1 */
+#define PZ_BAD_TOLERANCE 6u /* tolerance not from 0.001 to 1,000 metres; a squared one not from 1e-6 to 1,000,000 */
+#define PZ_NO_SUCH 7u       /* lap 0, or above the file's lap count; an index outside the points; no points where one is needed */
+#define PZ_TOO_MUCH 8u      /* the most of a course or a replacement, or the steps of a curve by resolution, above 800 */
 #define PZ_NO_ROOM 9u       /* the lent output holds less than the most */
 #define PZ_CLOSED 10u       /* a call on a live thinner that was closed */
 #define PZ_NOT_DRAWABLE 11u /* pz_flatten_arc alone, before 8 and 9: see there */
@@ -87,14 +106,15 @@ static inline size_t pz_file_bytes(size_t laps, size_t commands)
 
 /* Fits each lap of a recorded file; *count is the fitted file's bytes. This call, the replacement of a lap and the fit of a
    course measure from the segment between two points: the far turn of a run out and back stays. Every other call measures from
-   the endless line through them. */
+   the endless line through them. Refusals: 1 to 6, 8, 9. */
 uint32_t pz_fit_file(
     const uint8_t *recorded, size_t recorded_bytes,
     double tolerance,
     uint8_t *out, size_t out_bytes, size_t *count);
 
 /* Replaces lap `lap`, from 1: `out` gets the fit of the new commands, and of the fitted file every other lap's body as it
-   stands. The recorded file is the one that was fitted. Distances are to the segment, as in pz_fit_file. */
+   stands. The recorded file is the one that was fitted; of the fitted one the mark, the table and the lap count alone are
+   checked. Distances are to the segment, as in pz_fit_file. Refusals: 1 to 9. */
 uint32_t pz_replace_lap(
     const uint8_t *recorded, size_t recorded_bytes,
     const uint8_t *fitted, size_t fitted_bytes,
@@ -106,7 +126,8 @@ uint32_t pz_replace_lap(
 /* Fits points in space; *count is the commands. The first point is where the first command starts. *ranges is how many
    ranges of points the fit looked at, for planning the battery: 0 below two points, else 2 * commands - 1. `worst` gets
    one number a command, for marking a bend on the screen: for an Arc the index, in the points, of the one at which the
-   first step starts that is farthest from it, 0 where each step lies on it; for a Line 0. */
+   first step starts that is farthest from it, 0 where each step lies on it; for a Line 0. Refusals:
+   1, 2, 5, 6, 9. */
 uint32_t pz_fit_points_with_primitives(
     const double *points, size_t points_length,
     double tolerance,
@@ -114,25 +135,25 @@ uint32_t pz_fit_points_with_primitives(
     size_t *count, size_t *ranges);
 
 /* Fits a course: a list of commands, which needs no Move; *count is the commands. Arcs stay as they are. Distances are to the
-   segment, as in pz_fit_file. */
+   segment, as in pz_fit_file. Refusals: 1, 2, 4, 5, 6, 8, 9. */
 uint32_t pz_fit_arcs(
     const uint8_t *kinds, size_t kinds_length, const double *nums, size_t nums_length,
     double tolerance,
     uint8_t *out_kinds, size_t out_kinds_length, double *out_nums, size_t out_nums_length, size_t *count);
 
-/* Thins points in the plane (x, y); *count is the points. */
+/* Thins points in the plane (x, y); *count is the points. Refusals: 1, 2, 5, 6, 9. */
 uint32_t pz_simplify_polyline(
     const double *points, size_t points_length,
     double tolerance,
     double *out, size_t out_length, size_t *count);
 
-/* Thins points in space (x, y, z), by their distance in x and y; *count is the points. */
+/* Thins points in space (x, y, z), by their distance in x and y; *count is the points. Refusals: 1, 2, 5, 6, 9. */
 uint32_t pz_simplify_polyline_3d(
     const double *points, size_t points_length,
     double tolerance,
     double *out, size_t out_length, size_t *count);
 
-/* Thins commands by their ends, keeping every Move; *count is the commands. */
+/* Thins commands by their ends, keeping every Move; *count is the commands. Refusals: 1, 2, 4, 5, 6, 9. */
 uint32_t pz_simplify_data(
     const uint8_t *kinds, size_t kinds_length, const double *nums, size_t nums_length,
     double tolerance,
@@ -205,7 +226,8 @@ static inline uint32_t pz_thinner_close(pz_thinner *s, double end[3], size_t *ha
    quarter turn reach that; the last ends at the Arc's own end, and the heights between rise evenly. Whatever the Arc, the
    output must have room for PZ_MOST_LINES kinds, and nine times as many numbers (294,912 bytes). PZ_NOT_DRAWABLE: the
    command is no Arc, its normal is neither (0, 0, 1) nor (0, 0, -1), its offset is above 1,000,000 in a coordinate, the
-   start or the end is less than 1e-9 from the centre, or their distances from it differ by the tolerance or more. */
+   start or the end is less than 1e-9 from the centre, or their distances from it differ by the tolerance or more. Refusals: 1, 4, 5,
+   6, 11, 9. */
 uint32_t pz_flatten_arc(
     uint8_t kind, const double *command, size_t command_length,
     double x, double y, double z,
@@ -235,6 +257,115 @@ uint32_t pz_read_course(
 uint32_t pz_fewest_straights(
     const double *points, size_t points_length, double tolerance, uint64_t budget,
     double *out, size_t out_length, size_t *count, uint64_t *tested, size_t *bound);
+
+/* THE PARTS of a fit, for who builds another one. Points are lent as above; a point that is handed in passes as its numbers; what a
+   call finds goes to arrays of fixed size, which a refusal leaves as they were. */
+
+/* Fits the points from index `start` to index `end` alone; nothing where start is not below end. Room for end - start commands,
+   and as many worst steps, counted in all the points, as in pz_fit_points_with_primitives. Refusals: 1, 2, 5, 6, 7, 9. */
+uint32_t pz_fit_points_recursive(
+    const double *points, size_t points_length,
+    double tolerance,
+    size_t start, size_t end,
+    uint8_t *kinds, size_t kinds_length, double *nums, size_t nums_length, uint32_t *worst, size_t worst_length,
+    size_t *count);
+
+/* Thins the chains of Lines of a path, or fits them with `use_fit_arcs`; every other command stays. Room for as many commands as
+   are given. Refusals: 1, 2, 4, 5, 6, 9. */
+uint32_t pz_optimize_path_from_array(
+    const uint8_t *kinds, size_t kinds_length, const double *nums, size_t nums_length,
+    double tolerance, bool use_fit_arcs,
+    uint8_t *out_kinds, size_t out_kinds_length, double *out_nums, size_t out_nums_length, size_t *count);
+
+/* How far a point between the indices `start` and `end` lies from the line through the points there, at most, and the first point
+   that does: 0 and start where start is not below end. Refusals: 1, 2, 5, 7. */
+uint32_t pz_get_polyline_line_deviation(
+    const double *points, size_t points_length, size_t start, size_t end, double *dist, size_t *index);
+
+/* How far points, or the steps between them, leave a circle, at most, and the point at which the first step starts that does so; 0
+   and 0 below two points, and where each step lies on the circle. Refusals: 1, 2, 5. */
+uint32_t pz_get_polyline_arc_deviation(
+    const double *points, size_t points_length, double cx, double cy, double radius, double *dist, size_t *index);
+
+/* Whether points lie on a line; fewer than three do. Refusals: 1, 2, 5, 6. */
+uint32_t pz_are_points_collinear_3d(const double *points, size_t points_length, double tolerance, bool *collinear);
+
+/* The circle through three points: *found, and where there is one, its centre and its radius. Refusals: 5. */
+uint32_t pz_fit_circle_to_3_points(
+    double p1x, double p1y, double p1z, double p2x, double p2y, double p2z, double p3x, double p3y, double p3z,
+    bool *found, double answer[3]);
+
+/* The circle of least squares: *found, and where there is one, its centre, its radius and its greatest error. None below three
+   points, or of points on a line. Refusals: 1, 2, 5. */
+uint32_t pz_fit_circle_to_points_3d(const double *points, size_t points_length, bool *found, double answer[4]);
+
+/* A circle's centre, moved to the bisector of the chord from p1 to p2. Refusals: 5. */
+uint32_t pz_project_circle_center_to_bisector(
+    double p1x, double p1y, double p1z, double p2x, double p2y, double p2z, double cx, double cy, double answer[2]);
+
+/* Whether points in the plane go clockwise round a centre; one point does not. Refusals: 1, 2, 5, 7 (no points). */
+uint32_t pz_is_arc_clockwise(const double *points, size_t points_length, double cx, double cy, bool *clockwise);
+
+/* The point between two. Refusals: 5. */
+uint32_t pz_get_midpoint_3d(double ax, double ay, double az, double bx, double by, double bz, double answer[3]);
+
+/* CURVES: cubic Beziers, in the order start (p0), both controls (c1, c2), end (p1). */
+
+/* The point at t of a curve in the plane. Refusals: 5. */
+uint32_t pz_get_bezier_point_at(
+    double p0x, double p0y, double c1x, double c1y, double c2x, double c2y, double p1x, double p1y,
+    double t, double answer[2]);
+
+/* Both parts of a curve in the plane, cut at t: eight numbers each. Refusals: 5. */
+uint32_t pz_split_bezier(
+    double p0x, double p0y, double c1x, double c1y, double c2x, double c2y, double p1x, double p1y,
+    double t, double answer[16]);
+
+/* Whether a curve in the plane is flat: neither control is farther than the tolerance from the chord. Refusals: 5, 6. */
+uint32_t pz_is_bezier_flat(
+    double p0x, double p0y, double c1x, double c1y, double c2x, double c2y, double p1x, double p1y,
+    double tolerance_sq, bool *flat);
+
+/* A curve in space as so many steps of equal parameter; *count is the steps, six numbers each: from where, to where. Room for
+   num_steps of them. Refusals: 1, 2 (0 steps, or above 2,048), 5, 9. */
+uint32_t pz_linearize_bezier(
+    double p0x, double p0y, double p0z, double c1x, double c1y, double c1z,
+    double c2x, double c2y, double c2z, double p1x, double p1y, double p1z,
+    size_t num_steps, double *out, size_t out_length, size_t *count);
+
+/* The same by a resolution in metres, of a command's numbers: its end first, its start last. The heights of the controls are
+   replaced by thirds. At least 2 steps, at most 800. Refusals: 1, 5, 6, 8, 9. */
+uint32_t pz_linearize_bezier_from_params(
+    double ex, double ey, double ez, double c1x, double c1y, double c1z,
+    double c2x, double c2y, double c2z, double sx, double sy, double sz,
+    double resolution, double *out, size_t out_length, size_t *count);
+
+/* A curve in the plane halved until each part is flat, at most max_depth times; *count is the points, the start first. Room for
+   1 + 2^max_depth points. Refusals: 1, 2 (a depth above 10), 5, 6, 9. */
+uint32_t pz_linearize_bezier_adaptive(
+    double p0x, double p0y, double c1x, double c1y, double c2x, double c2y, double p1x, double p1y,
+    double tolerance_sq, size_t max_depth, double *out, size_t out_length, size_t *count);
+
+/* A curve in space halved until each part is flat, at most ten times; the tolerance counts if it is `given`, else it is 0.01. *count
+   is the points, the start first. Room for PZ_MOST_SEGMENT_POINTS points. Refusals: 1, 5, 6, 9. */
+#define PZ_MOST_SEGMENT_POINTS 1025u
+
+uint32_t pz_linearize_bezier_segment(
+    double p0x, double p0y, double p0z, double c1x, double c1y, double c1z,
+    double c2x, double c2y, double c2z, double p1x, double p1y, double p1z,
+    bool given, double tolerance, double *out, size_t out_length, size_t *count);
+
+/* The curve fitted to points in the plane: *found, and where there is one, its eight numbers. None below two points.
+   Refusals: 1, 2, 5. */
+uint32_t pz_fit_cubic_bezier(const double *points, size_t points_length, bool *found, double answer[8]);
+
+/* NUMBERS, each for every double: the square root as IEEE 754 rounds it, the least whole number that is not below x, x without its
+   sign, the greater of two (of a number and a NaN the number), x kept within least and most. */
+double pz_sqrt(double x);
+double pz_ceil(double x);
+double pz_abs(double x);
+double pz_max(double a, double b);
+double pz_clamp(double x, double least, double most);
 
 #ifdef __cplusplus
 }

@@ -1,19 +1,8 @@
 /* Runs the live thinner through pizhgarol.h: what a run hands out, every refusal, and that a refused call leaves all lent memory. */
 #include <math.h>
-#include <stdio.h>
 #include <string.h>
+#include "checks.h"
 #include "pizhgarol.h"
-
-static int failures, checks;
-
-static void check(int right, const char *what)
-{
-    checks++;
-    if (!right) {
-        failures++;
-        printf("wrong: %s\n", what);
-    }
-}
 
 /* The state between marks, and what a call hands out. */
 typedef struct {

@@ -1,25 +1,14 @@
 /* Calls pz_read_course through pizhgarol.h: files, refusals in their order, and that only lent memory is touched. What is lent
    is allocated to the byte, so that valgrind sees a read or a write past it; outputs hold a mark in each byte, and guard bytes
    stand behind them. */
-#include <stdio.h>
 #include <stdlib.h>
 #include <string.h>
+#include "checks.h"
 #include "pizhgarol.h"
 
 #define MARK 0xA5
 #define GUARD 64
 #define UNTOUCHED 12345u
-
-static int failures, checks;
-
-static void check(int right, const char *what)
-{
-    checks++;
-    if (!right) {
-        failures++;
-        printf("wrong: %s\n", what);
-    }
-}
 
 struct read {
     uint32_t answer;

@@ -1,2 +1,3 @@
 pub mod Plain
 pub mod LiveState
+pub mod Version

@@ -17,3 +17,4 @@ pub mod numbers;
 pub mod points;
 pub mod simplifies;
 pub mod straights;
+pub mod versions;
