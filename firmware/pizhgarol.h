@@ -30,22 +30,32 @@
    - the fewest straights of n points: n - 1 points;
    - a course read from path data: 8 + 8 * L + 73 * commands bytes, a lap for each M.
 
-   STACK. Measured, not proved: firmware/stack.c fills a thread's stack with a pattern and runs the zigzags that are cut
-   most often (2,048 points, or 800 commands, each cut taking one point off): thinning recurses as deep as it cuts, and so
-   does the cut of the fewest straights (256 points); a fit
-   does not. And the greatest circle drawn by Lines. firmware/run prints what it finds. On x86-64 Linux it was, in bytes, for the archive that this header came with:
-     pz_simplify_polyline            231328 bytes
-     pz_simplify_polyline_3d         231328 bytes
-     pz_simplify_data                117200 bytes
-     pz_fit_points_with_primitives     4608 bytes
-     pz_fit_arcs                     113728 bytes
-     pz_fit_file                     230576 bytes
-     pz_replace_lap                  230512 bytes
-     pz_flatten_arc                    4992 bytes
-     pz_read_course                     696 bytes
-     pz_fewest_straights              41976 bytes
-   No input recurses deeper, since each cut takes a point off. What the innermost call takes beside that was measured on
-   these zigzags alone, and bytes that a call reserves but never writes do not show: leave a margin of some KiB. */
+   STACK, in bytes. Measured, not proved: firmware/stack.c fills a thread's stack with a pattern and runs each call at several
+   sizes, up to the greatest, on the zigzags that are cut at every point, on bends, a spiral and curves. A row is the line that
+   lies above all that was measured, rounded up to 128 bytes, and its value at the greatest n; firmware/run measures it again.
+   n counts points; for thinning commands and for a path, commands; for a course, a file and a replacement it is the most of
+   the course, of the longest lap, and of the new lap.
+     pz_simplify_polyline             2048 + 112 * n   231424
+     pz_simplify_polyline_3d          2048 + 112 * n   231424
+     pz_simplify_data                 2048 + 144 * n   117248
+     pz_optimize_path_from_array     24320 + 112 * n   113920
+     pz_fit_points_with_primitives    4992               4992
+     pz_fit_points_recursive          4992               4992
+     pz_fit_arcs                     24448 + 112 * n   114048
+     pz_fit_file                    141312 + 112 * n   230912
+     pz_replace_lap                 141184 + 112 * n   230784
+     pz_fewest_straights              1152 + 160 * n    42112
+     pz_flatten_arc                   4992               4992
+     pz_read_course                    768                768
+     pz_live_feed                     9856               9856
+     pz_live_retune                  11392              11392
+     pz_fit_cubic_bezier             16640              16640
+     pz_linearize_bezier_adaptive     2432               2432
+     pz_linearize_bezier_segment      4096               4096
+     others                           1920               1920
+   No input recurses deeper than the zigzags, since each cut takes a point off: thinning, and the cut of the fewest straights,
+   recurse as deep as they cut, the fit of points does not. Bytes that a call reserves but never writes do not show: leave a
+   margin of some KiB. The rows are those of x86-64: another processor's have to be measured there. */
 #ifndef PIZHGAROL_H
 #define PIZHGAROL_H
 

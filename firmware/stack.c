@@ -1,5 +1,7 @@
-/* Measures how much stack the calls of pizhgarol.h take on the inputs that make them recurse deepest: the call runs in a
-   thread whose stack is filled with a pattern first, and the lowest byte that changed tells the depth. */
+/* Measures how much stack the calls of pizhgarol.h take: each runs in a thread whose stack is filled with a pattern first, and the
+   lowest byte that changed tells the depth. Each call is measured at several sizes and on several shapes of input, of which the
+   zigzags make it recurse deepest; what it prints is the line that lies above all of them, as the header states it. */
+#include <math.h>
 #include <pthread.h>
 #include <stdio.h>
 #include <stdlib.h>
@@ -7,52 +9,93 @@
 #include <sys/mman.h>
 #include "pizhgarol.h"
 
-#define SIZE (8u << 20)
+#define STACK (1u << 20)
 #define MARK 0xA5
+#define TOLERANCE 0.5
+#define ROUND 128
 
-static double points[3 * PZ_MOST_POINTS], planar[2 * PZ_MOST_POINTS], out_nums[9 * PZ_MOST_POINTS];
-static uint8_t kinds[PZ_MOST_COMMANDS], out_kinds[PZ_MOST_POINTS];
-static double nums[9 * PZ_MOST_COMMANDS];
-static unsigned char file[PZ_MOST_FILE_BYTES], fitted[PZ_MOST_OUTPUT_BYTES], out[PZ_MOST_OUTPUT_BYTES];
-static size_t file_size, fitted_size, count, ranges;
+/* Sizes, and how many a call takes at most. */
+static const int sizes[] = {2, 3, 8, 64, PZ_MOST_STRAIGHT_POINTS, PZ_MOST_COMMANDS, PZ_MOST_POINTS};
+#define SIZES (int)(sizeof sizes / sizeof *sizes)
+
+enum shape { GROWS, FALLS, BENDS, SPIRAL, CURVES, SHAPES };
+
+static int n;
+static double points[3 * PZ_MOST_POINTS], planar[2 * PZ_MOST_POINTS], out_nums[9 * PZ_MOST_LINES];
+static uint8_t kinds[PZ_MOST_POINTS], out_kinds[PZ_MOST_LINES];
+static double nums[9 * PZ_MOST_POINTS];
+static int commands;
+static uint8_t file[16 + PZ_COMMAND_BYTES * PZ_MOST_POINTS], fitted[PZ_MOST_OUTPUT_BYTES], out[PZ_MOST_OUTPUT_BYTES];
+static size_t file_size, fitted_size, count, other;
 static uint32_t worst[PZ_MOST_POINTS];
 static char text[PZ_MOST_TEXT_BYTES];
 static size_t text_size;
+static pz_thinner thinner;
 static uint32_t answer;
 
-/* A zigzag that grows, or falls: its farthest point is always the one beside an end, so each cut takes one point off. */
-static void zigzag(int falls)
+/* One of n points. The farthest point of a zigzag is always the one beside an end, so each cut takes one point off; bends are
+   points of circles that turn either way, and a spiral is no circle. */
+static void place(enum shape shape, int i, double *x, double *y)
 {
-    for (int i = 0; i < PZ_MOST_POINTS; i++) {
-        double at = falls ? PZ_MOST_POINTS - 1 - i : i;
-        planar[2 * i] = points[3 * i] = at;
-        planar[2 * i + 1] = points[3 * i + 1] = i % 2 ? -at : at;
-    }
-    for (int i = 0; i < PZ_MOST_COMMANDS; i++) {
-        kinds[i] = i ? PZ_LINE : PZ_MOVE;
-        memcpy(nums + 9 * i, points + 3 * (falls ? PZ_MOST_POINTS - PZ_MOST_COMMANDS + i : i), 24);
+    double at = shape == FALLS ? n - 1 - i : i, turn = at / 10;
+    switch (shape) {
+    case BENDS:
+        *x = 100 * (i / 32) + 50 * (1 - cos(turn));
+        *y = i / 32 % 2 ? -50 * sin(turn) : 50 * sin(turn);
+        break;
+    case SPIRAL:
+        *x = (50 + 20 * turn) * cos(turn);
+        *y = (50 + 20 * turn) * sin(turn);
+        break;
+    default:
+        *x = at;
+        *y = i % 2 ? -at : at;
     }
 }
 
-static void head(void)
+/* n points, and a lap of a Move and Lines to them; or of curves, which are two steps each, so half as many. */
+static void draw(enum shape shape)
+{
+    memset(nums, 0, sizeof nums);
+    for (int i = 0; i < n; i++) {
+        place(shape, i, &points[3 * i], &points[3 * i + 1]);
+        memcpy(planar + 2 * i, points + 3 * i, 16);
+    }
+    commands = shape == CURVES ? (n + 1) / 2 : n;
+    for (int i = 0; i < commands; i++) {
+        kinds[i] = !i ? PZ_MOVE : shape == CURVES ? PZ_BEZIER : PZ_LINE;
+        memcpy(nums + 9 * i, points + 3 * i, 24);
+        if (kinds[i] == PZ_BEZIER) {
+            memset(nums + 9 * i, 0, 72);
+        }
+    }
+}
+
+/* The lap as a file, and its fit; a text with as many curves. */
+static void write_files(void)
 {
     memcpy(file, "LAPS\1\0\0\0\20\0\0\0", 12);
-    file[12] = PZ_MOST_COMMANDS & 255;
-    file[13] = PZ_MOST_COMMANDS >> 8;
-    for (int i = 0; i < PZ_MOST_COMMANDS; i++) {
+    file[12] = (uint8_t)(commands & 255);
+    file[13] = (uint8_t)(commands >> 8);
+    for (int i = 0; i < commands; i++) {
         file[16 + PZ_COMMAND_BYTES * i] = kinds[i];
         memcpy(file + 17 + PZ_COMMAND_BYTES * i, nums + 9 * i, 72);
     }
-    file_size = pz_file_bytes(1, PZ_MOST_COMMANDS);
-    pz_fit_file(file, file_size, 0.5, fitted, sizeof fitted, &fitted_size);
+    file_size = pz_file_bytes(1, (size_t)commands);
+    pz_fit_file(file, file_size, TOLERANCE, fitted, sizeof fitted, &fitted_size);
+    text_size = (size_t)sprintf(text, "M 0 0");
+    for (int i = 1; i < n && i < PZ_MOST_COMMANDS; i++) {
+        text_size += (size_t)sprintf(text + text_size, " C -1.25 2 3 4 5 6.125");
+    }
 }
 
-/* Path data of a Move and as many curves as a course may have. */
-static void draw_course(void)
+/* A thinner that holds as many points as it can, which a finer tolerance hands out. */
+static void hold(void)
 {
-    text_size = (size_t)sprintf(text, "M 0 0");
-    for (int i = 1; i < PZ_MOST_COMMANDS; i++) {
-        text_size += (size_t)sprintf(text + text_size, " C -1.25 2 3 4 5 6.125");
+    pz_thinner_start(&thinner, 1000);
+    for (int i = 0; i < (int)PZ_LIVE_SLOTS; i++) {
+        double point[3] = {0, i % 2 ? 3 : 0, i};
+        pz_thinner_feed(&thinner, point, out_nums, &count);
     }
 }
 
@@ -60,47 +103,63 @@ static void *nothing(void *a) { return a; }
 
 static void *thin_plane(void *a)
 {
-    answer = pz_simplify_polyline(planar, 2 * PZ_MOST_POINTS, 0.5, out_nums, 2 * PZ_MOST_POINTS, &count);
+    answer = pz_simplify_polyline(planar, 2 * (size_t)n, TOLERANCE, out_nums, 2 * PZ_MOST_POINTS, &count);
     return a;
 }
 
 static void *thin(void *a)
 {
-    answer = pz_simplify_polyline_3d(points, 3 * PZ_MOST_POINTS, 0.5, out_nums, 3 * PZ_MOST_POINTS, &count);
+    answer = pz_simplify_polyline_3d(points, 3 * (size_t)n, TOLERANCE, out_nums, 3 * PZ_MOST_POINTS, &count);
     return a;
 }
 
 static void *thin_data(void *a)
 {
-    answer = pz_simplify_data(kinds, PZ_MOST_COMMANDS, nums, 9 * PZ_MOST_COMMANDS, 0.5,
+    answer = pz_simplify_data(kinds, (size_t)commands, nums, 9 * (size_t)commands, TOLERANCE,
         out_kinds, PZ_MOST_COMMANDS, out_nums, 9 * PZ_MOST_COMMANDS, &count);
     return a;
 }
 
 static void *fit_points(void *a)
 {
-    answer = pz_fit_points_with_primitives(points, 3 * PZ_MOST_POINTS, 0.5,
-        out_kinds, PZ_MOST_POINTS, out_nums, 9 * PZ_MOST_POINTS, worst, PZ_MOST_POINTS, &count, &ranges);
+    answer = pz_fit_points_with_primitives(points, 3 * (size_t)n, TOLERANCE,
+        out_kinds, PZ_MOST_POINTS, out_nums, 9 * PZ_MOST_POINTS, worst, PZ_MOST_POINTS, &count, &other);
+    return a;
+}
+
+static void *fit_range(void *a)
+{
+    answer = pz_fit_points_recursive(points, 3 * (size_t)n, TOLERANCE, 0, (size_t)n - 1,
+        out_kinds, PZ_MOST_POINTS, out_nums, 9 * PZ_MOST_POINTS, worst, PZ_MOST_POINTS, &count);
     return a;
 }
 
 static void *fit_course(void *a)
 {
-    answer = pz_fit_arcs(kinds, PZ_MOST_COMMANDS, nums, 9 * PZ_MOST_COMMANDS, 0.5,
+    answer = pz_fit_arcs(kinds, (size_t)commands, nums, 9 * (size_t)commands, TOLERANCE,
         out_kinds, PZ_MOST_COMMANDS, out_nums, 9 * PZ_MOST_COMMANDS, &count);
+    return a;
+}
+
+static void *optimize(void *a)
+{
+    for (int fits = 0; fits < 2 && !answer; fits++) {
+        answer = pz_optimize_path_from_array(kinds, (size_t)commands, nums, 9 * (size_t)commands, TOLERANCE, fits,
+            out_kinds, PZ_MOST_COMMANDS, out_nums, 9 * PZ_MOST_COMMANDS, &count);
+    }
     return a;
 }
 
 static void *fit_file(void *a)
 {
-    answer = pz_fit_file(file, file_size, 0.5, out, sizeof out, &count);
+    answer = pz_fit_file(file, file_size, TOLERANCE, out, sizeof out, &count);
     return a;
 }
 
 static void *replace(void *a)
 {
     answer = pz_replace_lap(file, file_size, fitted, fitted_size, 1,
-        kinds, PZ_MOST_COMMANDS, nums, 9 * PZ_MOST_COMMANDS, 0.5, out, sizeof out, &count);
+        kinds, (size_t)commands, nums, 9 * (size_t)commands, TOLERANCE, out, sizeof out, &count);
     return a;
 }
 
@@ -108,10 +167,7 @@ static void *replace(void *a)
 static void *draw_arc(void *a)
 {
     static const double circle[9] = {1e6, 0, 0, -1e6, 0, 0, 0, 0, 1};
-    static uint8_t line_kinds[PZ_MOST_LINES];
-    static double line_nums[9 * PZ_MOST_LINES];
-    answer = pz_flatten_arc(PZ_ARC, circle, 9, 1e6, 0, 0, 0.001,
-        line_kinds, PZ_MOST_LINES, line_nums, 9 * PZ_MOST_LINES, &count);
+    answer = pz_flatten_arc(PZ_ARC, circle, 9, 1e6, 0, 0, 0.001, out_kinds, PZ_MOST_LINES, out_nums, 9 * PZ_MOST_LINES, &count);
     return a;
 }
 
@@ -121,67 +177,165 @@ static void *read_course(void *a)
     return a;
 }
 
-/* No budget: the answer is the recursive cut. */
+/* Without a budget the answer is the recursive cut, with enough it is the search's. */
 static void *find_straights(void *a)
 {
+    const uint64_t budgets[2] = {0, UINT64_MAX};
     uint64_t tested;
-    answer = pz_fewest_straights(points, 3 * PZ_MOST_STRAIGHT_POINTS, 0.5, 0, out_nums, 3 * PZ_MOST_STRAIGHT_POINTS, &count, &tested, &ranges);
+    for (int i = 0; i < 2 && !answer; i++) {
+        answer = pz_fewest_straights(points, 3 * (size_t)n, TOLERANCE, budgets[i],
+            out_nums, 3 * PZ_MOST_STRAIGHT_POINTS, &count, &tested, &other);
+    }
     return a;
 }
 
-/* How many bytes of the thread's stack were touched. */
+static void *feed(void *a)
+{
+    const double point[3] = {0, 3, 65};
+    answer = pz_thinner_feed(&thinner, point, out_nums, &count);
+    return a;
+}
+
+static void *retune(void *a)
+{
+    answer = pz_thinner_retune(&thinner, 1, out_nums, 3 * PZ_LIVE_MOST_ENDS, &count);
+    return a;
+}
+
+static void *fit_cubic(void *a)
+{
+    bool found;
+    double curve[8];
+    answer = pz_fit_cubic_bezier(planar, 2 * (size_t)n, &found, curve);
+    return a;
+}
+
+static void *halve_plane(void *a)
+{
+    answer = pz_linearize_bezier_adaptive(0, 0, 0, 1e6, 1e6, 1e6, 1e6, 0, 1e-6, 10, out_nums, 2 * PZ_MOST_SEGMENT_POINTS, &count);
+    return a;
+}
+
+static void *halve_space(void *a)
+{
+    answer = pz_linearize_bezier_segment(0, 0, 0, 0, 1e6, 0, 1e6, 1e6, 0, 1e6, 0, 0, true, 0.001,
+        out_nums, 3 * PZ_MOST_SEGMENT_POINTS, &count);
+    return a;
+}
+
+/* What has no row of its own: nothing of it recurses or keeps a list. */
+static void *others(void *a)
+{
+    const double c[12] = {0, 0, 0, 0, 50, 0, 50, 50, 0, 50, 0, 0};
+    bool is;
+    double found[16];
+    answer |= pz_live_start(1, &found[0], thinner.points, &count, &thinner.closed);
+    answer |= pz_live_close(1, thinner.points, 0, &thinner.closed, found, &count);
+    answer |= pz_get_polyline_line_deviation(points, 3 * (size_t)n, 0, (size_t)n - 1, found, &other);
+    answer |= pz_get_polyline_arc_deviation(points, 3 * (size_t)n, 0, 0, 50, found, &other);
+    answer |= pz_are_points_collinear_3d(points, 3 * (size_t)n, TOLERANCE, &is);
+    answer |= pz_fit_circle_to_points_3d(points, 3 * (size_t)n, &is, found);
+    answer |= pz_fit_circle_to_3_points(3, 4, 0, 4, 3, 0, 5, 0, 0, &is, found);
+    answer |= pz_project_circle_center_to_bisector(0, 0, 0, 2, 0, 0, 0, 7, found);
+    answer |= pz_is_arc_clockwise(planar, 2 * (size_t)n, 0, 0, &is);
+    answer |= pz_get_midpoint_3d(0, 0, 0, 2, 4, 6, found);
+    answer |= pz_get_bezier_point_at(c[0], c[1], c[3], c[4], c[6], c[7], c[9], c[10], 0.5, found);
+    answer |= pz_split_bezier(c[0], c[1], c[3], c[4], c[6], c[7], c[9], c[10], 0.5, found);
+    answer |= pz_is_bezier_flat(c[0], c[1], c[3], c[4], c[6], c[7], c[9], c[10], 1, &is);
+    answer |= pz_linearize_bezier(c[0], c[1], c[2], c[3], c[4], c[5], c[6], c[7], c[8], c[9], c[10], c[11], 99, out_nums, 6 * 99, &count);
+    answer |= pz_linearize_bezier_from_params(c[0], c[1], c[2], c[3], c[4], c[5], c[6], c[7], c[8], c[9], c[10], c[11], 1,
+        out_nums, 6 * PZ_MOST_COMMANDS, &count);
+    found[0] = pz_sqrt(2) + pz_ceil(1.5) + pz_abs(-1) + pz_max(1, 2) + pz_clamp(1, 2, 3) + pz_version();
+    return a;
+}
+
+/* How many bytes of the thread's stack were touched, or 0 where the call was refused. */
 static size_t depth(void *(*call)(void *))
 {
-    unsigned char *stack = mmap(NULL, SIZE, PROT_READ | PROT_WRITE, MAP_PRIVATE | MAP_ANONYMOUS, -1, 0);
+    static unsigned char *stack;
     pthread_attr_t attr;
     pthread_t thread;
     size_t low = 0;
-    if (stack == MAP_FAILED) {
-        return 0;
+    if (!stack) {
+        stack = mmap(NULL, STACK, PROT_READ | PROT_WRITE, MAP_PRIVATE | MAP_ANONYMOUS, -1, 0);
+        if (stack == MAP_FAILED) {
+            exit(2);
+        }
     }
-    memset(stack, MARK, SIZE);
+    memset(stack, MARK, STACK);
     pthread_attr_init(&attr);
-    pthread_attr_setstack(&attr, stack, SIZE);
+    pthread_attr_setstack(&attr, stack, STACK);
     answer = 0;
     if (pthread_create(&thread, &attr, call, NULL) || pthread_join(thread, NULL) || answer) {
         return 0;
     }
-    while (low < SIZE && stack[low] == MARK) {
+    while (low < STACK && stack[low] == MARK) {
         low++;
     }
-    munmap(stack, SIZE);
-    return SIZE - low;
+    return STACK - low;
 }
 
-static int row(const char *name, void *(*call)(void *))
+/* The most over all shapes of this size. */
+static long deepest(const char *name, void *(*call)(void *))
 {
-    size_t most = 0;
-    for (int falls = 0; falls < 2; falls++) {
-        zigzag(falls);
-        head();
-        draw_course();
-        size_t with = depth(call), without = depth(nothing);
-        if (!with || with < without) {
-            printf("%s: not measured\n", name);
-            return 1;
+    long most = 0, without = (long)depth(nothing);
+    for (int shape = 0; shape < SHAPES; shape++) {
+        draw((enum shape)shape);
+        write_files();
+        hold();
+        long with = (long)depth(call);
+        if (!with) {
+            printf("%s: not measured, refused by %u\n", name, (unsigned)answer);
+            exit(1);
         }
         most = with - without > most ? with - without : most;
     }
-    printf("%-30s %7zu bytes of stack\n", name, most);
-    return 0;
+    return most;
+}
+
+/* The line above all measurements: as steep as between the two greatest sizes, as low as it can lie, and rounded up, since the
+   caller's own frame moves it by some bytes. */
+static void row(const char *name, void *(*call)(void *), int largest)
+{
+    long bytes[SIZES], steep = 0, base = 0;
+    int last = 0;
+    for (int i = 0; i < SIZES && sizes[i] <= largest; i++) {
+        n = sizes[last = i];
+        bytes[i] = deepest(name, call);
+    }
+    if (last) {
+        steep = (bytes[last] - bytes[last - 1]) / (sizes[last] - sizes[last - 1]);
+    }
+    for (int i = 0; i <= last; i++) {
+        base = bytes[i] - steep * sizes[i] > base ? bytes[i] - steep * sizes[i] : base;
+    }
+    base = (base + ROUND - 1) / ROUND * ROUND;
+    if (steep) {
+        printf("%-30s %6ld + %3ld * n %8ld\n", name, base, steep, base + steep * sizes[last]);
+    } else {
+        printf("%-30s %6ld           %8ld\n", name, base, base);
+    }
 }
 
 int main(void)
 {
-    int missing = row("pz_simplify_polyline", thin_plane);
-    missing |= row("pz_simplify_polyline_3d", thin);
-    missing |= row("pz_simplify_data", thin_data);
-    missing |= row("pz_fit_points_with_primitives", fit_points);
-    missing |= row("pz_fit_arcs", fit_course);
-    missing |= row("pz_fit_file", fit_file);
-    missing |= row("pz_replace_lap", replace);
-    missing |= row("pz_flatten_arc", draw_arc);
-    missing |= row("pz_read_course", read_course);
-    missing |= row("pz_fewest_straights", find_straights);
-    return missing;
+    row("pz_simplify_polyline", thin_plane, PZ_MOST_POINTS);
+    row("pz_simplify_polyline_3d", thin, PZ_MOST_POINTS);
+    row("pz_simplify_data", thin_data, PZ_MOST_COMMANDS);
+    row("pz_optimize_path_from_array", optimize, PZ_MOST_COMMANDS);
+    row("pz_fit_points_with_primitives", fit_points, PZ_MOST_POINTS);
+    row("pz_fit_points_recursive", fit_range, PZ_MOST_POINTS);
+    row("pz_fit_arcs", fit_course, PZ_MOST_COMMANDS);
+    row("pz_fit_file", fit_file, PZ_MOST_COMMANDS);
+    row("pz_replace_lap", replace, PZ_MOST_COMMANDS);
+    row("pz_fewest_straights", find_straights, PZ_MOST_STRAIGHT_POINTS);
+    row("pz_flatten_arc", draw_arc, 2);
+    row("pz_read_course", read_course, PZ_MOST_COMMANDS);
+    row("pz_live_feed", feed, 2);
+    row("pz_live_retune", retune, 2);
+    row("pz_fit_cubic_bezier", fit_cubic, PZ_MOST_POINTS);
+    row("pz_linearize_bezier_adaptive", halve_plane, 2);
+    row("pz_linearize_bezier_segment", halve_space, 2);
+    row("others", others, PZ_MOST_POINTS);
+    return 0;
 }
