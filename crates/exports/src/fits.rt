@@ -49,9 +49,9 @@ pub extern "C" fn pz_get_polyline_arc_deviation(
     let center = Point { x: cx, y: cy };
     let a = fitting::fitting::get_polyline_arc_deviation(points, center, radius);
     match a {
-        ArcDeviation::Is(w) => {
-            *dist = w.dist;
-            *index = w.index;
+        ArcDeviation::Is(worst) => {
+            *dist = worst.dist;
+            *index = worst.index;
             0
         }
         ArcDeviation::Refused(n) => n,

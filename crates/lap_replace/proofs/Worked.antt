@@ -54,7 +54,6 @@ worked-laps =
       sharp = refl;
       bend-as-a-line = refl;
       bend-as-an-arc = refl;
-      bend-worst = refl;
       bend-as-two-lines = refl;
       least-tolerance = refl;
       no-tolerance = refl;
@@ -63,6 +62,7 @@ worked-laps =
       first-trial = refl;
       second-trial = refl;
       left-bend-as-an-arc = refl;
+      bend-worst = refl;
     }
 
 -- The out-and-back as a lap keeps its far turn.

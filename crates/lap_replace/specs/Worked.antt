@@ -98,8 +98,6 @@ pub record WorkedLaps : Type 0 where
   pub sharp : fit right-angle (fraction 1 2) ≡ gives (Line (point 10 0) ∷ Line (point 10 10) ∷ [])
   pub bend-as-a-line : fit bend (fraction 45 100) ≡ gives (Line (point 5 0) ∷ [])
   pub bend-as-an-arc : fit bend (fraction 3 10) ≡ gives (Arc (point 5 0) from-start down ∷ [])
-  -- ours: its second step is the worst
-  pub bend-worst : primitivesWorst (lent bend) (fraction 3 10) 3 27 3 ≡ gives (1 ∷ [])
   pub bend-as-two-lines : fit bend (fraction 25 100) ≡ gives (Line (point 4 3) ∷ Line (point 5 0) ∷ [])
   pub least-tolerance : fit twice thousandth ≡ gives (Line (point 7 7) ∷ [])
   pub no-tolerance : fit twice +0 ≡ refused 6
@@ -109,6 +107,8 @@ pub record WorkedLaps : Type 0 where
   pub first-trial : by-three ≡ tried.the-variants.Arc (record { x = metres 1; y = metres 4 }) false 1
   pub second-trial : (centre-right by-least-squares ≺ metres 1) ≡ true
   pub left-bend-as-an-arc : fit left-bend (fraction 75 100) ≡ gives (Arc (point 5 3) (point 1 4) up ∷ [])
+  -- ours: of the bend that is one Arc the second step is the worst
+  pub bend-worst : primitivesWorst (lent bend) (fraction 3 10) 3 27 3 ≡ gives (1 ∷ [])
 
 -- ---- beside the table: the out-and-back as a lap, its points recorded as one Move and two Lines, and that lap alone as a file of 235 bytes
 abbrev pub shuttle : List Command

@@ -20,8 +20,8 @@ same-length-3 : tie.Need-same-length-3
 same-length-3 c = search needs
 
 returns : tie.Need-returns
-returns c = let a = c @args in
-    let f = c @fit-points-recursive .ensures in (listed-commands _ (a .kinds .now) _ (a .nums .now) _ _ (a .count .now) _ _ (f .0) (c @hand-on .ensures), f .1 .leaves)
+returns c = let a = c .before .before .before .before .before .before .before .before .before .before .before .before .before .before .before .before .args in
+    let f = c .before .before .before .before .before .before .before .before .fit-points-recursive .ensures in (listed-commands _ (a .kinds .now) _ (a .nums .now) _ _ (a .count .now) _ _ (f .0) (c .hand-on .ensures), f .1 .leaves)
 
 pub pz-fit-points-recursive-spec : {M : Type 1} → statement M
 pz-fit-points-recursive-spec =

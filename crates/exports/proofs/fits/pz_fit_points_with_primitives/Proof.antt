@@ -20,9 +20,9 @@ same-length-2 : tie.Need-same-length-2
 same-length-2 c = search needs
 
 returns : tie.Need-returns
-returns c = let a = c @args in
-    let f = c @fit-points-with-primitives .ensures in
-    let l = listed-fit _ _ _ (f .0) (a .kinds .now) _ (a .nums .now) _ (f .1 .0) (f .1 .1 .0) (a .count .now) (a .ranges .now) _ _ (c @a .given .1) in (l .0, (l .1, f .1 .1 .1))
+returns c = let a = c .before .before .before .before .before .before .before .before .before .before .before .before .before .before .before .before .before .args in
+    let f = c .before .before .before .before .before .before .before .before .before .fit-points-with-primitives .ensures in
+    let l = listed-fit _ _ _ (f .0) (a .kinds .now) _ (a .nums .now) _ (f .1 .0) (f .1 .1 .0) (a .count .now) (a .ranges .now) _ _ (c .before .a .given .1) in (l .0, (l .1, f .1 .1 .1))
 
 same-length-5 : tie.Need-same-length-5
 same-length-5 c = search needs
@@ -37,9 +37,9 @@ same-length-4 : tie.Need-same-length-4
 same-length-4 c = search needs
 
 returns-2 : tie.Need-returns-2
-returns-2 c = let a = c @args in
-    let f = c @fit-points-with-primitives .ensures in
-    let l = listed-no-fit _ _ _ (f .0) (a .kinds .now) _ (a .nums .now) _ (f .1 .0) (f .1 .1 .0) (a .count .now) (a .ranges .now) _ (c @a2 .given .1) in (l .0, (l .1, f .1 .1 .1))
+returns-2 c = let a = c .before .before .before .before .before .before .before .before .before .before .before .before .before .before .before .before .before .args in
+    let f = c .before .before .before .before .before .before .before .before .before .fit-points-with-primitives .ensures in
+    let l = listed-no-fit _ _ _ (f .0) (a .kinds .now) _ (a .nums .now) _ (f .1 .0) (f .1 .1 .0) (a .count .now) (a .ranges .now) _ (c .before .a2 .given .1) in (l .0, (l .1, f .1 .1 .1))
 
 pub pz-fit-points-with-primitives-spec : {M : Type 1} → statement M
 pz-fit-points-with-primitives-spec =

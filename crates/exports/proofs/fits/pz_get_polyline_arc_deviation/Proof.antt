@@ -16,12 +16,12 @@ enum-known-a-2 : tie.Need-enum-known-a-2
 enum-known-a-2 c = search needs
 
 returns : tie.Need-returns
-returns c = let e = arc-gives _ _ _ (c @get-polyline-arc-deviation .ensures) (c @a .given .1) in
-    (tells (λ w. w .dist) _ (c @args .dist .now) _ _ e refl, tells (λ w. w .index) _ (c @args .index .now) _ _ e refl)
+returns c = let e = arc-gives _ _ _ (c .before .before .before .get-polyline-arc-deviation .ensures) (c .before .a .given .1) in
+    (tells (λ w. w .dist) _ (c .before .before .before .before .before .args .dist .now) _ _ e refl, tells (λ w. w .index) _ (c .before .before .before .before .before .args .index .now) _ _ e refl)
 
 returns-2 : tie.Need-returns-2
-returns-2 c = let e = arc-refused _ _ _ (c @get-polyline-arc-deviation .ensures) (c @a2 .given .1) in
-    (tells-nothing (λ w. w .dist) _ (c @args .dist .now) _ e, tells-nothing (λ w. w .index) _ (c @args .index .now) _ e)
+returns-2 c = let e = arc-refused _ _ _ (c .before .before .before .get-polyline-arc-deviation .ensures) (c .before .a2 .given .1) in
+    (tells-nothing (λ w. w .dist) _ (c .before .before .before .before .before .args .dist .now) _ e, tells-nothing (λ w. w .index) _ (c .before .before .before .before .before .args .index .now) _ e)
 
 pub pz-get-polyline-arc-deviation-spec : {M : Type 1} → statement M
 pz-get-polyline-arc-deviation-spec =
