@@ -10,21 +10,50 @@ const PLACES: usize = 4800;
 // What stands at each of them before a call: the index of no step.
 const NO_STEP: u32 = 4000000000;
 
+fn wide(n: u32) -> u64 {
+    n as u64
+}
+
 // Whether a list holds the numbers of a record, four bytes each.
 fn is_list(expected: &[u8], list: &[u32]) -> bool {
     if expected.len() / 4 < list.len() {
         return false;
     }
     for i in 0..list.len() {
-        let n = half_at(expected, 4 * i);
-        if n != list[i] as u64 {
+        if half_at(expected, 4 * i) != wide(list[i]) {
             return false;
         }
     }
     true
 }
 
-// The list of worst steps has to be the record's, which is as long.
+// The list of worst steps, which is lent here, has to be the record's.
+fn fit_range(
+    points: &[f64],
+    tolerance: f64,
+    start: usize,
+    end: usize,
+    expected: &[u8],
+    kinds: &mut [u8],
+    nums: &mut [f64],
+    worst: &mut [u32],
+) -> Answer {
+    let a = fitting::fitting::fit_points_recursive(
+        points,
+        tolerance,
+        start,
+        end,
+        kinds,
+        nums,
+        worst,
+    );
+    if !is_list(expected, worst) {
+        return Answer::Refused(DAMAGED);
+    }
+    a
+}
+
+// It is as long as the record's.
 pub fn fit_points_recursive(
     points: &[f64],
     tolerance: f64,
@@ -39,22 +68,35 @@ pub fn fit_points_recursive(
         return Answer::Refused(DAMAGED);
     }
     let mut worst = [NO_STEP; PLACES];
-    let a = fitting::fitting::fit_points_recursive(
+    fit_range(
         points,
         tolerance,
         start,
         end,
+        expected,
         kinds,
         nums,
         &mut worst[0..n],
-    );
-    if !is_list(expected, &worst[0..n]) {
-        return Answer::Refused(DAMAGED);
-    }
-    a
+    )
 }
 
-// So it has of a fit of all points, and the ranges examined have to be those of the record.
+// The same of a fit of all points, whose ranges examined have to be those of the record too.
+fn fit_all(
+    points: &[f64],
+    tolerance: f64,
+    ranges: usize,
+    expected: &[u8],
+    kinds: &mut [u8],
+    nums: &mut [f64],
+    worst: &mut [u32],
+) -> Answer {
+    let a = fitting::fitting::fit_points_with_primitives(points, tolerance, kinds, nums, worst);
+    if !is_list(expected, worst) {
+        return Answer::Refused(DAMAGED);
+    }
+    answer_with(a, ranges)
+}
+
 pub fn fit_points_with_primitives(
     points: &[f64],
     tolerance: f64,
@@ -68,17 +110,15 @@ pub fn fit_points_with_primitives(
         return Answer::Refused(DAMAGED);
     }
     let mut worst = [NO_STEP; PLACES];
-    let a = fitting::fitting::fit_points_with_primitives(
+    fit_all(
         points,
         tolerance,
+        ranges,
+        expected,
         kinds,
         nums,
         &mut worst[0..n],
-    );
-    if !is_list(expected, &worst[0..n]) {
-        return Answer::Refused(DAMAGED);
-    }
-    answer_with(a, ranges)
+    )
 }
 
 // The count, where the ranges are these.

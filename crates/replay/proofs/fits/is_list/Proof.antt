@@ -25,14 +25,14 @@ mul-half-at c = search needs
 half-at-requires : tie.Need-half-at-requires Inv-loop μ-loop
 half-at-requires c κs = search needs
 
-mul-if2 : tie.Need-mul-if2 Inv-loop μ-loop
-mul-if2 c = search needs
+mul-wide : tie.Need-mul-wide Inv-loop μ-loop
+mul-wide c = search needs
 
-shared-slice-read-if2 : tie.Need-shared-slice-read-if2 Inv-loop μ-loop
-shared-slice-read-if2 c = search needs
+shared-slice-read-wide : tie.Need-shared-slice-read-wide Inv-loop μ-loop
+shared-slice-read-wide c = search needs
 
-cast-if2 : tie.Need-cast-if2 Inv-loop μ-loop
-cast-if2 c = search needs
+wide-requires : tie.Need-wide-requires Inv-loop μ-loop
+wide-requires c κs = search needs
 
 returns-2 : tie.Need-returns-2 Inv-loop μ-loop
 returns-2 c = search needs
@@ -52,4 +52,4 @@ returns-3 c = search needs
 pub is-list-spec : {M : Type 1} → statement M
 is-list-spec =
     tie.close
-    (tie.spec Inv-loop μ-loop returns loop-holds mul-half-at half-at-requires mul-if2 shared-slice-read-if2 cast-if2 returns-2 add-i loop-less loop-again returns-3)
+    (tie.spec Inv-loop μ-loop returns loop-holds mul-half-at half-at-requires mul-wide shared-slice-read-wide wide-requires returns-2 add-i loop-less loop-again returns-3)
