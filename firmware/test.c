@@ -103,6 +103,26 @@ static void test_commands(void)
     give_back(in_nums, 216);
 }
 
+/* Out to 100 m and back to 50: as a course all three points stay, since the far turn is far from the segment; thinning the same
+   points measures from the endless line, on which it lies. */
+static void test_shuttle(void)
+{
+    const double shuttle[27] = {[9] = 100, [18] = 50}, points[9] = {[3] = 100, [6] = 50};
+    uint8_t *kinds = lend(3), *in_kinds = lend_input(corner_kinds, 3);
+    double *nums = lend(216), *in_nums = lend_input(shuttle, 216), *in = lend_input(points, 72);
+    size_t count = 77;
+    uint32_t r = rt_fit_arcs(in_kinds, 3, in_nums, 27, 0.5, kinds, 3, nums, 27, &count);
+    check(r == PZ_DONE && count == 3 && memcmp(kinds, corner_kinds, 3) == 0, "a shuttle is a Move and two Lines");
+    check(memcmp(nums, shuttle, 216) == 0, "and keeps its far turn");
+    r = rt_simplify_polyline_3d(in, 9, 0.5, nums, 27, &count);
+    check(r == PZ_DONE && count == 2 && nums[3] == 50, "thinning alone leaves the far turn out");
+    give_back(kinds, 3);
+    give_back(in_kinds, 3);
+    give_back(nums, 216);
+    give_back(in_nums, 216);
+    give_back(in, 72);
+}
+
 /* One call of the fit of a file that must be refused: the number, and every lent byte as it was. */
 static void refused(uint32_t number, const unsigned char *file, size_t size, double tolerance, size_t room, const char *what)
 {
@@ -197,6 +217,7 @@ int main(void)
     test_points();
     test_thinning();
     test_commands();
+    test_shuttle();
     test_refusals();
     test_replacement();
     test_fresh();

@@ -290,7 +290,7 @@ pub fn course(draw: &mut Draw) -> (Commands, f64) {
 fn at_a_distance(draw: &mut Draw, c: &Commands) -> f64 {
     draw.label("tolerance at a point's distance from a segment");
     let end = |i: usize| (c.numbers[9 * i], c.numbers[9 * i + 1]);
-    let last = c.kinds.len() - 1;
+    let last = c.numbers.len() / 9 - 1;
     let from = draw.below(last - 1);
     let to = from + 2 + draw.below((last - from - 1).min(9));
     let (p, a, b) = (end(from + 1 + draw.below(to - from - 1)), end(from), end(to));
@@ -313,7 +313,7 @@ pub fn tolerance_for(draw: &mut Draw, c: &Commands) -> f64 {
         let tolerance = if tolerance.is_nan() { 1.0 } else { tolerance.clamp(0.001, 1_000.0) };
         return draw.near(tolerance).clamp(0.001, 1_000.0);
     }
-    if c.kinds.len() > 2 && draw.one_in(4) {
+    if c.numbers.len() >= 27 && draw.one_in(4) {
         return at_a_distance(draw, c);
     }
     if draw.flag() { draw.of(&[0.1, 0.5, 1.0, 2.0, 5.0]) } else { draw.tolerance() }
