@@ -1,4 +1,5 @@
 pub mod Cut
+pub mod Stray
 pub mod Trace
 pub mod Whole
 pub mod Straights

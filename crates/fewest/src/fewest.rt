@@ -6,13 +6,14 @@ use geo::domain::all_coordinates;
 use geo::domain::is_tolerance;
 use geo::lent::point_at;
 use geo::lent::put_point;
+use simplify::simplify::Chord;
 use simplify::simplify::Ruler;
 use simplify::simplify::farthest_between;
 use ways::phase::Phase;
 use ways::phase::is_arrived;
 use ways::phase::is_going;
 ghost use mathlib.Core.Path.{_≡_};
-ghost use mathlib.Core.Bool.{true};
+ghost use mathlib.Core.Bool.{true, false};
 ghost use Prim.Native.Nat.{_+_, _-_, _*_, _/_, _≤_, _<_};
 ghost use mathlib.Core.List.{[]};
 ghost use lib.ListN.{length};
@@ -20,7 +21,7 @@ ghost use lib.Seq.{sets};
 ghost use Rattle.floats.specs.Ops.{_≺_, +0};
 ghost use Rattle.geo.specs.Lent.{pointAt, flat};
 ghost use Rattle.geo.specs.Outcome.{refusal, left, Placed};
-ghost use Rattle.simplify.specs.Measure.{lineSq};
+ghost use Rattle.simplify.specs.Measure.{chordOf, lineSq};
 ghost use Rattle.fitting.specs.Pieces.{lineDeviation};
 ghost use Rattle.ways.specs.Layers.{going, inOrder, tryPair, tryPoint, tryLayer, back};
 ghost use Rattle.fewest.specs.Straights.{passing, cutEnds, fewestOf, numbersAt};
@@ -88,11 +89,45 @@ fn line_deviation(points: &[f64], start: usize, end: usize) -> Deviation
     }
 }
 
-// Whether the Line from u to v may stand.
+// Whether a point from `from` on, and before `to`, is seen at or above the tolerance from the Line from u to v, which then does not
+// pass. A point whose spread says that it is nearer costs no division and no root; that test alone decides nothing.
+fn strays(
+    points: &[f64],
+    chord: Chord,
+    tolerance: f64,
+    u: usize,
+    v: usize,
+    from: usize,
+    to: usize,
+) -> bool
+    requires { ⌜ (chord ≡ chordOf (pointAt (now points) u) (pointAt (now points) v)) × ((u < from) × (to ≤ v) × (3 * v + 2 < length (now points))) ⌝ }
+    ensures { λ r. ⌜ (r ≡ true → passing (now (points .entry)) tolerance u v ≡ false) ⌝ }
+{
+    let near = tolerance * tolerance * chord.square;
+    for i in from..to {
+        let spread = chord.spread(point_at(points, i));
+        if near < spread {
+            if tolerance <= sqrt(chord.distance_squared(spread)) {
+                return true;
+            }
+        }
+    }
+    false
+}
+
+// Whether the Line from u to v may stand. Most pairs do not pass, and of these most show it in the middle: it is looked at first.
 fn passes(points: &[f64], tolerance: f64, u: usize, v: usize) -> bool
     requires { ⌜ (u < v) × (3 * v + 2 < length (now points)) ⌝ }
     ensures { λ r. ⌜ r ≡ passing (now (points .entry)) tolerance u v ⌝ }
 {
+    let chord = Chord::new(point_at(points, u), point_at(points, v));
+    let middle = (u + v + 1) / 2;
+    if strays(points, chord, tolerance, u, v, middle, v) {
+        return false;
+    }
+    if strays(points, chord, tolerance, u, v, u + 1, middle) {
+        return false;
+    }
     line_deviation(points, u, v).dist < tolerance
 }
 

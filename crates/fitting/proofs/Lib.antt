@@ -1,5 +1,6 @@
 pub mod Own
 pub mod Recursion
+pub mod Between
 pub mod Fitted
 pub mod Pieces
 pub mod Writing

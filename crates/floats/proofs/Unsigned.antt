@@ -1,12 +1,12 @@
--- Numbers without a minus sign: squares and their sums are such, none is below zero, and division by a positive number keeps their order. Assumes nothing.
+-- Numbers without a minus sign: squares, their sums and quotients are such, none is below zero, and division by a positive number keeps their order. Assumes nothing.
 use Prim.Native.Nat.{ℕ, zero, suc, _+_, _-_, _*_, _/_, _%_, _^_, _≤_, _<_, compare}
 use mathlib.Core.Path.{_≡_, refl, sym, ap, _∙_}
 use mathlib.Core.Logic.{⊎-elim}
-use mathlib.Core.Bool.{Bool, true, false}
+use mathlib.Core.Bool.{Bool, true, false, cond}
 use native.Mathlib.Nat.{zero-mul, mul-pos, mul-comm, mul-assoc, mul-left-comm, mul-le-mul-right}
 use native.Mathlib.Omega.{arith}
 use borrow.Author.Tests.{le-ltb, ltb-true, ltb-false, ne-eqb}
-use lib.Dec.{T, ltb}
+use lib.Dec.{T, ltb, eqb}
 use lib.IntN.{ℤ}
 use lib.Ieee.{Float, nan, inf, fin, binary64, low, emax, prec, up, down, size, nearest, odd, units, round, sum, add, mul, div, lt, eq, le, isNan, ofBits}
 use lib.Ieee.Fits.{up-pos, down-pos}
@@ -80,6 +80,27 @@ sum-unsigned (fin s m e) (inf t) p q = q
 sum-unsigned (fin true m e) (fin t n d) p q = clash (sym p)
 sum-unsigned (fin false m e) (fin true n d) p q = clash (sym q)
 sum-unsigned (fin false m e) (fin false n d) p q = round-unsigned (m * up e * down d + n * up d * down e) (down e * down d)
+
+pub quotient-unsigned : (x y : Float) → Unsigned x → Unsigned y → Unsigned (x ⊘ y)
+unfolding div
+quotient-unsigned nan y p q = tt
+quotient-unsigned (inf s) nan p q = tt
+quotient-unsigned (inf s) (inf t) p q = tt
+quotient-unsigned (inf true) (fin t n d) p q = clash (sym p)
+quotient-unsigned (inf false) (fin true n d) p q = clash (sym q)
+quotient-unsigned (inf false) (fin false n d) p q = refl
+quotient-unsigned (fin s m e) nan p q = tt
+quotient-unsigned (fin true m e) (inf t) p q = clash (sym p)
+quotient-unsigned (fin false m e) (inf true) p q = clash (sym q)
+quotient-unsigned (fin false m e) (inf false) p q = refl
+quotient-unsigned (fin true m e) (fin t n d) p q = clash (sym p)
+quotient-unsigned (fin false m e) (fin true n d) p q = clash (sym q)
+quotient-unsigned (fin false m e) (fin false n d) p q = either-way (eqb n 0) (eqb m 0)
+  where
+    either-way : (b c : Bool) → Unsigned (cond b (cond c nan (inf false)) (round binary64 false (m * up e * down d) (n * up d * down e)))
+    either-way true true = tt
+    either-way true false = refl
+    either-way false c = round-unsigned (m * up e * down d) (n * up d * down e)
 
 -- ---- none is below zero
 pub unsigned-not-negative : (x : Float) → Unsigned x → (x ≺ +0) ≡ false

@@ -30,7 +30,7 @@ below-itself x = ⊎-elim (λ t. lt-asym x x t) (λ t. t) (either (x ≺ x))
 
 -- ---- spreads
 -- the squared distance is the spread, scaled
-scaled-is : (c : Chord) (p : Point3D) → toLine c p ≡ squareOfSpread c (spreadOf c p)
+pub scaled-is : (c : Chord) (p : Point3D) → toLine c p ≡ squareOfSpread c (spreadOf c p)
 unfolding toLine squareOfSpread spreadOf
 scaled-is c p = ⊎-elim (λ h. rw h) (λ h. rw h) (either (c .square ≺ degenerate))
 

@@ -41,15 +41,15 @@ pub enum Ruler {
 }
 
 // The chord of a range, worked out once for all the points between. Distances are measured in x and y.
-struct Chord {
-    start: Point3D,
-    dx: f64,
-    dy: f64,
-    square: f64,
+pub struct Chord {
+    pub start: Point3D,
+    pub dx: f64,
+    pub dy: f64,
+    pub square: f64,
 }
 
 impl Chord {
-    fn new(a: Point3D, b: Point3D) -> Self
+    pub fn new(a: Point3D, b: Point3D) -> Self
         ensures { λ r. ⌜ r ≡ chordOf a b ⌝ }
     {
         let dx = b.x - a.x;
@@ -63,7 +63,7 @@ impl Chord {
     }
 
     // What the distance of p to the endless line grows with: the dividend of its square.
-    fn spread(self, p: Point3D) -> f64
+    pub fn spread(self, p: Point3D) -> f64
         ensures { λ r. ⌜ r ≡ spreadOf self p ⌝ }
     {
         let x = p.x - self.start.x;
@@ -76,7 +76,7 @@ impl Chord {
     }
 
     // The squared distance of a point with that spread.
-    fn distance_squared(self, spread: f64) -> f64
+    pub fn distance_squared(self, spread: f64) -> f64
         ensures { λ r. ⌜ r ≡ squareOfSpread self spread ⌝ }
     {
         if self.square < DEGENERATE {

@@ -1,20 +1,23 @@
 -- Comparisons of roots that the numbers below them decide: the root of a larger number is not below what the root of a smaller one reaches, and the root of a
 -- smaller one is not above twice that of a larger one, since rounding keeps the order and gives back a number that the format holds. Assumes nothing.
-use mathlib.Core.Path.{_≡_, refl, subst}
-use mathlib.Core.Bool.{true, false}
+use mathlib.Core.Path.{_≡_, refl, sym, _∙_, subst}
+use mathlib.Core.Logic.{⊎-elim}
+use mathlib.Core.Bool.{Bool, true, false, _&&_, _||_}
 use Prim.Native.Nat.{ℕ, _*_, _^_, _≤_, _<_}
-use native.Mathlib.Nat.{one-mul, two-mul, add-mul}
+use native.Mathlib.Nat.{one-mul, two-mul, add-mul, eq-or-lt-of-le}
 use native.Mathlib.Omega.{arith}
-use lib.Dec.{T}
+use borrow.Author.Tests.{ltb-false, lt-ltb, eq-eqb}
+use lib.Dec.{T, ltb, eqb}
 use lib.IntN.{ℤ}
-use lib.Ieee.{Float, nan, inf, fin, binary64, up, down, round, fits, isNan, lt, le, mul, ofBits}
+use lib.Ieee.{Float, nan, inf, fin, binary64, up, down, round, fits, isNan, lt, le, eq, mul, ofBits}
 use lib.Ieee.Bits.{is-true}
 use lib.Ieee.Fits.{down-pos}
 use lib.Ieee.Exact.{HasValue, round-exact}
 use lib.Ieee.Order.{le-of-values, round-mono}
-use Rattle.floats.specs.Ops.{_⊗_, +0, two}
+use Rattle.floats.specs.Ops.{_⊗_, _≺_, +0, two}
 use Rattle.floats.specs.Root.{rootOf, inUnits, plain}
-use Rattle.floats.proofs.Order.{clash, le-below, le-right, le-under, lt-under}
+use Rattle.floats.proofs.Order.{clash, lt-gap, le-below, le-right, le-under, lt-under}
+use Rattle.floats.proofs.Unsigned.{Unsigned}
 use Rattle.floats.proofs.root.Read.{units-of-value, in-range}
 use Rattle.floats.proofs.root.Nearest.{digits, root-fits}
 use Rattle.floats.proofs.root.Monotone.{root-plain, root-monotone}
@@ -82,3 +85,48 @@ root-number (fin false m e) f p = plain-number (rootOf (fin false m e)) (root-pl
 pub root-under-twice : (x y : Float) → T (fits binary64 x) → T (fits binary64 y) → lt +0 x ≡ true → le x y ≡ true → lt (two ⊗ rootOf y) (rootOf x) ≡ false
 root-under-twice x y f g p l =
     le-under (rootOf x) (rootOf y) (two ⊗ rootOf y) (root-monotone x y f g (root-number x f p) l) (root-doubled y g (lt-under +0 x y p l))
+
+-- ---- squared distances
+-- a squared distance: without a minus sign, no NaN, and held by the format
+pub record Square (x : Float) : Type 0 where
+  pub plus : Unsigned x
+  pub number : isNan x ≡ false
+  pub held : T (fits binary64 x)
+
+level-up : (A B : ℕ) → A ≤ B → (ltb A B || (eqb A B && true)) ≡ true
+level-up A B h = ⊎-elim (λ e. rw (eq-eqb A B e) (or-true (ltb A B))) (λ l. rw (lt-ltb A B l)) (eq-or-lt-of-le h)
+  where
+    or-true : (b : Bool) → (b || true) ≡ true
+    or-true true = refl
+    or-true false = refl
+
+-- of two such the one that is not above the other is at most it
+not-above-le : (x y : Float) → Square x → Square y → (y ≺ x) ≡ false → le x y ≡ true
+unfolding le lt eq isNan
+not-above-le nan y p q h = clash (sym (p .number))
+not-above-le (inf true) y p q h = clash (sym (p .plus))
+not-above-le (inf false) nan p q h = clash (sym (q .number))
+not-above-le (inf false) (inf true) p q h = clash (sym (q .plus))
+not-above-le (inf false) (inf false) p q h = refl
+not-above-le (inf false) (fin t n d) p q h = clash (sym h)
+not-above-le (fin true m e) y p q h = clash (sym (p .plus))
+not-above-le (fin false m e) nan p q h = clash (sym (q .number))
+not-above-le (fin false m e) (inf true) p q h = clash (sym (q .plus))
+not-above-le (fin false m e) (inf false) p q h = refl
+not-above-le (fin false m e) (fin true n d) p q h = clash (sym (q .plus))
+not-above-le (fin false m e) (fin false n d) p q h = level-up (m * up e * down d) (n * up d * down e) (ltb-false (n * up d * down e) (m * up e * down d) h)
+
+square-root-number : (x : Float) → Square x → isNan (rootOf x) ≡ false
+unfolding isNan
+square-root-number nan p = clash (sym (p .number))
+square-root-number (inf true) p = clash (sym (p .plus))
+square-root-number (inf false) p = unfold rootOf in refl
+square-root-number (fin true m e) p = clash (sym (p .plus))
+square-root-number (fin false m e) p = plain-number (rootOf (fin false m e)) (root-plain m e (p .held))
+
+-- x is not above w, whose root is below t; so the root of x is
+pub root-below : (x w t : Float) → Square x → Square w → (w ≺ x) ≡ false → (rootOf w ≺ t) ≡ true → (rootOf x ≺ t) ≡ true
+root-below x w t p q h l =
+    let n = square-root-number x p in
+    let r = root-monotone x w (p .held) (q .held) n (not-above-le x w p q h) in
+    ⊎-elim (λ z. clash (sym (le-below (rootOf x) (rootOf w) r) ∙ z)) (λ z. z) (lt-gap (rootOf w) (rootOf x) t n l)
