@@ -5,9 +5,9 @@
    own, so two threads may call them at once on different memory; of other libraries they need memset and memcpy
    alone. The archive (firmware/archive builds it, firmware/install puts it where a program looks for it) is for x86-64 and
    no other processor. The caller sees to it that
-   - each pointer is valid for its length and aligned for its type (8 bytes for numbers and for size_t, 4 for uint32_t), and a lent bool is
-     one, 0 or 1. A list of length 0 may have any pointer, NULL too, since nothing is read or written through it; no other
-     pointer may be NULL, those to one number or to an array of fixed size neither;
+   - each pointer is valid for its length and aligned for its type (8 bytes for numbers and for size_t, 4 for
+     uint32_t), and a lent bool holds 0 or 1. A list of length 0 may have any pointer, NULL too, since nothing is read or written through it. No other
+     pointer may be NULL, such as those to one number or to an array of fixed size;
    - what is written (outputs and `count`) overlaps nothing else that is passed to the same call.
    Any contents are allowed: every call ends, reads and writes only what was lent, and unfit input meets a refusal.
 

@@ -111,10 +111,10 @@ static void test_shuttle(void)
     uint8_t *kinds = lend(3), *in_kinds = lend_input(corner_kinds, 3);
     double *nums = lend(216), *in_nums = lend_input(shuttle, 216), *in = lend_input(points, 72);
     size_t count = 77;
-    uint32_t r = rt_fit_arcs(in_kinds, 3, in_nums, 27, 0.5, kinds, 3, nums, 27, &count);
+    uint32_t r = pz_fit_arcs(in_kinds, 3, in_nums, 27, 0.5, kinds, 3, nums, 27, &count);
     check(r == PZ_DONE && count == 3 && memcmp(kinds, corner_kinds, 3) == 0, "a shuttle is a Move and two Lines");
     check(memcmp(nums, shuttle, 216) == 0, "and keeps its far turn");
-    r = rt_simplify_polyline_3d(in, 9, 0.5, nums, 27, &count);
+    r = pz_simplify_polyline_3d(in, 9, 0.5, nums, 27, &count);
     check(r == PZ_DONE && count == 2 && nums[3] == 50, "thinning alone leaves the far turn out");
     give_back(kinds, 3);
     give_back(in_kinds, 3);

@@ -155,8 +155,8 @@ static void test_space_curves(void)
     check(count == UNTOUCHED && kept(out, 144, 0), "refusals leave all");
     check(pz_linearize_bezier(0, 0, 0, 0, 4, 0, 4, 4, 8, 4, 0, 8, 2, out, 18, &count) == PZ_DONE && count == 2, "two steps");
     check(out[3] == 2 && out[4] == 3 && out[5] == 4 && memcmp(out + 3, out + 6, 24) == 0 && kept(out, 144, 96), "which meet");
-    check(pz_linearize_bezier_from_params(4, 0, 8, 0, 4, 0, 4, 4, 8, 0, 0, 0, 1000, out, 18, &count) == PZ_DONE && count == 2, "at least 2");
-    check(out[9] == 4 && out[11] == 8, "to the end");
+    check(pz_linearize_bezier_from_params(4, 0, 8, 0, 4, 0, 4, 4, 8, 0, 0, 0, 1000, out, 18, &count) == PZ_DONE, "a coarse one");
+    check(count == 2 && out[9] == 4 && out[11] == 8, "has two steps at least, to the end");
     check(pz_linearize_bezier_segment(0, 0, 0, 0, 4, 0, 4, 4, 8, 4, 0, 8, true, 0, segment, 3075, &count) == PZ_BAD_TOLERANCE, "0 given");
     check(pz_linearize_bezier_segment(0, 0, 0, 0, 4, 0, 4, 4, 8, 4, 0, 8, false, 0, segment, 3072, &count) == PZ_NO_ROOM, "1,024 points");
     check(count == 2 && kept(segment, 24 * PZ_MOST_SEGMENT_POINTS, 0), "and nothing is written");
