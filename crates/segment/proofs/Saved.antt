@@ -15,7 +15,7 @@ use Rattle.geo.specs.declared.types.Point3D.{Point3D}
 use Rattle.geo.specs.Vector.{dot, lengthSq}
 use Rattle.segment.specs.declared.segment.Segment.{Segment}
 use Rattle.segment.specs.Segment.{degenerate, parameterOf, offFoot, segmentOn, segmentSq}
-use Rattle.segment.specs.Saved.{segmentOf, fromFootOf, besides, toSegment, Laid}
+use Rattle.segment.specs.Saved.{segmentOf, fromFootOf, besides, alongOf, toSegment, isInside, Laid}
 use Rattle.segment.proofs.Zeros.{none, round-none, Twin, twin, twin-square}
 use Rattle.segment.proofs.Division.{before-start, past-end, strictly-inside, foot-before, foot-past}
 
@@ -159,3 +159,20 @@ module _ (a b p : Point3D) (held-x : T (fits binary64 (a .x))) (held-y : T (fits
 -- What is worked out of a segment that is laid is the measure.
 pub by-segment : (s : Segment) (p : Point3D) (d : Float) → d ≡ toSegment s p → (a b : Point3D) → Laid a b s → d ≡ segmentSq a b p
 by-segment s p d e a b l = e ∙ ap (λ (s : Segment). toSegment s p) (l .is) ∙ saved-is-clamped a b p (l .held-x) (l .held-y)
+
+-- From the foot strictly inside.
+three-tests : (a b c : Bool) → (if a then false else if b then c else false) ≡ true → (a ≡ false) × (b ≡ true) × (c ≡ true)
+three-tests true b c h = clash h
+three-tests false true c h = (refl, refl, h)
+three-tests false false c h = clash h
+
+inside-is : (s : Segment) (p : Point3D) → isInside s (alongOf s p) ≡ true → fromFootOf s p (alongOf s p ⊘ s .square) ≡ toSegment s p
+unfolding isInside toSegment besides
+inside-is s p h =
+    let k = three-tests (s .square ≺ degenerate) (s .level ≺ alongOf s p) (alongOf s p ≺ s .square) h in
+    rw (k .0, k .1, k .2)
+
+pub by-foot : (s : Segment) (p : Point3D) (along d : Float) → along ≡ alongOf s p → true ≡ isInside s along → d ≡ fromFootOf s p (along ⊘ s .square) → (a b : Point3D) → Laid a b s
+    → d ≡ segmentSq a b p
+by-foot s p along d e h k =
+    by-segment s p d (k ∙ ap (λ (x : Float). fromFootOf s p (x ⊘ s .square)) e ∙ inside-is s p (sym (h ∙ ap (isInside s) e)))

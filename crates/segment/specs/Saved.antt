@@ -1,5 +1,6 @@
 -- The code's own way: a foot that is clamped costs no division. What a reader has to believe stands in Segment.antt. Definitions only.
 use mathlib.Core.Path.{_≡_}
+use mathlib.Core.Bool.{Bool, false}
 use lib.Dec.{T}
 use lib.Ieee.{Float, binary64, fits}
 use Rattle.floats.specs.Ops.{_⊕_, _⊖_, _⊗_, _⊘_, _≺_, _≼_, +0, if_then_else_}
@@ -34,10 +35,16 @@ besides s p along =
     else if along ≼ s .level then lengthSq (p .x ⊖ s .start .x) (p .y ⊖ s .start .y)
     else fromFootOf s p (parameterOf along (s .square))
 
+-- the dot product of the offset of p from the start with the chord
+abbrev pub alongOf : Segment → Point3D → Float
+alongOf s p = dot (p .x ⊖ s .start .x) (p .y ⊖ s .start .y) (s .dx) (s .dy)
+
 unfoldable pub toSegment : Segment → Point3D → Float
-toSegment s p =
-    if s .square ≺ degenerate then lengthSq (p .x ⊖ s .start .x) (p .y ⊖ s .start .y)
-    else besides s p (dot (p .x ⊖ s .start .x) (p .y ⊖ s .start .y) (s .dx) (s .dy))
+toSegment s p = if s .square ≺ degenerate then lengthSq (p .x ⊖ s .start .x) (p .y ⊖ s .start .y) else besides s p (alongOf s p)
+
+-- whether the foot of a point with that dot product lies strictly inside
+unfoldable pub isInside : Segment → Float → Bool
+isInside s along = if s .square ≺ degenerate then false else if s .level ≺ along then along ≺ s .square else false
 
 -- s is the segment from a to b, and the start is a value of the format, as all that is lent is
 pub record Laid (a b : Point3D) (s : Segment) : Type 0 where

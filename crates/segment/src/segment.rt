@@ -3,7 +3,7 @@ use floats::float::clamp;
 use geo::types::Point3D;
 ghost use mathlib.Core.Path.{_≡_};
 ghost use Rattle.segment.specs.Segment.{segmentSq};
-ghost use Rattle.segment.specs.Saved.{segmentOf, fromFootOf, Laid};
+ghost use Rattle.segment.specs.Saved.{segmentOf, fromFootOf, alongOf, isInside, Laid};
 
 // A chord whose square is below this counts as its start alone.
 pub const DEGENERATE: f64 = 1e-12;
@@ -17,6 +17,12 @@ pub struct Segment {
     end_y: f64,
     square: f64,
     level: f64,
+}
+
+// The squared distances of two points.
+pub struct Two {
+    pub first: f64,
+    pub second: f64,
 }
 
 impl Segment {
@@ -70,5 +76,45 @@ impl Segment {
             return x * x + y * y;
         }
         self.from_foot(p, clamp(along / self.square, 0.0, 1.0))
+    }
+
+    // The dot product of p's offset from the start with the chord.
+    fn along(self, p: Point3D) -> f64
+        ensures { λ r. ⌜ r ≡ alongOf self p ⌝ }
+    {
+        (p.x - self.start.x) * self.dx + (p.y - self.start.y) * self.dy
+    }
+
+    // Whether the foot of a point with that dot product lies strictly inside.
+    fn is_inside(self, along: f64) -> bool
+        ensures { λ r. ⌜ r ≡ isInside self along ⌝ }
+    {
+        if self.square < DEGENERATE {
+            return false;
+        }
+        if self.level < along {
+            return along < self.square;
+        }
+        false
+    }
+
+    // Two points at once: where both feet lie inside, as most do, a machine works out two distances side by side.
+    pub fn both(self, p: Point3D, q: Point3D) -> Two
+        ensures { λ r. ⌜ ((a b : Point3D) → Laid a b self → (r .first ≡ segmentSq a b p) × (r .second ≡ segmentSq a b q)) ⌝ }
+    {
+        let s = self.along(p);
+        let t = self.along(q);
+        if self.is_inside(s) {
+            if self.is_inside(t) {
+                return Two {
+                    first: self.from_foot(p, s / self.square),
+                    second: self.from_foot(q, t / self.square),
+                };
+            }
+        }
+        Two {
+            first: self.distance_squared(p),
+            second: self.distance_squared(q),
+        }
     }
 }

@@ -1,6 +1,6 @@
 -- The search for the first farthest point, in the form in which a loop `for i in a..e` meets it: e - i points are left. Assumes nothing.
 use Prim.Native.Nat.{ℕ, suc, _+_, _-_, _*_, _≤_, _<_}
-use mathlib.Core.Path.{_≡_, sym, ap, _∙_}
+use mathlib.Core.Path.{_≡_, sym, ap, _∙_, subst}
 use mathlib.Core.List.{List}
 use native.Mathlib.Omega.{arith}
 use lib.Dec.{T}
@@ -32,6 +32,16 @@ module _ (f : ℕ → Float) (e : ℕ) (w : Farthest) where
   pub scan-done : (i : ℕ) (best : Farthest) → e ≤ i → farthestOf f (e - i) i best ≡ w → best ≡ w
   unfolding farthestOf
   scan-done i best h r = let z : e - i ≡ 0 = omega arith in sym (rw z) ∙ r
+
+  -- two turns at once, and the turn of a last point
+  pub scan-two : (i : ℕ) (d d′ : Float) (best best₁ best₂ : Farthest) → i + 1 < e → d ≡ f i → d′ ≡ f (i + 1) → best₁ ≡ farther d i best → best₂ ≡ farther d′ (i + 1) best₁
+      → farthestOf f (e - i) i best ≡ w → farthestOf f (e - (i + 2)) (i + 2) best₂ ≡ w
+  scan-two i d d′ best best₁ best₂ h q q′ p p′ r =
+      let z : i + 1 + 1 ≡ i + 2 = omega arith in
+      subst (λ (k : ℕ). farthestOf f (e - k) k best₂ ≡ w) z (scan-turn (i + 1) d′ best₁ best₂ h q′ p′ (scan-turn i d best best₁ (omega arith) q p r))
+
+  pub scan-last : (i : ℕ) (d : Float) (best best′ : Farthest) → i < e → e ≤ i + 1 → d ≡ f i → best′ ≡ farther d i best → farthestOf f (e - i) i best ≡ w → best′ ≡ w
+  scan-last i d best best′ h k q p r = scan-done (i + 1) best′ k (scan-turn i d best best′ h q p r)
 
 -- before the first point
 pub scan-onward : {P : Type 0} (m : Measure P) (at : ℕ → P) (lo hi : ℕ) (best : Farthest) → best ≡ onChord lo

@@ -234,15 +234,22 @@ fn farthest_from_line(points: &[f64], start: usize, end: usize) -> Farthest
     search.best
 }
 
-// From the segment between start and end, which needs no division where a point's foot is clamped.
+// From the segment between start and end, two points at a time, then the last where one is left.
 fn farthest_from_segment(points: &[f64], start: usize, end: usize) -> Farthest
     requires { ⌜ (3 * start + 2 < length (now points)) × (3 * end + 2 < length (now points)) ⌝ }
     ensures { λ r. ⌜ r ≡ farthestIn segmentSq (pointAt (now (points .entry))) start end ⌝ }
 {
     let segment = Segment::new(point_at(points, start), point_at(points, end));
     let mut best = Farthest::new(start);
-    for i in start + 1..end {
-        best = best.or(segment.distance_squared(point_at(points, i)), i);
+    let mut i = start + 1;
+    while i + 1 < end {
+        let two = segment.both(point_at(points, i), point_at(points, i + 1));
+        best = best.or(two.first, i);
+        best = best.or(two.second, i + 1);
+        i += 2;
+    }
+    if i < end {
+        return best.or(segment.distance_squared(point_at(points, i)), i);
     }
     best
 }

@@ -9,22 +9,22 @@ use Rattle.segment.proofs.segment.Segment.distance_squared.Tie as tie
 
 returns : tie.Need-returns
 unfolding toSegment
-returns c = by-segment (c .before .before .before .before .before .before .args .self) (c .before .before .before .before .before .before .args .p) _ (rw (c .if1 .taken))
+returns c = by-segment _ _ _ (rw (c .if1 .taken))
 
 from-foot-requires : tie.Need-from-foot-requires
 from-foot-requires c κs = search needs
 
 returns-2 : tie.Need-returns-2
 unfolding toSegment besides
-returns-2 c = by-segment (c .before .before .before .before .before .before .before .before .before .before .before .before .before .before .args .self) (c .before .before .before .before .before .before .before .before .before .before .before .before .before .before .args .p) _ (rw (c .before .before .before .before .before .before .before .before .if1 .left, c .before .before .before .before .if2 .taken, c .before .before .if3 .taken) (c .from-foot .ensures))
+returns-2 c = by-segment _ _ _ (rw (c .before .before .before .before .before .before .before .before .if1 .left, c .before .before .before .before .if2 .taken, c .before .before .if3 .taken) (c .from-foot .ensures))
 
 returns-3 : tie.Need-returns-3
 unfolding toSegment besides
-returns-3 c = by-segment (c .before .before .before .before .before .before .before .before .before .before .before .before .before .before .before .before .args .self) (c .before .before .before .before .before .before .before .before .before .before .before .before .before .before .before .before .args .p) _ (rw (c .before .before .before .before .before .before .before .before .before .before .if1 .left, c .before .before .before .before .before .before .if2 .taken, c .before .before .before .before .if3 .left))
+returns-3 c = by-segment _ _ _ (rw (c .before .before .before .before .before .before .before .before .before .before .if1 .left, c .before .before .before .before .before .before .if2 .taken, c .before .before .before .before .if3 .left))
 
 returns-4 : tie.Need-returns-4
 unfolding toSegment besides
-returns-4 c = by-segment (c .before .before .before .before .before .before .before .before .before .before .before .before .args .self) (c .before .before .before .before .before .before .before .before .before .before .before .before .args .p) _ (rw (c .before .before .before .before .before .before .if1 .left, c .before .before .if2 .left, c .if4 .taken))
+returns-4 c = by-segment _ _ _ (rw (c .before .before .before .before .before .before .if1 .left, c .before .before .if2 .left, c .if4 .taken))
 
 clamp-requires : tie.Need-clamp-requires
 clamp-requires c κs = search needs
@@ -34,7 +34,7 @@ from-foot-requires-2 c κs = search needs
 
 returns-5 : tie.Need-returns-5
 unfolding toSegment besides parameterOf
-returns-5 c = by-segment (c .before .before .before .before .before .before .before .before .before .before .before .before .before .before .before .args .self) (c .before .before .before .before .before .before .before .before .before .before .before .before .before .before .before .args .p) _ (rw (c .before .before .before .before .before .before .before .before .before .if1 .left, c .before .before .before .before .before .if2 .left, c .before .before .before .if4 .left) (c .from-foot2 .ensures ∙ rw (c .before .clamp .ensures)))
+returns-5 c = by-segment _ _ _ (rw (c .before .before .before .before .before .before .before .before .before .if1 .left, c .before .before .before .before .before .if2 .left, c .before .before .before .if4 .left) (c .from-foot2 .ensures ∙ rw (c .before .clamp .ensures)))
 
 pub distance-squared-spec : {M : Type 1} → statement M
 distance-squared-spec =
