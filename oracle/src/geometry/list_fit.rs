@@ -168,6 +168,10 @@ fn edges(draw: &mut Draw) -> Vec<Judged> {
     calls.extend(short.map(|rooms| primitives_of(&bend, 0.3, rooms, 3)));
     calls.extend([0, 2, 4].map(|places| primitives_of(&bend, 0.3, full(&bend), places)));
     calls.push(recursive_of(&bend, 0.3, [1, 3], full(&bend), 1));
+    // a Line, and then an Arc on which every step lies, as far as floats tell: its worst step is 0 although it starts later
+    calls.push(whole(&lifted(&[0.0, -10.0, 0.0, 0.0, 200_000.0, 0.0012, 400_000.0, 0.0]), 0.001));
+    // steps that are as far off: the first is told
+    calls.push(whole(&lifted(&[0.0, 0.0, 0.0, -50.0, 3.0, -54.0, 10.0, -55.0, 17.0, -54.0, 20.0, -50.0]), 2.0));
     calls
 }
 
