@@ -74,7 +74,7 @@ few-below : (k : ℕ) → k ≤ 800 → le (ofInt binary64 (pos k)) mostSteps �
 unfolding ofInt
 few-below k h = let e : round binary64 false 800 1 ≡ mostSteps = unfold round ofBits in refl in of-le (round binary64 false k 1) mostSteps (subst (λ (x : Float). T (le (round binary64 false k 1) x)) e (round-mono binary64 k 1 800 1 (omega arith) (omega arith) (omega arith)))
 
-under-min : (k a b : ℕ) → k ≤ a → k ≤ b → k ≤ min a b
+pub under-min : (k a b : ℕ) → k ≤ a → k ≤ b → k ≤ min a b
 under-min k a b p q =
     ⊎-elim (λ h. subst (λ (x : ℕ). k ≤ x) (sym (min-eq-left (le-of-lt h))) p) (λ h. subst (λ (x : ℕ). k ≤ x) (sym (min-comm a b ∙ min-eq-left h)) q) (lt-or-ge a b)
 

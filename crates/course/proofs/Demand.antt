@@ -39,7 +39,7 @@ chain-fitted r pos s h =
     }
 
 -- One with no step gives no command.
-no-commands : (r : Rule) (s : List Float) → length s / 3 < 2 → chainFit r s ≡ []
+pub no-commands : (r : Rule) (s : List Float) → length s / 3 < 2 → chainFit r s ≡ []
 no-commands r s h = none (chainFit r s) (no-chain r s h 0 [] [] .count)
   where
     none : (cs : List Command) → 0 ≡ length cs → cs ≡ []

@@ -59,7 +59,7 @@ command-finite (Arc p o n) h =
 command-finite (Bezier p c d) h =
     let a = and3 (point3In p) (point3In c) (point3In d) h in nine-finite p c d (in-finite p (a .0)) (in-finite c (a .1)) (in-finite d (a .2))
 
-end-placed : (c : Command) → commandIn c ≡ true → Placed 20 (endOf c)
+pub end-placed : (c : Command) → commandIn c ≡ true → Placed 20 (endOf c)
 unfolding commandIn endOf
 end-placed (Move p) h = point-in p h
 end-placed (Line p) h = point-in p h
@@ -118,7 +118,7 @@ course-near tol last (Bezier p c d) L h =
     let a = and3 (point3In p) (point3In c) (point3In d) h in
     λ l. bezier-each p c d last (tol ⊗ quarter) (point-in p (a .0)) (point-in c (a .1)) (point-in d (a .2)) L l
 
-origin-placed : (k : ℕ) → Placed k origin
+pub origin-placed : (k : ℕ) → Placed k origin
 origin-placed k = record { in-x = zero-below k; in-y = zero-below k; in-z = zero-below k }
 
 -- Every number that a course's fit writes is finite, at any tolerance, for a start and commands of the domain and a most of at most 800.

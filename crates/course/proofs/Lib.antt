@@ -13,3 +13,5 @@ pub mod FiniteCenters
 pub mod FiniteFit
 pub mod FinitePoints
 pub mod FiniteCourse
+pub mod Start
+pub mod Some

@@ -1,13 +1,15 @@
 -- Demand 3's sentences about the chains of a course, as propositions, over the rule r by which a course is thinned and fitted. Definitions only;
 -- proofs/Demand.antt shows that they hold.
-use Prim.Native.Nat.{ℕ, _-_, _/_, _≤_, _<_}
+use Prim.Native.Nat.{ℕ, _+_, _-_, _/_, _≤_, _<_}
 use mathlib.Core.Path.{_≡_}
+use mathlib.Core.Bool.{true}
 use mathlib.Core.List.{List, [], _∷_, _++_, map}
 use lib.ListN.{length}
 use lib.Ieee.{Float}
-use Rattle.floats.specs.Ops.{_⊗_}
+use Rattle.floats.specs.Ops.{_⊗_, _≺_, +0}
 use Rattle.geo.specs.declared.types.Point3D.{Point3D}
 use Rattle.geo.specs.declared.types.Command.{Command}
+use Rattle.geo.specs.declared.types.Command.the-variants.{Move}
 use Rattle.geo.specs.Lent.{pointAt, triple, flat}
 use Rattle.simplify.specs.Thin.{keptIn, thinnedPoints}
 use Rattle.simplify.specs.Words.{Ascending, Near, Neighbours}
@@ -15,6 +17,7 @@ use Rattle.fitting.specs.declared.fitting.Rule.{Rule}
 use Rattle.fitting.specs.Pieces.{distance, Piece, piecesIn}
 use Rattle.fitting.specs.Laws.{RangeFitted}
 use Rattle.course.specs.Parts.{Part, chain, kept}
+use Rattle.course.specs.Course.{fitOn, mostOn, courseFit, courseMost}
 
 -- ---- the thinned chain: its points, one by its index, and its last index, which is the number of its steps
 abbrev pub thinnedChain : Rule → List Float → List Point3D
@@ -66,3 +69,21 @@ abbrev pub PartsGive : Rule → List Part → List Command → Type 0
 PartsGive r [] xs = xs ≡ []
 PartsGive r (chain s ∷ ps) xs = Joined (ChainGives r s) (PartsGive r ps) xs
 PartsGive r (kept c ∷ ps) xs = Joined (λ ys. ys ≡ c ∷ []) (PartsGive r ps) xs
+
+-- ---- commands from a start (document 02, §13)
+-- "Its reference is the Rust on that lap with such a Move put in front, which is then taken out of the answer": the course with a Move to p in front is fitted to that Move
+-- and then to the fit from p; and its most is one more
+abbrev pub Reference : Type 0
+Reference =
+    (r : Rule) (p : Point3D) (cs : List Command)
+    → (courseFit r (Move p ∷ cs) ≡ Move p ∷ fitOn r p cs) × (courseMost (r .tolerance) (Move p ∷ cs) ≡ 1 + mostOn (r .tolerance) p cs)
+
+-- Commands that have their Move are fitted alike from any start.
+abbrev pub StartNotAsked : Type 0
+StartNotAsked =
+    (r : Rule) (p q m : Point3D) (cs : List Command)
+    → (fitOn r p (Move m ∷ cs) ≡ fitOn r q (Move m ∷ cs)) × (mostOn (r .tolerance) p (Move m ∷ cs) ≡ mostOn (r .tolerance) q (Move m ∷ cs))
+
+-- Some commands are fitted to some command, from any start: no fit makes a lap with no command.
+abbrev pub SomeFitted : Type 0
+SomeFitted = (r : Rule) → (+0 ≺ r .tolerance) ≡ true → (p : Point3D) (cs : List Command) → 0 < length cs → 0 < length (fitOn r p cs)

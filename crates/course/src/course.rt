@@ -33,7 +33,7 @@ ghost use Rattle.fitting.specs.Written.{FitPlaced, NotedPlaced};
 ghost use Rattle.course.specs.Parts.{ends, mostOf};
 ghost use Rattle.floats.specs.Limits.{quarter};
 ghost use Rattle.course.specs.declared.course.Flush.the-variants.{AsItStands, Lines};
-ghost use Rattle.course.specs.Course.{joined, fitOn, mostOn, lentCourse, inputRows, arcsRows, arcsCall, optimizeCall};
+ghost use Rattle.course.specs.Course.{joined, fitOn, mostOn, endOn, lentCourse, inputRows, arcsRows, arcsCall, optimizeCall};
 ghost use Rattle.course.specs.Walks.{mostCommands, chainPoints, chainNumbers, cap, weightOf, pathFlush, joinsBeziers, joinedBy, lineNoted, flushedBy, partsBy, fitBy, notedOn, Room, Stepped};
 
 // Where a walk along a course stands.
@@ -155,6 +155,18 @@ pub fn course_most(kinds: &[u8], nums: &[f64], start: Point3D, tolerance: f64) -
         last = c.end_point();
     }
     most
+}
+
+// Where a course ends that starts at `start`: with its last command, of whatever kind.
+pub fn course_end(kinds: &[u8], nums: &[f64], start: Point3D) -> Point3D
+    requires { ⌜ 9 * length (now kinds) ≤ length (now nums) ⌝ }
+    ensures { λ r. ⌜ r ≡ endOn start (lentCourse (now (kinds .entry)) (now (nums .entry))) ⌝ }
+{
+    let n = kinds.len();
+    if n == 0 {
+        return start;
+    }
+    command_at(kinds, nums, n - 1).end_point()
 }
 
 // A Line's end joins the chain.

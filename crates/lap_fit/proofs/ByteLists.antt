@@ -4,15 +4,16 @@ use mathlib.Core.List.{List, [], _∷_, _++_, map}
 use native.Mathlib.Omega.{arith}
 use lib.ListN.{length, getD}
 use lib.Ieee.{Float, binary64, toBits}
+use Rattle.geo.specs.declared.types.Point3D.{Point3D}
 use Rattle.geo.specs.declared.types.Command.{Command}
 use Rattle.geo.specs.declared.types.Command.the-variants.{Move, Line, Arc, Bezier}
 use Rattle.geo.specs.Lent.{flat, kindOf, numbersOf}
 use Rattle.file.specs.Bytes.{u32Bytes, f64Bytes}
 use Rattle.file.specs.Command.{decoded, enc}
 use Rattle.fitting.specs.Pieces.{lapsRule}
-use Rattle.course.specs.Course.{courseFit}
+use Rattle.course.specs.Course.{fitOn}
 use Rattle.laps.specs.File.{Lap, body, bodies, table, mark, encode, Bytes}
-use Rattle.lap_fit.specs.Fit.{fitLap}
+use Rattle.lap_fit.specs.Fit.{lapEnd, fitLap, fitLaps}
 
 none : Bytes []
 none i = omega arith
@@ -60,10 +61,10 @@ unfolding body
 lap [] = none
 lap (c ∷ cs) = both (enc c) (body (map enc cs)) (command c) (lap cs)
 
-laps : (tol : Float) (ls : List Lap) → Bytes (bodies (map (fitLap tol) ls))
-unfolding bodies fitLap
-laps tol [] = none
-laps tol (l ∷ ls) = both (body (fitLap tol l)) (bodies (map (fitLap tol) ls)) (lap (courseFit (lapsRule tol) (map decoded l))) (laps tol ls)
+laps : (tol : Float) (p : Point3D) (ls : List Lap) → Bytes (bodies (fitLaps tol p ls))
+unfolding bodies fitLap fitLaps
+laps tol p [] = none
+laps tol p (l ∷ ls) = both (body (fitLap tol p l)) (bodies (fitLaps tol (lapEnd p l) ls)) (lap (fitOn (lapsRule tol) p (map decoded l))) (laps tol (lapEnd p l) ls)
 
 entries : (at : ℕ) (ls : List Lap) → Bytes (table at ls)
 unfolding table
@@ -73,11 +74,11 @@ entries at (l ∷ ls) =
     (entries (at + 73 * length l) ls)
 
 -- The fitted laps of a file, as a file.
-pub bytes-file : (tol : Float) (ls : List Lap) → Bytes (encode (map (fitLap tol) ls))
+pub bytes-file : (tol : Float) (p : Point3D) (ls : List Lap) → Bytes (encode (fitLaps tol p ls))
 unfolding encode
-bytes-file tol ls =
-    let fs : List Lap = map (fitLap tol) ls in
+bytes-file tol p ls =
+    let fs : List Lap = fitLaps tol p ls in
     let head = four 0x4c 0x41 0x50 0x53 [] (omega arith) (omega arith) (omega arith) (omega arith) none in
     both (mark ++ u32Bytes (length fs) ++ table (8 + 8 * length fs) fs) (bodies fs)
     (both (mark ++ u32Bytes (length fs)) (table (8 + 8 * length fs) fs) (both mark (u32Bytes (length fs)) head (whole (length fs))) (entries (8 + 8 * length fs) fs))
-    (laps tol ls)
+    (laps tol p ls)

@@ -1,76 +1,87 @@
--- The fit of a lap: how much it writes, that it writes something, and its most command by command. Assumes nothing.
+-- The fit of a lap: how much it writes, that it writes something, where it ends, and its most command by command. Assumes nothing.
 use Prim.Native.Nat.{ℕ, zero, suc, _+_, _-_, _*_, _≤_, _<_}
-use mathlib.Core.Path.{_≡_, sym}
+use mathlib.Core.Path.{_≡_, refl, sym, ap, _∙_}
 use mathlib.Core.Bool.{true}
 use mathlib.Core.List.{List, [], _∷_, map}
 use native.Mathlib.Omega.{arith}
-use borrow.Author.Tests.{eqb-true}
-use lib.ListN.{length, getD, take, drop, length-map}
-use lib.Dec.{eqb}
+use lib.ListN.{length, take, drop, length-map}
 use lib.Ieee.{Float}
 use Rattle.floats.specs.Ops.{_≺_, +0}
-use Rattle.floats.proofs.Order.{and-left}
 use Rattle.geo.specs.declared.types.Point3D.{Point3D}
 use Rattle.geo.specs.declared.types.Command.{Command}
-use Rattle.geo.specs.declared.types.Command.the-variants.{Move}
-use Rattle.geo.specs.Lent.{origin, endOf, commandOf}
-use Rattle.file.specs.Command.{commandsAt, decoded, enc, pointFrom}
+use Rattle.geo.specs.Lent.{endOf}
+use Rattle.file.specs.Command.{commandsAt, decoded, enc}
 use Rattle.fitting.specs.Pieces.{lapsRule}
-use Rattle.course.specs.Course.{joined, courseFit, courseMost, lentCourse}
+use Rattle.course.specs.Course.{joined, fitOn, mostOn, endOn, lentCourse}
 use Rattle.course.specs.Walks.{weightOf, weightsFrom}
-use Rattle.course.proofs.Accepted.{course-few, course-some}
+use Rattle.course.proofs.Accepted.{course-few}
+use Rattle.course.proofs.Some.{some-fitted}
 use Rattle.course.proofs.Steps.{most-of-commands}
-use Rattle.laps.specs.File.{Lap, lapsAt, countAt, placed, formOk, lapOk, AllFull, EachFull}
-use Rattle.laps.proofs.Here.{cond-false}
+use Rattle.laps.specs.File.{Lap, lapsAt, countAt, AllFull, EachFull}
+use Rattle.laps.proofs.Turns.{laps-cons, laps-nil}
 use Rattle.laps.proofs.Whole.{whole-enc}
-use Rattle.lap_fit.specs.Fit.{fitLap, mostLap, lapsMost, fitNew}
+use Rattle.lap_fit.specs.Fit.{lapEnd, fitLap, fitLaps, mostLap, lapsMost, fitNew}
 
--- a fit writes no more than its most
-module _ (tol : Float) (pos : (+0 ≺ tol) ≡ true) where
-  pub fit-most : (l : Lap) → length (fitLap tol l) ≤ mostLap tol l
+-- a fit writes no more than its most, and something where there is a command
+module _ (tol : Float) (pos : (+0 ≺ tol) ≡ true) (p : Point3D) where
+  pub fit-most : (l : Lap) → length (fitLap tol p l) ≤ mostLap tol p l
   unfolding fitLap mostLap
-  fit-most l = rw (length-map (courseFit (lapsRule tol) (map decoded l)) enc) (course-few (lapsRule tol) pos origin (map decoded l))
+  fit-most l = rw (length-map (fitOn (lapsRule tol) p (map decoded l)) enc) (course-few (lapsRule tol) pos p (map decoded l))
 
-  pub new-most : (ks : List ℕ) (ns : List Float) → length (fitNew tol ks ns) ≤ courseMost tol (lentCourse ks ns)
+  pub new-most : (ks : List ℕ) (ns : List Float) → length (fitNew tol p ks ns) ≤ mostOn tol p (lentCourse ks ns)
   unfolding fitNew
-  new-most ks ns = rw (length-map (courseFit (lapsRule tol) (lentCourse ks ns)) enc) (course-few (lapsRule tol) pos origin (lentCourse ks ns))
+  new-most ks ns = rw (length-map (fitOn (lapsRule tol) p (lentCourse ks ns)) enc) (course-few (lapsRule tol) pos p (lentCourse ks ns))
 
--- and something where the lap starts with a Move, as row 4 asks
-starts-with-move : (c : List ℕ) → formOk true c ≡ true → decoded c ≡ Move (pointFrom c 1)
-unfolding formOk placed decoded commandOf
-starts-with-move c e = let k = eqb-true (getD c 0 0) 0 (and-left (eqb (getD c 0 0) 0) _ e) in rw k
-
-pub fit-some : (tol : Float) (l : Lap) → 0 < length l → lapOk formOk true l ≡ true → 0 < length (fitLap tol l)
-unfolding fitLap lapOk
-fit-some tol [] h e = absurd (omega arith)
-fit-some tol (c ∷ l) h e =
-    let a = cond-false (formOk true c) _ e in
-    let m = starts-with-move c (a .0) in
-    let s = course-some (lapsRule tol) (pointFrom c 1) (map decoded l) in
-    rw (length-map (courseFit (lapsRule tol) (map decoded (c ∷ l))) enc, m) (omega arith)
+  pub fit-some : (l : Lap) → 0 < length l → 0 < length (fitLap tol p l)
+  unfolding fitLap
+  fit-some l h =
+      let d = length-map l decoded in
+      let s = some-fitted (lapsRule tol) pos p (map decoded l) (omega arith) in
+      rw (length-map (fitOn (lapsRule tol) p (map decoded l)) enc) s
 
 -- each command of a fit has 73 bytes
-pub whole-fit : (tol : Float) (l : Lap) → EachFull (fitLap tol l)
+pub whole-fit : (tol : Float) (p : Point3D) (l : Lap) → EachFull (fitLap tol p l)
 unfolding fitLap
-whole-fit tol l = whole-enc (courseFit (lapsRule tol) (map decoded l))
+whole-fit tol p l = whole-enc (fitOn (lapsRule tol) p (map decoded l))
 
-pub wholes-fit : (tol : Float) (ls : List Lap) → AllFull (map (fitLap tol) ls)
-wholes-fit tol [] = tt
-wholes-fit tol (l ∷ ls) = (whole-fit tol l, wholes-fit tol ls)
+pub wholes-fit : (tol : Float) (p : Point3D) (ls : List Lap) → AllFull (fitLaps tol p ls)
+unfolding fitLaps
+wholes-fit tol p [] = tt
+wholes-fit tol p (l ∷ ls) = (whole-fit tol p l, wholes-fit tol (lapEnd p l) ls)
 
-pub whole-new : (tol : Float) (ks : List ℕ) (ns : List Float) → EachFull (fitNew tol ks ns)
+pub whole-new : (tol : Float) (p : Point3D) (ks : List ℕ) (ns : List Float) → EachFull (fitNew tol p ks ns)
 unfolding fitNew
-whole-new tol ks ns = whole-enc (courseFit (lapsRule tol) (lentCourse ks ns))
+whole-new tol p ks ns = whole-enc (fitOn (lapsRule tol) p (lentCourse ks ns))
 
 -- ---- the laps of a file, one by one
-pub mosts-step : (tol : Float) (s : List ℕ) (j at l n : ℕ) → j < l → n ≡ countAt s j
-    → lapsMost tol (lapsAt s j at (l - j)) ≡ mostLap tol (commandsAt s at n) + lapsMost tol (lapsAt s (j + 1) (at + 73 * n) (l - (j + 1)))
-unfolding lapsMost lapsAt
-mosts-step tol s j at l n h e = let z : l - j ≡ suc (l - (j + 1)) = omega arith in rw (z, e)
+pub mosts-step : (tol : Float) (p q : Point3D) (s : List ℕ) (j at l n : ℕ) → j < l → n ≡ countAt s j → q ≡ lapEnd p (commandsAt s at n)
+    → lapsMost tol p (lapsAt s j at (l - j)) ≡ mostLap tol p (commandsAt s at n) + lapsMost tol q (lapsAt s (j + 1) (at + 73 * n) (l - (j + 1)))
+unfolding lapsMost
+mosts-step tol p q s j at l n h e f = rw (laps-cons s j at l n h e, f)
 
-pub mosts-end : (tol : Float) (s : List ℕ) (j at l : ℕ) → l ≤ j → lapsMost tol (lapsAt s j at (l - j)) ≡ 0
-unfolding lapsMost lapsAt
-mosts-end tol s j at l h = let z : l - j ≡ zero = omega arith in rw z
+pub mosts-end : (tol : Float) (p : Point3D) (s : List ℕ) (j at l : ℕ) → l ≤ j → lapsMost tol p (lapsAt s j at (l - j)) ≡ 0
+unfolding lapsMost
+mosts-end tol p s j at l h = rw (laps-nil s j at l h)
+
+-- ---- where a lap ends
+pub end-none : (s : List ℕ) (p : Point3D) (at n : ℕ) → n ≡ 0 → p ≡ lapEnd p (commandsAt s at n)
+unfolding lapEnd endOn commandsAt
+end-none s p at n e = rw e
+
+last-end : (s : List ℕ) (p : Point3D) (at n : ℕ) → lapEnd p (commandsAt s at (suc n)) ≡ endOf (decoded (take 73 (drop (at + 73 * n) s)))
+unfolding lapEnd endOn commandsAt
+last-end s p at zero = let z : at + 73 * 0 ≡ at = omega arith in rw z
+last-end s p at (suc n) = let z : at + 73 * suc n ≡ at + 73 + 73 * n = omega arith in rw z (last-end s (endOf (decoded (take 73 (drop at s)))) (at + 73) n)
+
+-- with the command c whose bytes end where the lap's do
+pub end-read : (s : List ℕ) (p q : Point3D) (at n b e : ℕ) (c : Command) → (n ≡ 0 → ⊥) → e ≡ at + 73 * n → b ≡ e - 73 → c ≡ decoded (take (e - b) (drop b s)) → q ≡ endOf c
+    → q ≡ lapEnd p (commandsAt s at n)
+end-read s p q at zero b e c h i j k f = absurd (h refl)
+end-read s p q at (suc n) b e c h i j k f =
+    let x : e - b ≡ 73 = omega arith in
+    let y : b ≡ at + 73 * n = omega arith in
+    let g : c ≡ decoded (take 73 (drop (at + 73 * n) s)) = rw (x, y) at k in
+    f ∙ ap endOf g ∙ sym (last-end s p at n)
 
 -- ---- the commands of a lap, one by one
 module _ (tol : Float) where
@@ -78,9 +89,9 @@ module _ (tol : Float) where
   abbrev pub weights : List ℕ → Point3D → ℕ → ℕ → ℕ
   weights s last b k = weightsFrom (joined tol) last (map decoded (commandsAt s b k))
 
-  pub weights-all : (s : List ℕ) (at n : ℕ) → weights s origin at n ≡ mostLap tol (commandsAt s at n)
+  pub weights-all : (s : List ℕ) (p : Point3D) (at n : ℕ) → weights s p at n ≡ mostLap tol p (commandsAt s at n)
   unfolding mostLap
-  weights-all s at n = sym (most-of-commands tol origin (map decoded (commandsAt s at n)))
+  weights-all s p at n = sym (most-of-commands tol p (map decoded (commandsAt s at n)))
 
   pub weights-step : (s : List ℕ) (last last′ : Point3D) (c : Command) (b n i : ℕ) → i < n → c ≡ decoded (take (b + 73 - b) (drop b s)) → last′ ≡ endOf c
       → weights s last b (n - i) ≡ weightOf (joined tol last c) + weights s last′ (b + 73) (n - (i + 1))

@@ -5,3 +5,4 @@ pub mod Turns
 pub mod Rows
 pub mod Accepted
 pub mod ByteLists
+pub mod Starts

@@ -9,6 +9,7 @@ use mathlib.Core.Logic.{⊎-elim}
 use Rattle.floats.proofs.Order.{lt-or-ge}
 use Rattle.geo.specs.Outcome.{refusal}
 use Rattle.geo.specs.Domain.{tolerance}
+use Rattle.geo.specs.Lent.{origin}
 use Rattle.course.specs.Walks.{cap}
 use Rattle.geo.proofs.Rows.{row-fails, row-passes, row-passed}
 use Rattle.laps.specs.File.{lapCount, lapsOf}
@@ -21,15 +22,15 @@ use Rattle.lap_fit.proofs.Cap.{told-above, told-below}
 pub record FitPassed (s : List ℕ) (tol : Float) (room : ℕ) : Type 0 where
   pub file : FilePassed s
   pub within : tolerance tol ≡ true
-  pub few : lapsMost tol (lapsOf s) ≤ 800
-  pub space : fileSize (lapCount s) (lapsMost tol (lapsOf s)) ≤ room
+  pub few : lapsMost tol origin (lapsOf s) ≤ 800
+  pub space : fileSize (lapCount s) (lapsMost tol origin (lapsOf s)) ≤ room
 
 pub fit-passed : (s : List ℕ) (tol : Float) (room : ℕ) → 0 ≡ refusal (fileFitRows s tol room) → FitPassed s tol room
 unfolding fileFitRows
 fit-passed s tol room e =
     let a = file-passed-with s _ e in
     let b = row-passed 5 (not (tolerance tol)) _ (a .1) in
-    let c = sized (lapCount s) (lapsMost tol (lapsOf s)) room (b .1) in
+    let c = sized (lapCount s) (lapsMost tol origin (lapsOf s)) room (b .1) in
     record { file = a .0; within = not-false _ (b .0); few = c .0; space = c .1 }
 
 module _ (s : List ℕ) (tol : Float) (room : ℕ) (p : FilePassed s) where
@@ -37,7 +38,7 @@ module _ (s : List ℕ) (tol : Float) (room : ℕ) (p : FilePassed s) where
   unfolding fileFitRows
   fit-6 h = behind-file s _ p ∙ row-fails 6 _ _ h
 
-  pub fit-sizes : not (tolerance tol) ≡ false → refusal (fileFitRows s tol room) ≡ refusal (sizeRows (lapCount s) (lapsMost tol (lapsOf s)) room)
+  pub fit-sizes : not (tolerance tol) ≡ false → refusal (fileFitRows s tol room) ≡ refusal (sizeRows (lapCount s) (lapsMost tol origin (lapsOf s)) room)
   unfolding fileFitRows
   fit-sizes h = behind-file s _ p ∙ row-passes 6 _ _ h
 

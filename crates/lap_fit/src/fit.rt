@@ -19,25 +19,39 @@ use laps::lap_file::put_entry;
 use laps::lap_file::put_head;
 ghost use mathlib.Core.Path.{_≡_};
 ghost use mathlib.Core.Bool.{true};
-ghost use mathlib.Core.List.{List, map, _++_};
+ghost use mathlib.Core.List.{List, _++_};
 ghost use Prim.Native.Nat.{ℕ, _+_, _*_, _≤_};
 ghost use lib.ListN.{length, drop};
 ghost use Rattle.floats.specs.Ops.{_≺_, +0};
 ghost use Rattle.geo.specs.Outcome.{refusal, Wrote};
 ghost use Rattle.file.specs.Command.{commandsAt};
-ghost use Rattle.course.specs.Course.{courseMost, lentCourse};
+ghost use Rattle.course.specs.Course.{mostOn, lentCourse};
 ghost use Rattle.course.specs.Walks.{cap};
 ghost use Rattle.laps.specs.File.{lapCount, lapsOf, encode, tableOk, PutLap};
 ghost use Rattle.laps.specs.Rows.{fileSize};
-ghost use Rattle.lap_fit.specs.Fit.{fitLap, mostLap, lapsMost, fitNew, fileFitRows, fitFile};
+ghost use Rattle.geo.specs.Lent.{origin};
+ghost use Rattle.lap_fit.specs.Fit.{lapEnd, fitLap, fitLaps, mostLap, lapsMost, fitNew, fileFitRows, fitFile};
 
-// What the n commands from `at` on could become at most.
-fn most_lap(s: &[u8], at: usize, n: usize, tolerance: f64) -> usize
+// Where the lap of the n commands from `at` on ends: with its last command, of whatever kind.
+pub fn lap_end(s: &[u8], at: usize, n: usize, start: Point3D) -> Point3D
+    requires { ⌜ at + 73 * n ≤ length (now s) ⌝ }
+    ensures { λ r. ⌜ r ≡ lapEnd start (commandsAt (now (s .entry)) at n) ⌝ }
+{
+    if n == 0 {
+        return start;
+    }
+    let e = at + COMMAND_BYTES * n;
+    let b = e - COMMAND_BYTES;
+    read_command(&s[b..e]).end_point()
+}
+
+// What the n commands from `at` on, from their start, could become at most.
+pub fn most_lap(s: &[u8], at: usize, n: usize, start: Point3D, tolerance: f64) -> usize
     requires { ⌜ (at + 73 * n ≤ length (now s)) × (n ≤ 800) ⌝ }
-    ensures { λ r. ⌜ r ≡ cap (mostLap tolerance (commandsAt (now (s .entry)) at n)) ⌝ }
+    ensures { λ r. ⌜ r ≡ cap (mostLap tolerance start (commandsAt (now (s .entry)) at n)) ⌝ }
 {
     let mut most = 0;
-    let mut last = Point3D::ZERO;
+    let mut last = start;
     let mut b = at;
     for i in 0..n {
         let e = b + COMMAND_BYTES;
@@ -52,25 +66,28 @@ fn most_lap(s: &[u8], at: usize, n: usize, tolerance: f64) -> usize
 // What the laps of a file could become at most.
 pub fn most_of(s: &[u8], tolerance: f64) -> usize
     requires { ⌜ (8 ≤ length (now s)) × (tableOk (now s) ≡ true) ⌝ }
-    ensures { λ r. ⌜ r ≡ cap (lapsMost tolerance (lapsOf (now (s .entry)))) ⌝ }
+    ensures { λ r. ⌜ r ≡ cap (lapsMost tolerance origin (lapsOf (now (s .entry)))) ⌝ }
 {
     let l = lap_count(s);
     let mut at = 8 + 8 * l;
     let mut most = 0;
+    let mut start = Point3D::ZERO;
     let mut j = 0;
     while j < l {
         let n = count_at(s, j);
-        most = add_capped(most, most_lap(s, at, n, tolerance));
+        most = add_capped(most, most_lap(s, at, n, start, tolerance));
+        start = lap_end(s, at, n, start);
         at += COMMAND_BYTES * n;
         j += 1;
     }
     most
 }
 
-// Writes the fit of lent commands from `to` on, by way of three arrays, and returns how many commands it has.
+// Writes the fit of lent commands, from their start, from `to` on, by way of three arrays, and returns how many commands it has.
 fn fit_lent(
     kinds: &[u8],
     nums: &[f64],
+    start: Point3D,
     tolerance: f64,
     chain: &mut [f64],
     out_kinds: &mut [u8],
@@ -78,19 +95,26 @@ fn fit_lent(
     out: &mut [u8],
     to: usize,
 ) -> usize
-    requires { ⌜ ((+0 ≺ tolerance) ≡ true) × (9 * length (now kinds) ≤ length (now nums)) × (courseMost tolerance (lentCourse (now kinds) (now nums)) ≤ 800) × (to + 73 * length (fitNew tolerance (now kinds) (now nums)) ≤ length (now out)) × (length (now «out_kinds») ≡ 800) × (length (now «out_nums») ≡ 7200) × (length (now chain) ≡ 2403) ⌝ }
-    ensures { λ r. ⌜ PutLap (fitNew tolerance (now (kinds .entry)) (now (nums .entry))) (now (out .entry)) (now (out .exit)) to r ⌝ }
+    requires { ⌜ ((+0 ≺ tolerance) ≡ true) × (9 * length (now kinds) ≤ length (now nums)) × (mostOn tolerance start (lentCourse (now kinds) (now nums)) ≤ 800) × (to + 73 * length (fitNew tolerance start (now kinds) (now nums)) ≤ length (now out)) × (length (now «out_kinds») ≡ 800) × (length (now «out_nums») ≡ 7200) × (length (now chain) ≡ 2403) ⌝ }
+    ensures { λ r. ⌜ PutLap (fitNew tolerance start (now (kinds .entry)) (now (nums .entry))) (now (out .entry)) (now (out .exit)) to r ⌝ }
 {
     let rule = Rule::of_laps(tolerance);
-    let n = fit_course(kinds, nums, Point3D::ZERO, rule, chain, out_kinds, out_nums);
+    let n = fit_course(kinds, nums, start, rule, chain, out_kinds, out_nums);
     write_commands(out_kinds, out_nums, n, out, to);
     n
 }
 
-// Writes the fit of lent commands from `to` on, and returns how many commands it has.
-pub fn fit_commands(kinds: &[u8], nums: &[f64], tolerance: f64, out: &mut [u8], to: usize) -> usize
-    requires { ⌜ ((+0 ≺ tolerance) ≡ true) × (9 * length (now kinds) ≤ length (now nums)) × (courseMost tolerance (lentCourse (now kinds) (now nums)) ≤ 800) × (to + 73 * length (fitNew tolerance (now kinds) (now nums)) ≤ length (now out)) ⌝ }
-    ensures { λ r. ⌜ PutLap (fitNew tolerance (now (kinds .entry)) (now (nums .entry))) (now (out .entry)) (now (out .exit)) to r ⌝ }
+// Writes the fit of lent commands, from their start, from `to` on, and returns how many commands it has.
+pub fn fit_commands(
+    kinds: &[u8],
+    nums: &[f64],
+    start: Point3D,
+    tolerance: f64,
+    out: &mut [u8],
+    to: usize,
+) -> usize
+    requires { ⌜ ((+0 ≺ tolerance) ≡ true) × (9 * length (now kinds) ≤ length (now nums)) × (mostOn tolerance start (lentCourse (now kinds) (now nums)) ≤ 800) × (to + 73 * length (fitNew tolerance start (now kinds) (now nums)) ≤ length (now out)) ⌝ }
+    ensures { λ r. ⌜ PutLap (fitNew tolerance start (now (kinds .entry)) (now (nums .entry))) (now (out .entry)) (now (out .exit)) to r ⌝ }
 {
     let mut chain = [0.0; Walk::CHAIN];
     let mut out_kinds = [0u8; Walk::MOST];
@@ -98,6 +122,7 @@ pub fn fit_commands(kinds: &[u8], nums: &[f64], tolerance: f64, out: &mut [u8], 
     fit_lent(
         kinds,
         nums,
+        start,
         tolerance,
         &mut chain,
         &mut out_kinds,
@@ -107,11 +132,12 @@ pub fn fit_commands(kinds: &[u8], nums: &[f64], tolerance: f64, out: &mut [u8], 
     )
 }
 
-// Writes the fit of the n commands from `at` on, from `to` on, by way of five arrays, and returns how many commands it has.
-fn fit_lap(
+// Writes the fit of the n commands from `at` on, a lap with its start, from `to` on, by way of five arrays, and returns how many commands it has.
+pub fn fit_lap(
     s: &[u8],
     at: usize,
     n: usize,
+    start: Point3D,
     tolerance: f64,
     kinds: &mut [u8],
     nums: &mut [f64],
@@ -121,14 +147,15 @@ fn fit_lap(
     out: &mut [u8],
     to: usize,
 ) -> usize
-    requires { ⌜ ((+0 ≺ tolerance) ≡ true) × (at + 73 * n ≤ length (now s)) × (n ≤ 800) × (mostLap tolerance (commandsAt (now s) at n) ≤ 800) × (to + 73 * length (fitLap tolerance (commandsAt (now s) at n)) ≤ length (now out)) × (length (now kinds) ≡ 800) × (length (now nums) ≡ 7200) × (length (now «out_kinds») ≡ 800) × (length (now «out_nums») ≡ 7200) × (length (now chain) ≡ 2403) ⌝ }
-    ensures { λ r. ⌜ PutLap (fitLap tolerance (commandsAt (now (s .entry)) at n)) (now (out .entry)) (now (out .exit)) to r ⌝ }
+    requires { ⌜ ((+0 ≺ tolerance) ≡ true) × (at + 73 * n ≤ length (now s)) × (n ≤ 800) × (mostLap tolerance start (commandsAt (now s) at n) ≤ 800) × (to + 73 * length (fitLap tolerance start (commandsAt (now s) at n)) ≤ length (now out)) × (length (now kinds) ≡ 800) × (length (now nums) ≡ 7200) × (length (now «out_kinds») ≡ 800) × (length (now «out_nums») ≡ 7200) × (length (now chain) ≡ 2403) ⌝ }
+    ensures { λ r. ⌜ PutLap (fitLap tolerance start (commandsAt (now (s .entry)) at n)) (now (out .entry)) (now (out .exit)) to r ⌝ }
 {
     read_commands(s, at, n, kinds, nums);
     let m = 9 * n;
     fit_lent(
         &kinds[..n],
         &nums[..m],
+        start,
         tolerance,
         chain,
         out_kinds,
@@ -140,8 +167,8 @@ fn fit_lap(
 
 // Writes the fit of a file, the mark first, and returns how many bytes it has.
 fn fit_laps(s: &[u8], tolerance: f64, out: &mut [u8]) -> usize
-    requires { ⌜ ((+0 ≺ tolerance) ≡ true) × (8 ≤ length (now s)) × (tableOk (now s) ≡ true) × (lapsMost tolerance (lapsOf (now s)) ≤ 800) × (fileSize (lapCount (now s)) (lapsMost tolerance (lapsOf (now s))) ≤ length (now out)) ⌝ }
-    ensures { λ r. ⌜ (r ≡ length (encode (map (fitLap tolerance) (lapsOf (now (s .entry)))))) × (now (out .exit) ≡ encode (map (fitLap tolerance) (lapsOf (now (s .entry)))) ++ drop (length (encode (map (fitLap tolerance) (lapsOf (now (s .entry)))))) (now (out .entry))) ⌝ }
+    requires { ⌜ ((+0 ≺ tolerance) ≡ true) × (8 ≤ length (now s)) × (tableOk (now s) ≡ true) × (lapsMost tolerance origin (lapsOf (now s)) ≤ 800) × (fileSize (lapCount (now s)) (lapsMost tolerance origin (lapsOf (now s))) ≤ length (now out)) ⌝ }
+    ensures { λ r. ⌜ (r ≡ length (encode (fitLaps tolerance origin (lapsOf (now (s .entry)))))) × (now (out .exit) ≡ encode (fitLaps tolerance origin (lapsOf (now (s .entry)))) ++ drop (length (encode (fitLaps tolerance origin (lapsOf (now (s .entry)))))) (now (out .entry))) ⌝ }
 {
     // filled here once, and lent for each lap
     let mut kinds = [0u8; Walk::MOST];
@@ -153,6 +180,7 @@ fn fit_laps(s: &[u8], tolerance: f64, out: &mut [u8]) -> usize
     put_head(out, l);
     let mut at = 8 + 8 * l;
     let mut to = at;
+    let mut start = Point3D::ZERO;
     let mut j = 0;
     while j < l {
         let n = count_at(s, j);
@@ -160,6 +188,7 @@ fn fit_laps(s: &[u8], tolerance: f64, out: &mut [u8]) -> usize
             s,
             at,
             n,
+            start,
             tolerance,
             &mut kinds,
             &mut nums,
@@ -170,6 +199,7 @@ fn fit_laps(s: &[u8], tolerance: f64, out: &mut [u8]) -> usize
             to,
         );
         put_entry(out, j, to, c);
+        start = lap_end(s, at, n, start);
         at += COMMAND_BYTES * n;
         to += COMMAND_BYTES * c;
         j += 1;

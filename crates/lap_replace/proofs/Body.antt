@@ -1,47 +1,75 @@
--- A lap in a buffer: what stands there is the lap whose body was written, whole, and few enough. Assumes nothing.
-use Prim.Native.Nat.{ℕ, _-_, _*_, _/_, _≤_}
+-- Two laps in a buffer, one behind the other: what stands there are the laps whose bodies were written; and they are few enough. Assumes nothing.
+use Prim.Native.Nat.{ℕ, _+_, _*_, _≤_}
 use mathlib.Core.Path.{_≡_, sym, ap, _∙_}
-use mathlib.Core.Bool.{true}
-use mathlib.Core.List.{List, [], _++_, append-nil}
+use mathlib.Core.Bool.{Bool, true}
+use mathlib.Core.List.{List, _++_, append-assoc}
 use native.Mathlib.Omega.{arith}
-use lib.ListN.{length, take, drop}
-use lib.Seq.{sets, take-at}
+use lib.ListN.{length, drop, length-append}
+use lib.Seq.{sets, drop-at}
 use lib.Ieee.{Float}
 use Rattle.floats.specs.Ops.{_≺_, +0}
-use Rattle.geo.proofs.Stores.{sets-front}
-use Rattle.course.specs.Course.{courseMost, lentCourse}
+use Rattle.geo.specs.declared.types.Point3D.{Point3D}
+use Rattle.geo.proofs.Stores.{sets-front, sets-append}
+use Rattle.file.specs.Command.{commandsAt}
+use Rattle.course.specs.Course.{mostOn, endOn, lentCourse}
 use Rattle.laps.specs.File.{Lap, lapsOf, body, EachFull, commandCount}
 use Rattle.laps.proofs.ReadBack.{commands-back}
-use Rattle.laps.proofs.Whole.{whole-commands, length-body}
-use Rattle.lap_fit.specs.Fit.{fitNew}
-use Rattle.lap_fit.proofs.Lap.{new-most}
-use Rattle.lap_replace.specs.Replace.{swap, lapIn, lentNew, mostWith}
-use Rattle.lap_replace.proofs.Replaced.{total-set}
+use Rattle.laps.proofs.Whole.{length-body}
+use Rattle.lap_fit.specs.Fit.{startOf, fitLap, mostLap, fitNew}
+use Rattle.lap_fit.proofs.Lap.{new-most, fit-most}
+use Rattle.lap_replace.specs.Replace.{swapBoth, nextLacks, nextLap, mostBoth, lentNew, mostWith, replacedLaps}
+use Rattle.lap_replace.proofs.Replaced.{total-both}
 
-pub whole-in : (bytes : List ℕ) → EachFull (lapIn bytes)
-unfolding lapIn
-whole-in bytes = whole-commands bytes 0 (length bytes / 73) (omega arith)
+-- ---- the laps x and y, written to the front of a buffer
+module _ (x y : Lap) (buffer bytes₁ bytes₂ : List ℕ) (n m : ℕ) (wx : EachFull x) (wy : EachFull y) (ex : n ≡ length x) (ey : m ≡ length y) (room : 73 * (n + m) ≤ length buffer)
+    (a : bytes₁ ≡ sets buffer 0 (body x)) (b : bytes₂ ≡ sets bytes₁ (73 * n) (body y)) where
+  wide : length (body x) ≡ 73 * n
+  wide = let p = length-body x wx in omega (arith, p, ex)
 
--- the lap of a body is read back
-in-body : (l : Lap) → EachFull l → lapIn (body l) ≡ l
-unfolding lapIn
-in-body l w =
-    let m : length (body l) / 73 ≡ length l = let h = length-body l w in omega (arith, h) in
-    rw m (commands-back l (body l) 0 [] (sym (append-nil (body l))) w)
+  in-buffer : bytes₂ ≡ body x ++ (body y ++ drop (length (body x ++ body y)) buffer)
+  in-buffer =
+      let q = length-body y wy in
+      let w = wide in
+      let l = length-append (body x) (body y) in
+      let t : 73 * n ≡ 0 + length (body x) = omega arith in
+      b ∙ ap (λ (r : List ℕ). sets r (73 * n) (body y)) a ∙ ap (λ (i : ℕ). sets (sets buffer 0 (body x)) i (body y)) t ∙ sym (sets-append (body x) (body y) buffer 0)
+      ∙ sets-front (body x ++ body y) buffer (omega (arith, l, w, q, ey, room)) ∙ append-assoc (body x) (body y) (drop (length (body x ++ body y)) buffer)
 
--- also from the front of a buffer
-pub body-in : (l : Lap) (buffer bytes : List ℕ) (n : ℕ) → EachFull l → n ≡ length l → 73 * n ≤ length buffer → bytes ≡ sets buffer 0 (body l) → lapIn (take (73 * n) bytes) ≡ l
-body-in l buffer bytes n w e h b =
-    let m : length (body l) ≡ 73 * n = let k = length-body l w in omega (arith, k) in
-    let f : bytes ≡ body l ++ drop (length (body l)) buffer = b ∙ sets-front (body l) buffer (omega arith) in
-    ap lapIn (ap (take (73 * n)) f ∙ take-at (body l) (drop (length (body l)) buffer) (73 * n) m) ∙ in-body l w
+  pub first-in : commandsAt bytes₂ 0 n ≡ x
+  first-in = ap (commandsAt bytes₂ 0) ex ∙ commands-back x bytes₂ 0 (body y ++ drop (length (body x ++ body y)) buffer) in-buffer wx
 
--- ---- the fit of lent commands, by the most of the replacement
-module _ (tol : Float) (pos : (+0 ≺ tol) ≡ true) (ks : List ℕ) (ns : List Float) (k : ℕ) (f : List ℕ) where
-  pub body-few : mostWith (lentNew tol ks ns) k f ≤ 800 → (courseMost tol (lentCourse ks ns) ≤ 800) × (length (fitNew tol ks ns) ≤ 800)
-  unfolding mostWith
-  body-few h = let b = new-most tol pos ks ns in (omega arith, omega (arith, b))
+  pub next-in : commandsAt bytes₂ (73 * n) m ≡ y
+  next-in =
+      ap (commandsAt bytes₂ (73 * n)) ey
+      ∙ commands-back y bytes₂ (73 * n) (drop (length (body x ++ body y)) buffer)
+      (ap (drop (73 * n)) in-buffer ∙ drop-at (body x) (body y ++ drop (length (body x ++ body y)) buffer) (73 * n) wide) wy
 
-  pub most-in : commandCount (swap k (fitNew tol ks ns) 1 (lapsOf f)) ≤ mostWith (lentNew tol ks ns) k f
-  unfolding mostWith
-  most-in = let a = total-set (lapsOf f) (k - 1) (fitNew tol ks ns) in let b = new-most tol pos ks ns in omega (arith, a, b)
+-- ---- by the most of the replacement
+module _ (tol : Float) (pos : (+0 ≺ tol) ≡ true) (s f : List ℕ) (k : ℕ) (ks : List ℕ) (ns : List Float) where
+  both-few : mostWith (lentNew tol (lapsOf s) k ks ns) k s f ≤ 800
+      → (mostOn tol (startOf k (lapsOf s)) (lentCourse ks ns) ≤ 800) × (mostLap tol (endOn (startOf k (lapsOf s)) (lentCourse ks ns)) (nextLap k (lapsOf s)) ≤ 800)
+      × (length (fitNew tol (startOf k (lapsOf s)) ks ns) + length (fitLap tol (endOn (startOf k (lapsOf s)) (lentCourse ks ns)) (nextLap k (lapsOf s))) ≤ 800)
+  unfolding mostWith mostBoth
+  both-few h =
+      let a = new-most tol pos (startOf k (lapsOf s)) ks ns in
+      let b = fit-most tol pos (endOn (startOf k (lapsOf s)) (lentCourse ks ns)) (nextLap k (lapsOf s)) in
+      (omega arith, omega arith, omega (arith, a, b))
+
+  pub most-in : 1 ≤ k → commandCount (replacedLaps tol k ks ns (lapsOf s) (lapsOf f)) ≤ mostWith (lentNew tol (lapsOf s) k ks ns) k s f
+  unfolding mostWith mostBoth replacedLaps
+  most-in h =
+      let p = startOf k (lapsOf s) in
+      let q = endOn p (lentCourse ks ns) in
+      let a = new-most tol pos p ks ns in
+      let b = fit-most tol pos q (nextLap k (lapsOf s)) in
+      let c = total-both (nextLacks k (lapsOf s)) k (fitNew tol p ks ns) (fitLap tol q (nextLap k (lapsOf s))) (lapsOf f) h in omega (arith, a, b, c)
+
+  -- what the code works out: where the new commands start and end, and the next lap
+  module _ (p q : Point3D) (l : Lap) (ep : p ≡ startOf k (lapsOf s)) (eq : q ≡ endOn p (lentCourse ks ns)) (el : l ≡ nextLap k (lapsOf s)) where
+    pub few-laps : mostWith (lentNew tol (lapsOf s) k ks ns) k s f ≤ 800
+        → (mostOn tol p (lentCourse ks ns) ≤ 800) × (mostLap tol q l ≤ 800) × (length (fitNew tol p ks ns) + length (fitLap tol q l) ≤ 800)
+    few-laps h = rw (el, eq, ep) (both-few h)
+
+    pub as-replaced : (b : Bool) → b ≡ nextLacks k (lapsOf s) → swapBoth b k (fitNew tol p ks ns) (fitLap tol q l) (lapsOf f) ≡ replacedLaps tol k ks ns (lapsOf s) (lapsOf f)
+    unfolding replacedLaps
+    as-replaced b eb = rw (eb, el, eq, ep)

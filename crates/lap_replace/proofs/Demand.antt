@@ -1,40 +1,45 @@
 -- Demand 3: the theorems of `specs/Demand.antt`. Assumes nothing.
-use Prim.Native.Nat.{ℕ, zero, suc, _-_, _*_, _≤_, _<_}
+use Prim.Native.Nat.{ℕ, zero, suc, _+_, _-_, _*_, _≤_, _<_}
 use mathlib.Core.Path.{_≡_, refl, sym, ap, _∙_, subst}
-use mathlib.Core.Bool.{true, false}
+use mathlib.Core.Bool.{Bool, true, false}
 use mathlib.Core.List.{List, [], _∷_, map}
 use native.Mathlib.Omega.{arith}
 use borrow.Author.Tests.{eq-eqb, ne-eqb, le-ltb, le-leb}
 use lib.Dec.{leb}
-use lib.ListN.{length, getD, length-set}
+use lib.ListN.{length, getD, set, length-set}
 use lib.Seq.{getD-set-same, getD-set-other}
 use lib.Ieee.{Float}
 use Rattle.floats.specs.Ops.{_≺_, +0}
+use Rattle.floats.proofs.Order.{clash}
+use Rattle.geo.specs.declared.types.Point3D.{Point3D}
 use Rattle.geo.specs.Domain.{commandsIn}
 use Rattle.geo.specs.Outcome.{gives, refusal}
-use Rattle.geo.specs.Lent.{flat, origin, kindOf, numbersOf}
+use Rattle.geo.specs.Lent.{flat, origin, endOf, kindOf, numbersOf}
 use Rattle.geo.proofs.Rows.{unless-gives}
 use Rattle.geo.proofs.Tolerance.{tolerance-positive}
 use Rattle.file.specs.Command.{decoded, enc, lentLap}
 use Rattle.file.proofs.Lent.{lent-commands, lent-length}
 use Rattle.fitting.specs.Pieces.{lapsRule}
-use Rattle.course.specs.Course.{courseFit}
+use Rattle.course.specs.Course.{fitOn, endOn, lentCourse}
 use Rattle.course.proofs.Demand.{course-gives}
 use Rattle.laps.proofs.Canonical as form
 use Rattle.lap_fit.proofs.ByteLists.{bytes-file}
-use Rattle.laps.specs.File.{Lap, lapCount, lapsOf, encode, short, big, tableOk, lapOk, lapsOk, formOk, domainOk, AllFull, commandCount, Bytes}
+use Rattle.laps.specs.File.{Lap, lapCount, lapsOf, encode, short, big, tableOk, lacks, lapTested, lapsOk, formOk, domainOk, AllFull, commandCount, Bytes}
 use Rattle.laps.proofs.Laps.{wholes-of, somes-of, few-commands}
 use Rattle.laps.proofs.ReadBack.{Somes, lap-count-encode, laps-encode}
 use Rattle.laps.proofs.Rows.{FilePassed, size-0}
 use Rattle.laps.proofs.Turns.{length-laps-of}
 use Rattle.laps.proofs.Walks.{not-big}
 use Rattle.laps.proofs.Whole.{whole-lent, length-encode}
-use Rattle.lap_fit.specs.Fit.{fitLap, lapsMost, fitNew}
+use Rattle.lap_fit.specs.Fit.{lapEnd, startOf, fitLap, fitLaps, lapsMost, fitNew}
 use Rattle.lap_fit.proofs.Accepted.{Accepted, accepted, Fitted, fitted}
-use Rattle.lap_replace.specs.Demand.{lapAt, courseWith, Canonical, ReadBack, OneCourse, LapsAreFitted, EachLapGives, FitIsLapFile, Fresh, ReplacedIsFresh, OthersStay, NewIsFitted, LentAsCommands, CommandsReplaced}
-use Rattle.lap_replace.specs.Replace.{swap, lentWhole, lentFormed, lentNew, mostWith, row1, row2, row3, row4, row5, row7, replaceRows, replaceLap}
-use Rattle.lap_replace.proofs.New.{length-lent, lent-most, lent-fit, lent-formed, lent-near}
-use Rattle.lap_replace.proofs.Replaced.{map-set, wholes-set, new-ok, new-some, most-set, new-in-total}
+use Rattle.lap_fit.proofs.Starts.{one-back, fit-at}
+use Rattle.lap_replace.specs.Demand.{lapAt, courseWith, Canonical, ReadBack, OneCourse, LapsAreFitted, StartsAtTheEnd, EachLapGives, FitIsLapFile, Fresh, ReplacedIsFresh, OthersStay, NewIsFitted, LentAsCommands, CommandsReplaced}
+use Rattle.lap_replace.specs.Replace.{swap, swapBoth, nextLacks, nextLap, lentWhole, lentFormed, mostBoth, lentNew, mostWith, row1, row2, row3, row4, row5, row7, replaceRows, replacedLaps, replaceLap}
+use Rattle.lap_replace.proofs.New.{length-lent, lent-most, lent-fit, lent-end, lent-formed, lent-near}
+use Rattle.lap_replace.proofs.Replaced.{wholes-set, new-ok, new-some, new-in-total}
+use Rattle.lap_replace.proofs.Again.{fits-replaced, mosts-replaced}
+use Rattle.lap_replace.proofs.Finite.{lap-finite}
 use Rattle.lap_replace.proofs.Rows.{NewPassed, new-sizes}
 
 -- ---- the format
@@ -52,32 +57,55 @@ unfolding courseWith
 one-course s g k ks ns b h t e = sym (form.canonical g b h t) ∙ ap encode e
 
 -- ---- the fit
-getD-map : (f : Lap → Lap) (ls : List Lap) (i : ℕ) → i < length ls → getD (map f ls) i [] ≡ f (getD ls i [])
-getD-map f [] i h = absurd (omega arith)
-getD-map f (l ∷ ls) zero h = refl
-getD-map f (l ∷ ls) (suc i) h = getD-map f ls i (omega arith)
-
-lap-fitted : (s f : List ℕ) (tol : Float) → Fitted s tol f → (j : ℕ) → 1 ≤ j → j ≤ lapCount s → lapAt f j ≡ map enc (courseFit (lapsRule tol) (map decoded (lapAt s j)))
-unfolding lapAt fitLap
+lap-fitted : (s f : List ℕ) (tol : Float) → Fitted s tol f → (j : ℕ) → 1 ≤ j → j ≤ lapCount s
+    → lapAt f j ≡ map enc (fitOn (lapsRule tol) (startOf j (lapsOf s)) (map decoded (lapAt s j)))
+unfolding lapAt startOf fitLap
 lap-fitted s f tol q j a b =
     let n = length-laps-of s in
-    ap (λ (ls : List Lap). getD ls (j - 1) []) (q .laps) ∙ getD-map (fitLap tol) (lapsOf s) (j - 1) (omega arith)
+    ap (λ (ls : List Lap). getD ls (j - 1) []) (q .laps) ∙ fit-at tol origin (lapsOf s) (j - 1) (omega arith)
 
--- Each lap of an accepted fit is the fit of the recorded lap, encoded, and there are as many.
+-- Each lap of an accepted fit is the fit of the recorded lap from its start, encoded, and there are as many.
 pub laps-are-fitted : LapsAreFitted
 laps-are-fitted s f tol room e = let q = fitted s tol room f (accepted s tol room f e) in (q .count, lap-fitted s f tol q)
 
--- Each lap of an accepted fit is, in order, the kept commands of the recorded lap and what each of its chains gives, as demand 3 says.
+last-end : (p : Point3D) (l : Lap) → 0 < length l → lapEnd p l ≡ endOf (decoded (getD l (length l - 1) []))
+unfolding lapEnd endOn
+last-end p [] h = absurd (omega arith)
+last-end p (c ∷ []) h = refl
+last-end p (c ∷ d ∷ l) h = let z : suc (suc (length l)) - 1 ≡ suc (suc (length l) - 1) = omega arith in rw z (last-end (endOf (decoded c)) (d ∷ l) (omega arith))
+
+some-at : (ls : List Lap) (i : ℕ) → Somes ls → i < length ls → 0 < length (getD ls i [])
+some-at [] i s h = absurd (omega arith)
+some-at (l ∷ ls) zero s h = s .0
+some-at (l ∷ ls) (suc i) s h = some-at ls i (s .1) (omega arith)
+
+-- A lap starts at the end of the last command of the lap before it.
+pub starts-at-the-end : StartsAtTheEnd
+unfolding lapAt startOf
+starts-at-the-end s f tol room e j a b =
+    let t = accepted s tol room f e .passed .file .table in
+    let n = length-laps-of s in
+    let z : j + 1 - 1 ≡ suc (j - 1) = omega arith in
+    rw z
+    (one-back origin origin (lapsOf s) (j - 1) (somes-of s t) (omega arith)
+    ∙ last-end origin (getD (lapsOf s) (j - 1) []) (some-at (lapsOf s) (j - 1) (somes-of s t) (omega arith)))
+
+-- Each lap of an accepted fit is, in order, the kept commands of the recorded lap and what each of its chains gives, as demand 3 says; it has a command, and finite numbers.
 pub each-lap-gives : EachLapGives
 each-lap-gives s f tol room e =
     let a = accepted s tol room f e in
     let q = fitted s tol room f a in
-    let pos = tolerance-positive tol (a .passed .within) in (
+    let pos = tolerance-positive tol (a .passed .within) in
+    let n = length-laps-of s in
+    let m = length-laps-of f in
+    let c = q .count in (
       q .count,
       λ j g h. record {
-        commands = courseFit (lapsRule tol) (map decoded (lapAt s j));
+        commands = fitOn (lapsRule tol) (startOf j (lapsOf s)) (map decoded (lapAt s j));
         bytes = lap-fitted s f tol q j g h;
-        parts = course-gives (lapsRule tol) pos origin (map decoded (lapAt s j));
+        parts = course-gives (lapsRule tol) pos (startOf j (lapsOf s)) (map decoded (lapAt s j));
+        some = unfold lapAt in some-at (lapsOf f) (j - 1) (somes-of f (q .table)) (omega arith);
+        finite = unfold lapAt startOf in lap-finite tol (lapsOf s) (j - 1) (a .passed .file .near) (a .passed .few) (omega arith);
       },
     )
 
@@ -87,7 +115,7 @@ fit-is-lap-file s f tol room e =
     let a = accepted s tol room f e in
     let q = fitted s tol room f a in
     record {
-      bytes = subst Bytes (a .bytes) (bytes-file tol (lapsOf s));
+      bytes = subst Bytes (a .bytes) (bytes-file tol origin (lapsOf s));
       least = q .long;
       greatest = q .size;
       laps = subst (λ (n : ℕ). n ≤ 64) (sym (q .count)) (not-big s (a .passed .file .small) .1);
@@ -131,11 +159,11 @@ module _ (s f : List ℕ) (tol : Float) (k : ℕ) (ks : List ℕ) (ns : List Flo
   inside = let n = length-laps-of s in let a = w .first in let b = w .last in omega arith
 
   -- ---- no row refuses the replacement
-  formed-new : lapOk formOk true (lentLap ks ns) ≡ true
-  formed-new = new-ok formOk (lapsOf s) (k - 1) (lentLap ks ns) inside (subst (λ (ls : List Lap). lapsOk formOk ls ≡ true) (read .0) (new .passed .file .formed))
+  formed-new : lapTested formOk (leb k 1) (lentLap ks ns) ≡ true
+  formed-new = new-ok formOk (lapsOf s) k (lentLap ks ns) (w .first) inside (subst (λ (ls : List Lap). lapsOk formOk true ls ≡ true) (read .0) (new .passed .file .formed))
 
-  near-new : lapOk domainOk true (lentLap ks ns) ≡ true
-  near-new = new-ok domainOk (lapsOf s) (k - 1) (lentLap ks ns) inside (subst (λ (ls : List Lap). lapsOk domainOk ls ≡ true) (read .0) (new .passed .file .near))
+  near-new : lapTested domainOk (leb k 1) (lentLap ks ns) ≡ true
+  near-new = new-ok domainOk (lapsOf s) k (lentLap ks ns) (w .first) inside (subst (λ (ls : List Lap). lapsOk domainOk true ls ≡ true) (read .0) (new .passed .file .near))
 
   some-new : 0 < length ks
   some-new =
@@ -163,61 +191,114 @@ module _ (s f : List ℕ) (tol : Float) (k : ℕ) (ks : List ℕ) (ns : List Flo
   unfolding row3
   passes-3 = rw (file .table, is-fitted .table, is-fitted .count, eq-eqb (lapCount s) (lapCount s) refl)
 
-  passes-4 : row4 s (lentFormed ks ns) ≡ false
+  passes-4 : row4 s (lentFormed (leb k 1) ks ns) ≡ false
   unfolding row4 lentFormed
-  passes-4 = let a = lent-formed ks ns (w .held) formed-new in let h = some-new in rw (file .formed, ne-eqb (length ks) 0 (λ z. omega arith), a .0, a .1)
+  passes-4 = let a = lent-formed ks ns (w .held) (leb k 1) some-new formed-new in let h = some-new in rw (file .formed, ne-eqb (length ks) 0 (λ z. omega arith), a .0, a .1)
 
   passes-5 : row5 s (commandsIn ks ns) ≡ false
   unfolding row5
-  passes-5 = rw (file .near, lent-near ks ns (w .held) near-new)
+  passes-5 = rw (file .near, lent-near ks ns (w .held) (leb k 1) near-new)
 
   passes-7 : row7 k s ≡ false
   unfolding row7
   passes-7 = let h = w .first in rw (ne-eqb k 0 (λ z. omega arith), le-ltb (lapCount s) k (w .last))
 
-  passed : NewPassed s f k (lentNew tol ks ns) tol
+  passed : NewPassed s f k (lentNew tol (lapsOf s) k ks ns) tol
   passed = record { p1 = passes-1; p2 = passes-2; p3 = passes-3; p4 = passes-4; p5 = passes-5; p6 = old .passed .within; p7 = passes-7 }
 
   -- ---- its most is no more than the fresh fit's
-  most-of-both : mostWith (lentNew tol ks ns) k f ≤ lapsMost tol (lapsOf (courseWith s k ks ns))
-  unfolding mostWith
-  most-of-both = rw (is-fitted .laps, read .0, ← lent-most ks ns (w .held) tol) (most-set tol pos (lapsOf s) (k - 1) (lentLap ks ns) inside)
+  at-most : k ≤ length (lapsOf s)
+  at-most = let n = length-laps-of s in let b = w .last in omega arith
 
-  not-refused : (r′ : ℕ) → r ≤ r′ → refusal (replaceRows s f k (lentNew tol ks ns) tol r′) ≡ 0
+  somes : Somes (lapsOf s)
+  somes = somes-of s (file .table)
+
+  most-of-both : mostWith (lentNew tol (lapsOf s) k ks ns) k s f ≤ lapsMost tol origin (lapsOf (courseWith s k ks ns))
+  unfolding mostWith mostBoth
+  most-of-both =
+      rw (is-fitted .laps, read .0, ← lent-most ks ns (w .held) tol (startOf k (lapsOf s)), ← lent-end ks ns (w .held) (startOf k (lapsOf s)))
+      (mosts-replaced tol k (lentLap ks ns) (lapsOf s) (w .first) at-most somes pos)
+
+  not-refused : (r′ : ℕ) → r ≤ r′ → refusal (replaceRows s f k (lentNew tol (lapsOf s) k ks ns) tol r′) ≡ 0
   not-refused r′ h =
       let a = most-of-both in
       let b = new .passed .few in
       let c = new .passed .space in
       let d = read .1 in
       let e = is-fitted .count in
-      new-sizes s f k (lentNew tol ks ns) tol r′ passed ∙ size-0 (lapCount f) (mostWith (lentNew tol ks ns) k f) r′ (omega arith) (omega arith)
+      new-sizes s f k (lentNew tol (lapsOf s) k ks ns) tol r′ passed ∙ size-0 (lapCount f) (mostWith (lentNew tol (lapsOf s) k ks ns) k s f) r′ (omega arith) (omega arith)
 
   -- ---- its bytes are the fresh fit's
-  laps-of-both : swap k (fitNew tol ks ns) 1 (lapsOf f) ≡ map (fitLap tol) (lapsOf (courseWith s k ks ns))
-  laps-of-both = rw (is-fitted .laps, read .0, ← lent-fit ks ns (w .held) tol) (map-set (fitLap tol) (lapsOf s) (k - 1) (lentLap ks ns))
+  laps-of-both : replacedLaps tol k ks ns (lapsOf s) (lapsOf f) ≡ fitLaps tol origin (lapsOf (courseWith s k ks ns))
+  unfolding replacedLaps
+  laps-of-both =
+      rw (is-fitted .laps, read .0, ← lent-fit ks ns (w .held) tol (startOf k (lapsOf s)), ← lent-end ks ns (w .held) (startOf k (lapsOf s)))
+      (sym (fits-replaced tol k (lentLap ks ns) (lapsOf s) (w .first) at-most somes))
 
-  same-bytes : encode (swap k (fitNew tol ks ns) 1 (lapsOf f)) ≡ g
+  same-bytes : encode (replacedLaps tol k ks ns (lapsOf s) (lapsOf f)) ≡ g
   same-bytes = ap encode laps-of-both ∙ new .bytes
 
-  fresh-laps : lapsOf g ≡ swap k (fitNew tol ks ns) 1 (lapsOf f)
+  fresh-laps : lapsOf g ≡ replacedLaps tol k ks ns (lapsOf s) (lapsOf f)
   fresh-laps = fitted (courseWith s k ks ns) tol r g new .laps ∙ sym laps-of-both
 
   replaced : (r′ : ℕ) → r ≤ r′ → replaceLap s f k ks ns tol r′ ≡ gives g
   unfolding replaceLap
-  replaced r′ h = unless-gives (refusal (replaceRows s f k (lentNew tol ks ns) tol r′)) _ (not-refused r′ h) ∙ ap gives same-bytes
+  replaced r′ h = unless-gives (refusal (replaceRows s f k (lentNew tol (lapsOf s) k ks ns) tol r′)) _ (not-refused r′ h) ∙ ap gives same-bytes
 
-  stays : (j : ℕ) → 1 ≤ j → (j ≡ k → ⊥) → lapAt g j ≡ lapAt f j
-  unfolding lapAt
-  stays j a b = ap (λ (ls : List Lap). getD ls (j - 1) []) fresh-laps ∙ getD-set-other (lapsOf f) (k - 1) (j - 1) (fitNew tol ks ns) [] (λ e. let c = w .first in b (omega arith))
+  inside-fitted : k - 1 < length (lapsOf f)
+  inside-fitted = let n = length-laps-of f in let c = is-fitted .count in let a = w .first in let l = w .last in omega arith
 
-  there : lapAt g k ≡ fitNew tol ks ns
-  unfolding lapAt
-  there =
-      let n = length-laps-of f in
+  -- ---- its laps: lap k, lap k + 1 where it is fitted again, and the others
+  stays-at : (both : Bool) (x y : Lap) (j : ℕ) → 1 ≤ j → (j ≡ k → ⊥) → (j ≡ k + 1 → both ≡ false) → getD (swapBoth both k x y (lapsOf f)) (j - 1) [] ≡ getD (lapsOf f) (j - 1) []
+  unfolding swapBoth
+  stays-at true x y j a b d =
+      let c = w .first in
+      getD-set-other (set (lapsOf f) (k - 1) x) (k + 1 - 1) (j - 1) y [] (λ e. yes (d (omega arith)))
+      ∙ getD-set-other (lapsOf f) (k - 1) (j - 1) x [] (λ e. b (omega arith))
+    where
+      yes : true ≡ false → ⊥
+      yes e = clash (sym e)
+  stays-at false x y j a b d = let c = w .first in getD-set-other (lapsOf f) (k - 1) (j - 1) x [] (λ e. b (omega arith))
+
+  stays : (j : ℕ) → 1 ≤ j → (j ≡ k → ⊥) → (j ≡ k + 1 → lacks (lapAt s j) ≡ false) → lapAt g j ≡ lapAt f j
+  unfolding lapAt replacedLaps nextLacks
+  stays j a b d =
+      ap (λ (ls : List Lap). getD ls (j - 1) []) fresh-laps
+      ∙ stays-at (lacks (getD (lapsOf s) k [])) _ _ j a b (λ e. let z : k ≡ j - 1 = omega arith in ap (λ (i : ℕ). lacks (getD (lapsOf s) i [])) z ∙ d e)
+
+  there-at : (both : Bool) (x y : Lap) → getD (swapBoth both k x y (lapsOf f)) (k - 1) [] ≡ x
+  unfolding swapBoth
+  there-at true x y =
+      let c = w .first in
+      getD-set-other (set (lapsOf f) (k - 1) x) (k + 1 - 1) (k - 1) y [] (λ e. omega arith) ∙ getD-set-same (lapsOf f) (k - 1) x [] inside-fitted
+  there-at false x y = getD-set-same (lapsOf f) (k - 1) x [] inside-fitted
+
+  there : lapAt g k ≡ fitNew tol (startOf k (lapsOf s)) ks ns
+  unfolding lapAt replacedLaps
+  there = ap (λ (ls : List Lap). getD ls (k - 1) []) fresh-laps ∙ there-at (nextLacks k (lapsOf s)) _ _
+
+  behind-at : (x y : Lap) → k < length (lapsOf f) → getD (swapBoth true k x y (lapsOf f)) k [] ≡ y
+  unfolding swapBoth
+  behind-at x y h =
+      let z : k + 1 - 1 ≡ k = omega arith in
+      let l = length-set (lapsOf f) (k - 1) x in rw z (getD-set-same (set (lapsOf f) (k - 1) x) k y [] (omega arith))
+
+  -- a lap that lacks its Move is in the file
+  in-file : (ls : List Lap) (i : ℕ) → lacks (getD ls i []) ≡ true → i < length ls
+  in-file [] i e = clash (unfold lacks in e)
+  in-file (l ∷ ls) zero e = omega arith
+  in-file (l ∷ ls) (suc i) e = let h = in-file ls i e in omega arith
+
+  behind : lacks (lapAt s (k + 1)) ≡ true → lapAt g (k + 1) ≡ fitLap tol (endOn (startOf k (lapsOf s)) (lentCourse ks ns)) (lapAt s (k + 1))
+  unfolding lapAt replacedLaps nextLap nextLacks
+  behind e =
+      let z : k + 1 - 1 ≡ k = omega arith in
+      let q : lacks (getD (lapsOf s) k []) ≡ true = rw z at e in
+      let h = in-file (lapsOf s) k q in
+      let n = length-laps-of s in
+      let m = length-laps-of f in
       let c = is-fitted .count in
-      let a = w .first in
-      let l = w .last in
-      ap (λ (ls : List Lap). getD ls (k - 1) []) fresh-laps ∙ getD-set-same (lapsOf f) (k - 1) (fitNew tol ks ns) [] (omega arith)
+      rw z (ap (λ (ls : List Lap). getD ls k []) fresh-laps ∙ rw q (behind-at _ _ (omega arith)))
 
 -- ---- the replacement
 -- Whatever file the fit accepts at a tolerance, whichever of its laps is lap k, and whatever the new commands: if a fresh fit at that tolerance accepts the course with lap k
@@ -225,13 +306,13 @@ module _ (s f : List ℕ) (tol : Float) (k : ℕ) (ks : List ℕ) (ns : List Flo
 pub replaced-is-fresh : ReplacedIsFresh
 replaced-is-fresh s f tol k ks ns r g w r′ h = replaced s f tol k ks ns r g w r′ h
 
--- Every other lap's body stays as it was fitted.
+-- The body of every lap other than k, and than k + 1 where that lacks its Move, stays as it was fitted.
 pub others-stay : OthersStay
-others-stay s f tol k ks ns r g w j a b = stays s f tol k ks ns r g w j a b
+others-stay s f tol k ks ns r g w j a b d = stays s f tol k ks ns r g w j a b d
 
--- Lap k is the fit of the new commands.
+-- Lap k is the fit of the new commands; lap k + 1, where it lacks its Move, is fitted again from their end.
 pub new-is-fitted : NewIsFitted
-new-is-fitted s f tol k ks ns r g w = there s f tol k ks ns r g w
+new-is-fitted s f tol k ks ns r g w = (there s f tol k ks ns r g w, behind s f tol k ks ns r g w)
 
 -- Commands lent by their kinds and numbers have their bytes in the file.
 pub lent-as-commands : LentAsCommands

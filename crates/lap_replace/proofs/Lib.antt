@@ -2,6 +2,10 @@ pub mod Replaced
 pub mod Body
 pub mod Swap
 pub mod Rows
+pub mod Next
 pub mod New
+pub mod Again
+pub mod Finite
+pub mod Before
 pub mod Demand
 pub mod Worked

@@ -1,7 +1,7 @@
 -- The new commands as a lap of a file: read back they are the lent commands, and its rows are theirs. Assumes nothing.
-use Prim.Native.Nat.{ℕ, zero, suc, _+_, _*_}
+use Prim.Native.Nat.{ℕ, zero, suc, _+_, _*_, _<_}
 use mathlib.Core.Path.{_≡_, refl, sym, ap, _∙_}
-use mathlib.Core.Bool.{Bool, true, false}
+use mathlib.Core.Bool.{Bool, true, false, not, _&&_, _||_}
 use mathlib.Core.List.{List, map}
 use native.Mathlib.Omega.{arith}
 use borrow.Author.Tests.{ne-eqb}
@@ -9,6 +9,7 @@ use lib.ListN.{length, getD}
 use lib.Dec.{eqb}
 use lib.Ieee.{Float}
 use Rattle.floats.proofs.Order.{and-left, and-right}
+use Rattle.geo.specs.declared.types.Point3D.{Point3D}
 use Rattle.geo.specs.declared.types.Command.{Command}
 use Rattle.geo.specs.Walk.{listFrom}
 use Rattle.geo.specs.Lent.{pointAt, commandAt, commandsFrom}
@@ -17,10 +18,10 @@ use Rattle.geo.proofs.Walk.{list-length}
 use Rattle.file.specs.Command.{decoded, wellFormed, laid, enc, lentBytes, lentLap, Held, HeldPoint}
 use Rattle.file.proofs.RoundTrip.{decoded-laid, formed-laid}
 use Rattle.fitting.specs.Pieces.{lapsRule}
-use Rattle.course.specs.Course.{courseFit, courseMost, lentCourse}
-use Rattle.laps.specs.File.{placed, formOk, domainOk, lapOk}
+use Rattle.course.specs.Course.{fitOn, mostOn, endOn, lentCourse}
+use Rattle.laps.specs.File.{lacks, placed, formOk, domainOk, lapOk, lapTested}
 use Rattle.laps.proofs.Here.{cond-false}
-use Rattle.lap_fit.specs.Fit.{fitLap, mostLap, fitNew}
+use Rattle.lap_fit.specs.Fit.{lapEnd, fitLap, mostLap, fitNew}
 use Rattle.lap_replace.specs.Replace.{movePlaced}
 
 pub length-lent : (ks : List ℕ) (ns : List Float) → length (lentLap ks ns) ≡ length ks
@@ -54,13 +55,17 @@ module _ (ks : List ℕ) (ns : List Float) (held : Held ns) where
   unfolding lentLap
   lent-course = decoded-from (length ks) 0
 
-  pub lent-most : (tol : Float) → mostLap tol (lentLap ks ns) ≡ courseMost tol (lentCourse ks ns)
+  pub lent-most : (tol : Float) (p : Point3D) → mostLap tol p (lentLap ks ns) ≡ mostOn tol p (lentCourse ks ns)
   unfolding mostLap
-  lent-most tol = ap (courseMost tol) lent-course
+  lent-most tol p = ap (mostOn tol p) lent-course
 
-  pub lent-fit : (tol : Float) → fitLap tol (lentLap ks ns) ≡ fitNew tol ks ns
+  pub lent-fit : (tol : Float) (p : Point3D) → fitLap tol p (lentLap ks ns) ≡ fitNew tol p ks ns
   unfolding fitLap fitNew
-  lent-fit tol = ap (λ (cs : List Command). map enc (courseFit (lapsRule tol) cs)) lent-course
+  lent-fit tol p = ap (λ (cs : List Command). map enc (fitOn (lapsRule tol) p cs)) lent-course
+
+  pub lent-end : (p : Point3D) → lapEnd p (lentLap ks ns) ≡ endOn p (lentCourse ks ns)
+  unfolding lapEnd
+  lent-end p = ap (endOn p) lent-course
 
   -- ---- row 4
   every-more : (ok : ℕ → Bool) (n i : ℕ) → ok i ≡ true → everyFrom ok n (i + 1) ≡ true → everyFrom ok (suc n) i ≡ true
@@ -79,19 +84,32 @@ module _ (ks : List ℕ) (ns : List Float) (held : Held ns) where
       let b = and-right (placed first (getD (lentBytes ks ns i) 0 0)) _ e in
       (ap (placed first) (sym (kind-lent i)) ∙ a, sym (formed-lent i) ∙ b)
 
-  formed-from : (n i : ℕ) (first : Bool) → first ≡ eqb i 0 → lapOk formOk first (listFrom (lentBytes ks ns) n i) ≡ true
-      → (everyFrom (λ (k : ℕ). placed (eqb k 0) (getD ks k 0)) n i ≡ true) × (everyFrom (λ (k : ℕ). formed (getD ks k 0) (pointAt ns (3 * k + 1)) (pointAt ns (3 * k + 2))) n i ≡ true)
+  -- m: the first of them is a Move
+  formed-from : (m : Bool) (n i : ℕ) (first : Bool) → first ≡ (eqb i 0 && m) → lapOk formOk first (listFrom (lentBytes ks ns) n i) ≡ true
+      → (everyFrom (λ (k : ℕ). placed (eqb k 0 && m) (getD ks k 0)) n i ≡ true) × (everyFrom (λ (k : ℕ). formed (getD ks k 0) (pointAt ns (3 * k + 1)) (pointAt ns (3 * k + 2))) n i ≡ true)
   unfolding lapOk listFrom
-  formed-from zero i first q e = (every-none _ i, every-none _ i)
-  formed-from (suc n) i first q e =
+  formed-from m zero i first q e = (every-none _ i, every-none _ i)
+  formed-from m (suc n) i first q e =
       let a = cond-false (formOk first (lentBytes ks ns i)) _ e in
       let b = one-formed first i (a .0) in
-      let c = formed-from n (i + 1) false (sym (ne-eqb (i + 1) 0 (λ z. omega arith))) (a .1) in
+      let z : false ≡ (eqb (i + 1) 0 && m) = ap (λ (t : Bool). t && m) (sym (ne-eqb (i + 1) 0 (λ w. omega arith))) in
+      let c = formed-from m n (i + 1) false z (a .1) in
       (every-more _ n i (ap (λ (t : Bool). placed t (getD ks i 0)) (sym q) ∙ b .0) (c .0), every-more _ n i (b .1) (c .1))
 
-  pub lent-formed : lapOk formOk true (lentLap ks ns) ≡ true → (movePlaced ks ≡ true) × (commandsFormed ks ns ≡ true)
-  unfolding lentLap movePlaced commandsFormed
-  lent-formed e = formed-from (length ks) 0 true refl e
+  lacks-lent : (n : ℕ) → 0 < n → not (lacks (listFrom (lentBytes ks ns) n 0)) ≡ eqb (getD ks 0 0) 0
+  unfolding lacks listFrom
+  lacks-lent zero h = absurd (omega arith)
+  lacks-lent (suc n) h = ap (λ (k : ℕ). not (not (eqb k 0))) (kind-lent 0) ∙ twice (eqb (getD ks 0 0) 0)
+    where
+      twice : (b : Bool) → not (not b) ≡ b
+      twice true = refl
+      twice false = refl
+
+  pub lent-formed : (must : Bool) → 0 < length ks → lapTested formOk must (lentLap ks ns) ≡ true → (movePlaced must ks ≡ true) × (commandsFormed ks ns ≡ true)
+  unfolding lapTested lentLap movePlaced commandsFormed
+  lent-formed must h e =
+      formed-from (must || eqb (getD ks 0 0) 0) (length ks) 0 (must || not (lacks (listFrom (lentBytes ks ns) (length ks) 0)))
+      (ap (λ (b : Bool). must || b) (lacks-lent (length ks) h)) e
 
   -- ---- row 5
   near-from : (n i : ℕ) (first : Bool) → lapOk domainOk first (listFrom (lentBytes ks ns) n i) ≡ true → everyFrom (λ (k : ℕ). commandIn (commandAt ks ns k)) n i ≡ true
@@ -101,6 +119,6 @@ module _ (ks : List ℕ) (ns : List Float) (held : Held ns) where
       let a = cond-false (commandIn (decoded (lentBytes ks ns i))) _ e in
       every-more _ n i (ap commandIn (sym (decoded-lent i)) ∙ a .0) (near-from n (i + 1) false (a .1))
 
-  pub lent-near : lapOk domainOk true (lentLap ks ns) ≡ true → commandsIn ks ns ≡ true
-  unfolding lentLap commandsIn
-  lent-near e = near-from (length ks) 0 true e
+  pub lent-near : (must : Bool) → lapTested domainOk must (lentLap ks ns) ≡ true → commandsIn ks ns ≡ true
+  unfolding lapTested lentLap commandsIn
+  lent-near must e = near-from (length ks) 0 _ e

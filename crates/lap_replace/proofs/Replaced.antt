@@ -1,24 +1,16 @@
--- Laws of a list of laps with one replaced, by its index. Assumes nothing.
-use Prim.Native.Nat.{ℕ, zero, suc, _+_, _≤_, _<_}
-use mathlib.Core.Path.{_≡_, refl, ap}
-use mathlib.Core.Bool.{Bool, true}
-use mathlib.Core.List.{List, [], _∷_, map}
+-- Laws of a list of laps with one replaced, by its index, or with two. Assumes nothing.
+use Prim.Native.Nat.{ℕ, zero, suc, _+_, _-_, _≤_, _<_}
+use mathlib.Core.Path.{_≡_, refl, ap, _∙_}
+use mathlib.Core.Bool.{Bool, true, false}
+use mathlib.Core.List.{List, [], _∷_}
 use native.Mathlib.Omega.{arith}
-use lib.ListN.{length, set}
-use lib.Ieee.{Float}
-use Rattle.floats.specs.Ops.{_≺_, +0}
-use Rattle.laps.specs.File.{Lap, lapOk, lapsOk, EachFull, AllFull, commandCount}
+use borrow.Author.Tests.{lt-leb}
+use lib.ListN.{length, set, length-set}
+use lib.Dec.{leb}
+use Rattle.laps.specs.File.{Lap, lapTested, lapsOk, EachFull, AllFull, commandCount}
 use Rattle.laps.proofs.Here.{cond-false}
 use Rattle.laps.proofs.ReadBack.{Somes}
-use Rattle.lap_fit.specs.Fit.{fitLap, mostLap, lapsMost}
-use Rattle.lap_fit.proofs.Lap.{fit-most}
-use Rattle.lap_fit.proofs.Turns.{total-most}
-
--- the fit of a course with a lap replaced is the fitted course with the new lap's fit
-pub map-set : (f : Lap → Lap) (ls : List Lap) (i : ℕ) (new : Lap) → set (map f ls) i (f new) ≡ map f (set ls i new)
-map-set f [] i new = refl
-map-set f (l ∷ ls) zero new = refl
-map-set f (l ∷ ls) (suc i) new = ap (λ (ms : List Lap). f l ∷ ms) (map-set f ls i new)
+use Rattle.lap_replace.specs.Replace.{swap, swapBoth}
 
 -- laps whose commands are whole
 pub wholes-set : (ls : List Lap) (i : ℕ) (new : Lap) → EachFull new → AllFull ls → AllFull (set ls i new)
@@ -26,51 +18,70 @@ wholes-set [] i new a w = tt
 wholes-set (l ∷ ls) zero new a w = (a, w .1)
 wholes-set (l ∷ ls) (suc i) new a w = (w .0, wholes-set ls i new a (w .1))
 
--- ---- what holds for each lap of a course with a lap replaced holds for the new lap
-module _ (P : Lap → Type 0) where
-  abbrev pub Each : List Lap → Type 0
-  Each [] = Unit
-  Each (l ∷ ls) = P l × Each ls
+-- ---- what holds of lap k replaced, and of lap k + 1 then replaced too
+pub wholes-both : (both : Bool) (k : ℕ) (new next : Lap) (ls : List Lap) → EachFull new → EachFull next → AllFull ls → AllFull (swapBoth both k new next ls)
+unfolding swapBoth
+wholes-both true k new next ls a b w = wholes-set (swap k new 1 ls) (k + 1 - 1) next b (wholes-set ls (k - 1) new a w)
+wholes-both false k new next ls a b w = wholes-set ls (k - 1) new a w
 
-  pub new-of : (ls : List Lap) (i : ℕ) (new : Lap) → i < length ls → Each (set ls i new) → P new
-  new-of [] i new h e = absurd (omega arith)
-  new-of (l ∷ ls) zero new h e = e .0
-  new-of (l ∷ ls) (suc i) new h e = new-of ls i new (omega arith) (e .1)
+pub length-both : (both : Bool) (k : ℕ) (new next : Lap) (ls : List Lap) → length (swapBoth both k new next ls) ≡ length ls
+unfolding swapBoth
+length-both true k new next ls = length-set (swap k new 1 ls) (k + 1 - 1) next ∙ length-set ls (k - 1) new
+length-both false k new next ls = length-set ls (k - 1) new
 
--- rows 4 and 5
-each-ok : (test : Bool → List ℕ → Bool) (ls : List Lap) → lapsOk test ls ≡ true → Each (λ (l : Lap). lapOk test true l ≡ true) ls
+-- ---- rows 4 and 5 of the new lap: only the first lap must have its Move
+abbrev asked : ℕ → Bool → Bool
+asked zero must = must
+asked (suc i) must = false
+
+new-ok-from : (test : Bool → List ℕ → Bool) (must : Bool) (ls : List Lap) (i : ℕ) (new : Lap) → i < length ls → lapsOk test must (set ls i new) ≡ true
+    → lapTested test (asked i must) new ≡ true
 unfolding lapsOk
-each-ok test [] e = tt
-each-ok test (l ∷ ls) e = let a = cond-false (lapOk test true l) (lapsOk test ls) e in (a .0, each-ok test ls (a .1))
+new-ok-from test must [] i new h e = absurd (omega arith)
+new-ok-from test must (l ∷ ls) zero new h e = cond-false (lapTested test must new) _ e .0
+new-ok-from test must (l ∷ ls) (suc zero) new h e = new-ok-from test false ls zero new (omega arith) (cond-false (lapTested test must l) _ e .1)
+new-ok-from test must (l ∷ ls) (suc (suc i)) new h e = new-ok-from test false ls (suc i) new (omega arith) (cond-false (lapTested test must l) _ e .1)
 
-pub new-ok : (test : Bool → List ℕ → Bool) (ls : List Lap) (i : ℕ) (new : Lap) → i < length ls → lapsOk test (set ls i new) ≡ true → lapOk test true new ≡ true
-new-ok test ls i new h e = new-of (λ (l : Lap). lapOk test true l ≡ true) ls i new h (each-ok test (set ls i new) e)
+pub new-ok : (test : Bool → List ℕ → Bool) (ls : List Lap) (k : ℕ) (new : Lap) → 1 ≤ k → k - 1 < length ls → lapsOk test true (swap k new 1 ls) ≡ true → lapTested test (leb k 1) new ≡ true
+new-ok test ls zero new a h e = absurd (omega arith)
+new-ok test ls (suc zero) new a h e = new-ok-from test true ls zero new h e
+new-ok test ls (suc (suc i)) new a h e =
+    let z : suc (suc i) - 1 ≡ suc i = omega arith in
+    ap (λ (t : Bool). lapTested test t new) (lt-leb (suc (suc i)) 1 (omega arith)) ∙ new-ok-from test true ls (suc i) new (omega arith) (rw z at e)
 
--- no lap is empty
-each-some : (ls : List Lap) → Somes ls → Each (λ (l : Lap). 0 < length l) ls
-each-some [] e = tt
-each-some (l ∷ ls) e = (e .0, each-some ls (e .1))
-
+-- ---- no lap is empty
 pub new-some : (ls : List Lap) (i : ℕ) (new : Lap) → i < length ls → Somes (set ls i new) → 0 < length new
-new-some ls i new h e = new-of (λ (l : Lap). 0 < length l) ls i new h (each-some (set ls i new) e)
+new-some [] i new h e = absurd (omega arith)
+new-some (l ∷ ls) zero new h e = e .0
+new-some (l ∷ ls) (suc i) new h e = new-some ls i new (omega arith) (e .1)
 
--- ---- counts: the new lap's commands, and those of the laps with it emptied
-pub total-set : (ls : List Lap) (i : ℕ) (new : Lap) → commandCount (set ls i new) ≤ length new + commandCount (set ls i [])
+-- ---- counts: the new laps' commands, and those of the laps with them emptied
+total-set : (ls : List Lap) (i : ℕ) (new : Lap) → commandCount (set ls i new) ≤ length new + commandCount (set ls i [])
 unfolding commandCount
 total-set [] i new = omega arith
 total-set (l ∷ ls) zero new = omega arith
 total-set (l ∷ ls) (suc i) new = let h = total-set ls i new in omega (arith, h)
+
+-- a lap replaced behind another: in either order
+set-later : (ls : List Lap) (i : ℕ) (x y : Lap) → set (set ls i x) (suc i) y ≡ set (set ls (suc i) y) i x
+set-later [] i x y = refl
+set-later (l ∷ ls) zero x y = refl
+set-later (l ∷ ls) (suc i) x y = ap (λ (ms : List Lap). l ∷ ms) (set-later ls i x y)
+
+pub total-both : (both : Bool) (k : ℕ) (new next : Lap) (ls : List Lap) → 1 ≤ k
+    → commandCount (swapBoth both k new next ls) ≤ length new + length next + commandCount (swapBoth both k [] [] ls)
+unfolding swapBoth
+total-both true k new next ls h =
+    let z : k + 1 - 1 ≡ suc (k - 1) = omega arith in
+    let a = total-set (set ls (k - 1) new) (suc (k - 1)) next in
+    let b = ap commandCount (set-later ls (k - 1) new []) in
+    let c = total-set (set ls (suc (k - 1)) []) (k - 1) new in
+    let d = ap commandCount (set-later ls (k - 1) [] []) in
+    rw z (omega (arith, a, b, c, d))
+total-both false k new next ls h = let a = total-set ls (k - 1) new in omega (arith, a)
 
 pub new-in-total : (ls : List Lap) (i : ℕ) (new : Lap) → i < length ls → length new ≤ commandCount (set ls i new)
 unfolding commandCount
 new-in-total [] i new h = absurd (omega arith)
 new-in-total (l ∷ ls) zero new h = omega arith
 new-in-total (l ∷ ls) (suc i) new h = let r = new-in-total ls i new (omega arith) in omega (arith, r)
-
--- the most of a replacement is no more than that of a fresh fit
-module _ (tol : Float) (pos : (+0 ≺ tol) ≡ true) where
-  pub most-set : (ls : List Lap) (i : ℕ) (new : Lap) → i < length ls → mostLap tol new + commandCount (set (map (fitLap tol) ls) i []) ≤ lapsMost tol (set ls i new)
-  unfolding commandCount lapsMost
-  most-set [] i new h = absurd (omega arith)
-  most-set (l ∷ ls) zero new h = let a = total-most tol pos ls in omega (arith, a)
-  most-set (l ∷ ls) (suc i) new h = let a = most-set ls i new (omega arith) in let b = fit-most tol pos l in omega (arith, a, b)

@@ -5,7 +5,7 @@ use mathlib.Core.Bool.{Bool, true, false, not, _||_}
 use mathlib.Core.List.{List, [], _++_}
 use mathlib.Core.Logic.{⊎-elim}
 use native.Mathlib.Omega.{arith}
-use borrow.Author.Tests.{eqb-true, eqb-false, not-false}
+use borrow.Author.Tests.{eqb-true, eqb-false, not-false, ltb-false}
 use lib.Dec.{eqb}
 use lib.ListN.{length}
 use lib.Ieee.{Float}
@@ -19,7 +19,7 @@ use Rattle.laps.specs.Rows.{fileSize, sizeRows}
 use Rattle.laps.proofs.Rows.{or-false, refused-front, sized, size-8}
 use Rattle.laps.proofs.Walks.{not-short, not-big}
 use Rattle.lap_fit.proofs.Cap.{told-more, told-below}
-use Rattle.lap_replace.specs.Replace.{swap, NewLap, lentWhole, row1, row2, row3, row4, row5, row7, newRows, mostWith, replaceRows}
+use Rattle.lap_replace.specs.Replace.{swapBoth, nextLacks, NewLap, lentWhole, row1, row2, row3, row4, row5, row7, newRows, mostWith, replaceRows}
 
 -- ---- what each passed row tells
 pub lent-nine : (ks : List ℕ) (ns : List Float) → lentWhole ks ns ≡ true → length ns ≡ 9 * length ks
@@ -48,9 +48,11 @@ module _ (s f : List ℕ) where
       let b = or-false (not (tableOk s)) (not (tableOk f)) (a .0) in
       (not-false _ (b .0), not-false _ (b .1))
 
-pub past-7 : (k : ℕ) (s : List ℕ) → row7 k s ≡ false → 1 ≤ k
+pub past-7 : (k : ℕ) (s : List ℕ) → row7 k s ≡ false → (1 ≤ k) × (k ≤ lapCount s)
 unfolding row7
-past-7 k s e = let z = eqb-false k 0 (or-false (eqb k 0) _ e .0) in omega (arith, z)
+past-7 k s e =
+    let a = or-false (eqb k 0) _ e in
+    let z = eqb-false k 0 (a .0) in (omega (arith, z), ltb-false (lapCount s) k (a .1))
 
 -- ---- rows 1 to 7, of a new lap in whatever form
 pub record NewPassed (s f : List ℕ) (k : ℕ) (new : NewLap) (tol : Float) : Type 0 where
@@ -89,21 +91,22 @@ module _ (s f : List ℕ) (k : ℕ) (new : NewLap) (tol : Float) where
   unfolding replaceRows
   new-refused room r e h = refused-front (newRows s f k new tol) _ r e h
 
-  pub new-sizes : (room : ℕ) → NewPassed s f k new tol → refusal (replaceRows s f k new tol room) ≡ refusal (sizeRows (lapCount f) (mostWith new k f) room)
+  pub new-sizes : (room : ℕ) → NewPassed s f k new tol → refusal (replaceRows s f k new tol room) ≡ refusal (sizeRows (lapCount f) (mostWith new k s f) room)
   unfolding replaceRows
   new-sizes room p = behind-new _ p
 
-  pub replace-passed : (room : ℕ) → 0 ≡ refusal (replaceRows s f k new tol room) → NewPassed s f k new tol × (mostWith new k f ≤ 800) × (fileSize (lapCount f) (mostWith new k f) ≤ room)
+  pub replace-passed : (room : ℕ) → 0 ≡ refusal (replaceRows s f k new tol room) → NewPassed s f k new tol × (mostWith new k s f ≤ 800) × (fileSize (lapCount f) (mostWith new k s f) ≤ room)
   unfolding replaceRows
   replace-passed room e =
       let a = new-passed-with _ e in
-      let b = sized (lapCount f) (mostWith new k f) room (a .1) in
+      let b = sized (lapCount f) (mostWith new k s f) room (a .1) in
       (a .0, b .0, b .1)
 
 -- the sizes by the new lap's most, which is told, and the other laps' commands
-pub sizes-with : (new : NewLap) (k : ℕ) (f : List ℕ) (l r o room : ℕ) → l ≡ lapCount f → r ≡ cap (new .most) → o ≡ commandCount (swap k [] 1 (lapsOf f))
-    → refusal (sizeRows l (r + o) room) ≡ refusal (sizeRows (lapCount f) (mostWith new k f) room)
+pub sizes-with : (new : NewLap) (k : ℕ) (s f : List ℕ) (both : Bool) (l r o room : ℕ) → both ≡ nextLacks k (lapsOf s) → l ≡ lapCount f → r ≡ cap (new .most) → o ≡ commandCount (swapBoth both k [] [] (lapsOf f))
+    → refusal (sizeRows l (r + o) room) ≡ refusal (sizeRows (lapCount f) (mostWith new k s f) room)
 unfolding mostWith
-sizes-with new k f l r o room e p q =
-    ⊎-elim (λ h. let a = told-more r (new .most) p in size-8 l (r + o) room h ∙ sym (size-8 (lapCount f) (new .most + commandCount (swap k [] 1 (lapsOf f))) room (omega arith)))
-    (λ h. rw (e, ← q, told-below r (new .most) p (omega arith))) (lt-or-ge 800 (r + o))
+sizes-with new k s f both l r o room b e p q =
+    rw (← b)
+    (⊎-elim (λ h. let a = told-more r (new .most) p in size-8 l (r + o) room h ∙ sym (size-8 (lapCount f) (new .most + commandCount (swapBoth both k [] [] (lapsOf f))) room (omega arith)))
+    (λ h. rw (e, ← q, told-below r (new .most) p (omega arith))) (lt-or-ge 800 (r + o)))

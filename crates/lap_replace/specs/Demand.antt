@@ -1,21 +1,24 @@
 -- Demand 3 in words that can be checked: what is said of files, their fits and the replacement of a lap. Definitions only; `proofs/Demand.antt` has the proofs.
-use Prim.Native.Nat.{ℕ, _-_, _*_, _≤_, _<_}
-use mathlib.Core.Bool.{true}
+use Prim.Native.Nat.{ℕ, _+_, _-_, _*_, _≤_, _<_}
+use mathlib.Core.Bool.{Bool, true, false}
 use mathlib.Core.Path.{_≡_}
-use mathlib.Core.List.{List, [], map}
+use mathlib.Core.List.{List, [], _∷_, map}
 use lib.ListN.{length, getD, take}
 use lib.Ieee.{Float}
+use Rattle.floats.specs.Ops.{if_then_else_}
+use Rattle.geo.specs.declared.types.Point3D.{Point3D}
 use Rattle.geo.specs.declared.types.Command.{Command}
 use Rattle.geo.specs.Outcome.{gives}
-use Rattle.geo.specs.Lent.{flat, kindOf, numbersOf}
+use Rattle.geo.specs.Lent.{flat, origin, endOf, kindOf, numbersOf}
 use Rattle.fitting.specs.declared.fitting.Rule.{Rule}
 use Rattle.file.specs.Command.{decoded, enc, lentLap, Held}
 use Rattle.fitting.specs.Pieces.{lapsRule}
-use Rattle.course.specs.Course.{courseParts, courseFit}
+use Rattle.course.specs.Course.{partsOn, fitOn, endOn, courseFit, courseMost, lentCourse}
 use Rattle.course.specs.Demand.{PartsGive}
-use Rattle.laps.specs.File.{Lap, lapCount, lapsOf, mark, encode, tableOk, Bytes, AllFull, commandCount}
-use Rattle.lap_fit.specs.Fit.{fitNew, fitFile}
-use Rattle.lap_replace.specs.Replace.{swap, replaceLap}
+use Rattle.course.specs.Finite.{FiniteNumbers}
+use Rattle.laps.specs.File.{Lap, lapCount, lapsOf, mark, encode, tableOk, Bytes, AllFull, commandCount, lacks, formOk, lapOk, lapsOk}
+use Rattle.lap_fit.specs.Fit.{startOf, fitLap, fitLaps, lapsMost, fitNew, fitFile}
+use Rattle.lap_replace.specs.Replace.{swap, nextLacks, replaceLap}
 
 -- lap number j of a file, its commands as they stand
 unfoldable pub lapAt : List ℕ → ℕ → Lap
@@ -40,26 +43,63 @@ OneCourse =
     (s g : List ℕ) (k : ℕ) (ks : List ℕ) (ns : List Float) → Bytes g → 8 ≤ length g → tableOk g ≡ true → lapsOf g ≡ swap k (lentLap ks ns) 1 (lapsOf s) → g ≡ courseWith s k ks ns
 
 -- ---- the fit
--- "Each lap of an accepted fit is document 01's fit of the recorded lap": the fit has as many laps, and each is the fit of the lap of that number, encoded
+-- "Each lap of an accepted fit is document 01's fit of the recorded lap": the fit has as many laps, and each is the fit of the lap of that number from its start, encoded
 abbrev pub LapsAreFitted : Type 0
 LapsAreFitted =
     (s f : List ℕ) (tol : Float) (room : ℕ) → fitFile s tol room ≡ gives f
-    → (lapCount f ≡ lapCount s) × ((j : ℕ) → 1 ≤ j → j ≤ lapCount s → lapAt f j ≡ map enc (courseFit (lapsRule tol) (map decoded (lapAt s j))))
+    → (lapCount f ≡ lapCount s)
+    × ((j : ℕ) → 1 ≤ j → j ≤ lapCount s → lapAt f j ≡ map enc (fitOn (lapsRule tol) (startOf j (lapsOf s)) (map decoded (lapAt s j))))
+
+-- A lap "starts at the previous lap's last recorded end" (document 02, §13), whatever that command is, and whether or not that lap carries on itself.
+abbrev pub StartsAtTheEnd : Type 0
+StartsAtTheEnd =
+    (s f : List ℕ) (tol : Float) (room : ℕ) → fitFile s tol room ≡ gives f
+    → (j : ℕ) → 1 ≤ j → j < lapCount s → startOf (j + 1) (lapsOf s) ≡ endOf (decoded (getD (lapAt s j) (length (lapAt s j) - 1) []))
 
 -- "and in it each chain gives, in order, one Line or new Arc for each of its pieces; each step of each thinned chain lies in exactly one piece; a Line's or new Arc's
 -- computed deviation over its piece is below the tolerance; each thinned-out point is, as computed, within it of the line through its kept neighbours; and a range is cut
 -- exactly when its Line and both arc trials fail": a fitted lap is the bytes of commands which are, in order, the recorded lap's kept commands and what each of its chains
--- gives, as `ChainFitted` of `course/specs/Demand.antt` says sentence by sentence. "The kept-neighbour distance and the Line deviation [..] are then to the segment" (document
--- 02, §4): both are by the distance of `lapsRule`
-pub record LapGives (r : Rule) (recorded fitted : Lap) : Type 0 where
+-- gives, as `ChainFitted` of `course/specs/Demand.antt` says sentence by sentence; the first chain starts at p, where the lap does. "The kept-neighbour distance and the Line
+-- deviation [..] are then to the segment" (document 02, §4): both are by the distance of `lapsRule`
+pub record LapGives (r : Rule) (p : Point3D) (recorded fitted : Lap) : Type 0 where
   pub commands : List Command
   pub bytes : fitted ≡ map enc commands
-  pub parts : PartsGive r (courseParts (r .tolerance) (map decoded recorded)) commands
+  pub parts : PartsGive r (partsOn (r .tolerance) p (map decoded recorded)) commands
+  -- a fitted lap is never empty, and each number in it is finite
+  pub some : 0 < length fitted
+  pub finite : FiniteNumbers commands
 
 abbrev pub EachLapGives : Type 0
 EachLapGives =
     (s f : List ℕ) (tol : Float) (room : ℕ) → fitFile s tol room ≡ gives f
-    → (lapCount f ≡ lapCount s) × ((j : ℕ) → 1 ≤ j → j ≤ lapCount s → LapGives (lapsRule tol) (lapAt s j) (lapAt f j))
+    → (lapCount f ≡ lapCount s) × ((j : ℕ) → 1 ≤ j → j ≤ lapCount s → LapGives (lapsRule tol) (startOf j (lapsOf s)) (lapAt s j) (lapAt f j))
+
+-- ---- laps that all have their Move (document 02, §13, changes nothing for them)
+abbrev pub HaveMoves : List Lap → Type 0
+HaveMoves [] = Unit
+HaveMoves (l ∷ ls) = (lacks l ≡ false) × HaveMoves ls
+
+-- the fits, the mosts and row 4 as they were before it: each lap by itself, as a course
+unfoldable pub fitsApart : Float → List Lap → List Lap
+fitsApart tol ls = map (λ (l : Lap). map enc (courseFit (lapsRule tol) (map decoded l))) ls
+
+unfoldable pub mostApart : Float → List Lap → ℕ
+mostApart tol [] = 0
+mostApart tol (l ∷ ls) = courseMost tol (map decoded l) + mostApart tol ls
+
+unfoldable pub formedApart : List Lap → Bool
+formedApart [] = true
+formedApart (l ∷ ls) = if lapOk formOk true l then formedApart ls else false
+
+-- they agree with today's, and no replacement fits a next lap again
+pub record AsBefore (tol : Float) (ls : List Lap) : Type 0 where
+  pub fits : fitLaps tol origin ls ≡ fitsApart tol ls
+  pub most : lapsMost tol origin ls ≡ mostApart tol ls
+  pub formed : lapsOk formOk true ls ≡ formedApart ls
+  pub alone : (k : ℕ) → nextLacks k ls ≡ false
+
+abbrev pub NothingChanged : Type 0
+NothingChanged = (tol : Float) (ls : List Lap) → HaveMoves ls → AsBefore tol ls
 
 -- an accepted fit is a lap file: bytes within document 01's limits, with the mark and a right table
 pub record IsLapFile (f : List ℕ) : Type 0 where
@@ -93,16 +133,18 @@ ReplacedIsFresh =
     (s f : List ℕ) (tol : Float) (k : ℕ) (ks : List ℕ) (ns : List Float) (r : ℕ) (g : List ℕ) → Fresh s f tol k ks ns r g
     → (r′ : ℕ) → r ≤ r′ → replaceLap s f k ks ns tol r′ ≡ gives g
 
--- "and every other lap's body stays as it was fitted"
+-- "bodies of all others stay": of every lap other than k, and than k + 1 where that lacks its Move
 abbrev pub OthersStay : Type 0
 OthersStay =
     (s f : List ℕ) (tol : Float) (k : ℕ) (ks : List ℕ) (ns : List Float) (r : ℕ) (g : List ℕ) → Fresh s f tol k ks ns r g
-    → (j : ℕ) → 1 ≤ j → (j ≡ k → ⊥) → lapAt g j ≡ lapAt f j
+    → (j : ℕ) → 1 ≤ j → (j ≡ k → ⊥) → (j ≡ k + 1 → lacks (lapAt s j) ≡ false) → lapAt g j ≡ lapAt f j
 
--- and lap k is the fit of the new commands
+-- and lap k is the fit of the new commands from the start of lap k; lap k + 1, where it lacks its Move, that of the recorded lap from the new commands' end
 abbrev pub NewIsFitted : Type 0
 NewIsFitted =
-    (s f : List ℕ) (tol : Float) (k : ℕ) (ks : List ℕ) (ns : List Float) (r : ℕ) (g : List ℕ) → Fresh s f tol k ks ns r g → lapAt g k ≡ fitNew tol ks ns
+    (s f : List ℕ) (tol : Float) (k : ℕ) (ks : List ℕ) (ns : List Float) (r : ℕ) (g : List ℕ) → Fresh s f tol k ks ns r g
+    → (lapAt g k ≡ fitNew tol (startOf k (lapsOf s)) ks ns)
+    × (lacks (lapAt s (k + 1)) ≡ true → lapAt g (k + 1) ≡ fitLap tol (endOn (startOf k (lapsOf s)) (lentCourse ks ns)) (lapAt s (k + 1)))
 
 -- the lent form says it of each list of commands: they are lent by their kinds and numbers, and the file has their bytes
 abbrev pub LentAsCommands : Type 0

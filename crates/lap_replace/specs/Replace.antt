@@ -1,25 +1,34 @@
 -- The replacement of one lap: which row of document 01's table refuses it, else the bytes that it writes. Definitions only.
-use Prim.Native.Nat.{ℕ, _+_, _-_, _*_, _/_}
-use mathlib.Core.Bool.{Bool, not, _&&_, _||_}
+use Prim.Native.Nat.{ℕ, _+_, _-_, _*_}
+use mathlib.Core.Bool.{Bool, true, not, _&&_, _||_}
 use mathlib.Core.List.{List, [], _∷_, _++_}
 use lib.ListN.{length, getD, set}
 use lib.Dec.{ltb, leb, eqb}
 use lib.Ieee.{Float}
+use Rattle.floats.specs.Ops.{if_then_else_}
+use Rattle.geo.specs.declared.types.Command.{Command}
 use Rattle.geo.specs.Domain.{tolerance, everyFrom, commandsFormed, commandsIn}
 use Rattle.geo.specs.Outcome.{Row, row, refusal, Outcome, unless}
-use Rattle.file.specs.Command.{commandsAt}
-use Rattle.course.specs.Course.{courseMost, lentCourse}
-use Rattle.laps.specs.File.{Lap, lapCount, lapsOf, encode, commandCount, short, big, tableOk, placed, formOk, domainOk, lapsOk}
+use Rattle.course.specs.Course.{mostOn, endOn, lentCourse}
+use Rattle.laps.specs.File.{Lap, lapCount, lapsOf, encode, commandCount, short, big, tableOk, lacks, placed, formOk, domainOk, lapsOk}
 use Rattle.laps.specs.Rows.{sizeRows}
-use Rattle.lap_fit.specs.Fit.{fitNew}
+use Rattle.lap_fit.specs.Fit.{startOf, fitLap, mostLap, fitNew}
 
--- laps that are numbered from `first` on, with a new lap k: "It writes the new lap's fit and copies every other lap's body from the fitted file as it stands"
+-- laps that are numbered from `first` on, with a new lap k
 abbrev pub swap : ℕ → Lap → ℕ → List Lap → List Lap
 swap k new first ls = set ls (k - first) new
 
--- the lap whose body, whole commands, stands in a buffer
-unfoldable pub lapIn : List ℕ → Lap
-lapIn bytes = commandsAt bytes 0 (length bytes / 73)
+-- with a new lap k and, where `both` says so, a new lap k + 1: every other lap is as it was
+unfoldable pub swapBoth : Bool → ℕ → Lap → Lap → List Lap → List Lap
+swapBoth both k new next ls = if both then swap (k + 1) next 1 (swap k new 1 ls) else swap k new 1 ls
+
+-- ---- "Replacing lap k now refits the next lap too if it has no Move" (document 02, §13); ls are the recorded laps
+unfoldable pub nextLacks : ℕ → List Lap → Bool
+nextLacks k ls = lacks (getD ls k [])
+
+-- that lap, or no commands where it is not fitted again
+unfoldable pub nextLap : ℕ → List Lap → Lap
+nextLap k ls = if nextLacks k ls then getD ls k [] else []
 
 -- ---- what a call tells of its new lap, in whatever form it is lent
 pub record NewLap : Type 0 where
@@ -31,23 +40,29 @@ pub record NewLap : Type 0 where
   pub formed : Bool
   -- row 5: their numbers are in the domain
   pub near : Bool
-  -- what they could become at most
+  -- what they, and the next lap where that is fitted again, could become at most
   pub most : ℕ
 
 -- of commands that are lent as the kinds ks and the numbers ns
 unfoldable pub lentWhole : List ℕ → List Float → Bool
 lentWhole ks ns = eqb (length ns) (9 * length ks)
 
--- "Each lap has one Move, its first command"
-unfoldable pub movePlaced : List ℕ → Bool
-movePlaced ks = everyFrom (λ i. placed (eqb i 0) (getD ks i 0)) (length ks) 0
+-- "Each lap has one Move, its first command"; or, where they need not have one, none is
+unfoldable pub movePlaced : Bool → List ℕ → Bool
+movePlaced must ks = everyFrom (λ i. placed (eqb i 0 && (must || eqb (getD ks 0 0) 0)) (getD ks i 0)) (length ks) 0
 
 -- a lap has a command; its Move is placed; "Unknown kind, unused number not +0"
-unfoldable pub lentFormed : List ℕ → List Float → Bool
-lentFormed ks ns = not (eqb (length ks) 0) && movePlaced ks && commandsFormed ks ns
+unfoldable pub lentFormed : Bool → List ℕ → List Float → Bool
+lentFormed must ks ns = not (eqb (length ks) 0) && movePlaced must ks && commandsFormed ks ns
 
-abbrev pub lentNew : Float → List ℕ → List Float → NewLap
-lentNew tol ks ns = record { whole = lentWhole ks ns; few = leb (length ks) 800; formed = lentFormed ks ns; near = commandsIn ks ns; most = courseMost tol (lentCourse ks ns) }
+-- "counting that lap's own most instead of its fitted commands": the next lap's, from the end of the new commands, which start where lap k does
+unfoldable pub mostBoth : Float → List Lap → ℕ → List Command → ℕ
+mostBoth tol ls k cs = mostOn tol (startOf k ls) cs + mostLap tol (endOn (startOf k ls) cs) (nextLap k ls)
+
+-- new commands may lack their Move for every lap but the first; lap 0, which row 7 refuses, counts as that
+abbrev pub lentNew : Float → List Lap → ℕ → List ℕ → List Float → NewLap
+lentNew tol ls k ks ns =
+    record { whole = lentWhole ks ns; few = leb (length ks) 800; formed = lentFormed (leb k 1) ks ns; near = commandsIn ks ns; most = mostBoth tol ls k (lentCourse ks ns) }
 
 -- ---- the rows: s is the recorded file, f its fitted file, k the lap's number
 -- "A slice is not whole points or commands; a file under 8 bytes"
@@ -64,11 +79,11 @@ row3 s f = not (tableOk s) || not (tableOk f) || not (eqb (lapCount s) (lapCount
 
 -- "Unknown kind, unused number not +0, or in a lap a Move missing or misplaced": in the recorded file, and in the new commands, which are a lap too
 unfoldable pub row4 : List ℕ → Bool → Bool
-row4 s formed = not (lapsOk formOk (lapsOf s)) || not formed
+row4 s formed = not (lapsOk formOk true (lapsOf s)) || not formed
 
 -- "Number not in the domain"
 unfoldable pub row5 : List ℕ → Bool → Bool
-row5 s near = not (lapsOk domainOk (lapsOf s)) || not near
+row5 s near = not (lapsOk domainOk true (lapsOf s)) || not near
 
 -- "lap 0 or above L"
 unfoldable pub row7 : ℕ → List ℕ → Bool
@@ -86,13 +101,19 @@ newRows s f k new tol =
     ∷ row 7 (row7 k s)
     ∷ []
 
--- "for a replacement, the new lap's most and the fitted file's command count in all other laps"
-unfoldable pub mostWith : NewLap → ℕ → List ℕ → ℕ
-mostWith new k f = new .most + commandCount (swap k [] 1 (lapsOf f))
+-- "for a replacement, the new lap's most and the fitted file's command count in all other laps": in those that are not fitted again
+unfoldable pub mostWith : NewLap → ℕ → List ℕ → List ℕ → ℕ
+mostWith new k s f = new .most + commandCount (swapBoth (nextLacks k (lapsOf s)) k [] [] (lapsOf f))
 
 unfoldable pub replaceRows : List ℕ → List ℕ → ℕ → NewLap → Float → ℕ → List Row
-replaceRows s f k new tol room = newRows s f k new tol ++ sizeRows (lapCount f) (mostWith new k f) room
+replaceRows s f k new tol room = newRows s f k new tol ++ sizeRows (lapCount f) (mostWith new k s f) room
 
 -- ---- the call: the new commands are lent as ks and ns, the output has `room` bytes
+-- "It writes the new lap's fit and copies every other lap's body from the fitted file as it stands", but for the next lap where that is fitted again
+unfoldable pub replacedLaps : Float → ℕ → List ℕ → List Float → List Lap → List Lap → List Lap
+replacedLaps tol k ks ns ls fs =
+    swapBoth (nextLacks k ls) k (fitNew tol (startOf k ls) ks ns) (fitLap tol (endOn (startOf k ls) (lentCourse ks ns)) (nextLap k ls)) fs
+
 unfoldable pub replaceLap : List ℕ → List ℕ → ℕ → List ℕ → List Float → Float → ℕ → Outcome (List ℕ)
-replaceLap s f k ks ns tol room = unless (refusal (replaceRows s f k (lentNew tol ks ns) tol room)) (encode (swap k (fitNew tol ks ns) 1 (lapsOf f)))
+replaceLap s f k ks ns tol room =
+    unless (refusal (replaceRows s f k (lentNew tol (lapsOf s) k ks ns) tol room)) (encode (replacedLaps tol k ks ns (lapsOf s) (lapsOf f)))

@@ -1,4 +1,7 @@
 // The replacement of one lap of a fitted file.
+use course::course::Walk;
+use course::course::add_capped;
+use course::course::course_end;
 use course::course::course_most;
 use file::command::COMMAND_BYTES;
 use geo::domain::commands_formed;
@@ -7,6 +10,9 @@ use geo::domain::is_tolerance;
 use geo::types::Answer;
 use geo::types::Point3D;
 use lap_fit::fit::fit_commands;
+use lap_fit::fit::fit_lap;
+use lap_fit::fit::lap_end;
+use lap_fit::fit::most_lap;
 use laps::lap_file::Check;
 use laps::lap_file::MOST_COMMANDS;
 use laps::lap_file::all_pass;
@@ -14,24 +20,28 @@ use laps::lap_file::check_sizes;
 use laps::lap_file::count_at;
 use laps::lap_file::has_table;
 use laps::lap_file::is_placed;
+use laps::lap_file::lacks_move;
 use laps::lap_file::lap_count;
+use laps::lap_file::offset_at;
 use laps::lap_file::put_entry;
 use laps::lap_file::put_head;
 use laps::lap_file::too_big;
 use laps::lap_file::too_short;
 ghost use mathlib.Core.Path.{_≡_};
-ghost use mathlib.Core.Bool.{true, false};
+ghost use mathlib.Core.Bool.{true, false, _&&_, _||_};
 ghost use mathlib.Core.List.{List, [], _++_};
 ghost use Prim.Native.Nat.{ℕ, _+_, _*_, _≤_};
 ghost use lib.Dec.{eqb};
-ghost use lib.ListN.{length, drop};
+ghost use lib.ListN.{length, getD, drop};
 ghost use Rattle.floats.specs.Ops.{_≺_, +0, if_then_else_};
 ghost use Rattle.geo.specs.Outcome.{refusal, Wrote};
 ghost use Rattle.file.specs.Command.{commandsAt};
+ghost use Rattle.course.specs.Course.{lentCourse};
+ghost use Rattle.course.specs.Walks.{cap};
 ghost use Rattle.laps.specs.File.{lapCount, lapsOf, encode, tableOk, commandCount, PutLap};
 ghost use Rattle.laps.specs.Rows.{fileSize};
-ghost use Rattle.lap_fit.specs.Fit.{fitNew};
-ghost use Rattle.lap_replace.specs.Replace.{swap, lapIn, lentWhole, movePlaced, lentFormed, lentNew, row1, row2, row3, row4, row5, row7, newRows, mostWith, replaceRows, replaceLap};
+ghost use Rattle.lap_fit.specs.Fit.{startOf, fitLap, mostLap};
+ghost use Rattle.lap_replace.specs.Replace.{swapBoth, nextLacks, nextLap, lentWhole, movePlaced, lentFormed, mostBoth, lentNew, row1, row2, row3, row4, row5, row7, newRows, mostWith, replaceRows, replacedLaps, replaceLap};
 
 // The body of 800 commands.
 const BODY_BYTES: usize = 58400;
@@ -50,30 +60,57 @@ fn copy_lap(s: &[u8], at: usize, n: usize, out: &mut [u8], to: usize) -> usize
     n
 }
 
-// Writes lap number j: the lap in `body` if it is lap k, else the fitted lap as it stands. Returns how many commands it has.
+// Whether lap number j is the one behind lap k, where that is replaced too.
+fn is_next(both: bool, k: usize, j: usize) -> bool
+    requires { ⌜ 1 ≤ j ⌝ }
+    ensures { λ r. ⌜ r ≡ (both && eqb j (k + 1)) ⌝ }
+{
+    if both {
+        return j - 1 == k;
+    }
+    false
+}
+
+// Writes lap number j: if it is lap k, the first n commands of `body`; if it is the next one and replaced too, the m behind
+// them; else the fitted lap as it stands. Returns how many commands it has.
 fn put_lap(
     k: usize,
+    both: bool,
     j: usize,
     fitted: &[u8],
     at: usize,
-    n: usize,
+    c: usize,
     body: &[u8],
+    n: usize,
+    m: usize,
     out: &mut [u8],
     to: usize,
 ) -> usize
-    requires { ⌜ (at + 73 * n ≤ length (now fitted)) × (to + 73 * length (if eqb j k then lapIn (now body) else commandsAt (now fitted) at n) ≤ length (now out)) ⌝ }
-    ensures { λ r. ⌜ PutLap (if eqb j k then lapIn (now (body .entry)) else commandsAt (now (fitted .entry)) at n) (now (out .entry)) (now (out .exit)) to r ⌝ }
+    requires { ⌜ (1 ≤ j) × (at + 73 * c ≤ length (now fitted)) × (73 * (n + m) ≤ length (now body)) × (to + 73 * length (if eqb j k then commandsAt (now body) 0 n else (if both && eqb j (k + 1) then commandsAt (now body) (73 * n) m else commandsAt (now fitted) at c)) ≤ length (now out)) ⌝ }
+    ensures { λ r. ⌜ PutLap (if eqb j k then commandsAt (now (body .entry)) 0 n else (if both && eqb j (k + 1) then commandsAt (now (body .entry)) (73 * n) m else commandsAt (now (fitted .entry)) at c)) (now (out .entry)) (now (out .exit)) to r ⌝ }
 {
     if j == k {
-        return copy_lap(body, 0, body.len() / COMMAND_BYTES, out, to);
+        return copy_lap(body, 0, n, out, to);
     }
-    copy_lap(fitted, at, n, out, to)
+    if is_next(both, k, j) {
+        return copy_lap(body, COMMAND_BYTES * n, m, out, to);
+    }
+    copy_lap(fitted, at, c, out, to)
 }
 
-// Writes the fitted file with the lap in `body` as lap k, the mark first, and returns how many bytes it has.
-fn put_file(fitted: &[u8], k: usize, body: &[u8], out: &mut [u8]) -> usize
-    requires { ⌜ (1 ≤ k) × (8 ≤ length (now fitted)) × (tableOk (now fitted) ≡ true) × (commandCount (swap k (lapIn (now body)) 1 (lapsOf (now fitted))) ≤ 800) × (fileSize (lapCount (now fitted)) (commandCount (swap k (lapIn (now body)) 1 (lapsOf (now fitted)))) ≤ length (now out)) ⌝ }
-    ensures { λ r. ⌜ (r ≡ length (encode (swap k (lapIn (now (body .entry))) 1 (lapsOf (now (fitted .entry)))))) × (now (out .exit) ≡ encode (swap k (lapIn (now (body .entry))) 1 (lapsOf (now (fitted .entry)))) ++ drop (length (encode (swap k (lapIn (now (body .entry))) 1 (lapsOf (now (fitted .entry)))))) (now (out .entry))) ⌝ }
+// Writes the fitted file, the mark first, with the first n commands of `body` as lap k and, where both are replaced, the m
+// behind them as lap k + 1. Returns how many bytes it has.
+fn put_file(
+    fitted: &[u8],
+    k: usize,
+    both: bool,
+    body: &[u8],
+    n: usize,
+    m: usize,
+    out: &mut [u8],
+) -> usize
+    requires { ⌜ (1 ≤ k) × (8 ≤ length (now fitted)) × (tableOk (now fitted) ≡ true) × (73 * (n + m) ≤ length (now body)) × (commandCount (swapBoth both k (commandsAt (now body) 0 n) (commandsAt (now body) (73 * n) m) (lapsOf (now fitted))) ≤ 800) × (fileSize (lapCount (now fitted)) (commandCount (swapBoth both k (commandsAt (now body) 0 n) (commandsAt (now body) (73 * n) m) (lapsOf (now fitted)))) ≤ length (now out)) ⌝ }
+    ensures { λ r. ⌜ (r ≡ length (encode (swapBoth both k (commandsAt (now (body .entry)) 0 n) (commandsAt (now (body .entry)) (73 * n) m) (lapsOf (now (fitted .entry)))))) × (now (out .exit) ≡ encode (swapBoth both k (commandsAt (now (body .entry)) 0 n) (commandsAt (now (body .entry)) (73 * n) m) (lapsOf (now (fitted .entry)))) ++ drop (length (encode (swapBoth both k (commandsAt (now (body .entry)) 0 n) (commandsAt (now (body .entry)) (73 * n) m) (lapsOf (now (fitted .entry)))))) (now (out .entry))) ⌝ }
 {
     let l = lap_count(fitted);
     put_head(out, l);
@@ -81,18 +118,123 @@ fn put_file(fitted: &[u8], k: usize, body: &[u8], out: &mut [u8]) -> usize
     let mut to = at;
     let mut j = 0;
     while j < l {
-        let n = count_at(fitted, j);
-        let c = put_lap(k, j + 1, fitted, at, n, body, out, to);
+        let b = count_at(fitted, j);
+        let c = put_lap(k, both, j + 1, fitted, at, b, body, n, m, out, to);
         put_entry(out, j, to, c);
-        at += COMMAND_BYTES * n;
+        at += COMMAND_BYTES * b;
         to += COMMAND_BYTES * c;
         j += 1;
     }
     to
 }
 
-// Fits the new commands into a buffer of its own, and then writes the fitted file with that lap as lap k.
+// Where lap k of a recorded file starts: where the lap before it ends.
+fn start_of(s: &[u8], k: usize) -> Point3D
+    requires { ⌜ (8 ≤ length (now s)) × (tableOk (now s) ≡ true) × (1 ≤ k) × (k ≤ lapCount (now s)) ⌝ }
+    ensures { λ r. ⌜ r ≡ startOf k (lapsOf (now (s .entry))) ⌝ }
+{
+    if k == 1 {
+        return Point3D::ZERO;
+    }
+    let j = k - 2;
+    lap_end(s, offset_at(s, j), count_at(s, j), Point3D::ZERO)
+}
+
+// The lap behind lap k of a recorded file, where it is fitted again; else no commands.
+struct Next {
+    both: bool,
+    at: usize,
+    count: usize,
+}
+
+impl Next {
+    fn none() -> Self
+        ensures { λ r. ⌜ r ≡ record { both = false; at = 0; count = 0 } ⌝ }
+    {
+        Self {
+            both: false,
+            at: 0,
+            count: 0,
+        }
+    }
+}
+
+fn next_of(s: &[u8], k: usize) -> Next
+    requires { ⌜ (8 ≤ length (now s)) × (tableOk (now s) ≡ true) × (k ≤ lapCount (now s)) ⌝ }
+    ensures { λ r. ⌜ (r .both ≡ nextLacks k (lapsOf (now (s .entry)))) × (commandsAt (now (s .entry)) (r .at) (r .count) ≡ nextLap k (lapsOf (now (s .entry)))) × (r .at + 73 * r .count ≤ length (now (s .entry))) × (r .count ≤ 800) ⌝ }
+{
+    if k == lap_count(s) {
+        return Next::none();
+    }
+    let at = offset_at(s, k);
+    let count = count_at(s, k);
+    if lacks_move(s, at, count) {
+        return Next {
+            both: true,
+            at,
+            count,
+        };
+    }
+    Next::none()
+}
+
+// Writes the fit of a recorded lap with its start, from `to` on, by way of arrays of its own, and returns how many commands it has.
+fn fit_alone(
+    s: &[u8],
+    at: usize,
+    n: usize,
+    start: Point3D,
+    tolerance: f64,
+    out: &mut [u8],
+    to: usize,
+) -> usize
+    requires { ⌜ ((+0 ≺ tolerance) ≡ true) × (at + 73 * n ≤ length (now s)) × (n ≤ 800) × (mostLap tolerance start (commandsAt (now s) at n) ≤ 800) × (to + 73 * length (fitLap tolerance start (commandsAt (now s) at n)) ≤ length (now out)) ⌝ }
+    ensures { λ r. ⌜ PutLap (fitLap tolerance start (commandsAt (now (s .entry)) at n)) (now (out .entry)) (now (out .exit)) to r ⌝ }
+{
+    let mut kinds = [0u8; Walk::MOST];
+    let mut nums = [0.0f64; Walk::NUMBERS];
+    let mut chain = [0.0; Walk::CHAIN];
+    let mut out_kinds = [0u8; Walk::MOST];
+    let mut out_nums = [0.0f64; Walk::NUMBERS];
+    fit_lap(
+        s,
+        at,
+        n,
+        start,
+        tolerance,
+        &mut kinds,
+        &mut nums,
+        &mut chain,
+        &mut out_kinds,
+        &mut out_nums,
+        out,
+        to,
+    )
+}
+
+// The same where there may be no such lap: then no array is filled.
+fn fit_next(
+    s: &[u8],
+    at: usize,
+    n: usize,
+    start: Point3D,
+    tolerance: f64,
+    out: &mut [u8],
+    to: usize,
+) -> usize
+    requires { ⌜ ((+0 ≺ tolerance) ≡ true) × (at + 73 * n ≤ length (now s)) × (n ≤ 800) × (mostLap tolerance start (commandsAt (now s) at n) ≤ 800) × (to + 73 * length (fitLap tolerance start (commandsAt (now s) at n)) ≤ length (now out)) ⌝ }
+    ensures { λ r. ⌜ PutLap (fitLap tolerance start (commandsAt (now (s .entry)) at n)) (now (out .entry)) (now (out .exit)) to r ⌝ }
+{
+    if n == 0 {
+        return 0;
+    }
+    fit_alone(s, at, n, start, tolerance, out, to)
+}
+
+// Fits the new commands, and behind them the next lap where that is fitted again, into a buffer of its own; then writes the
+// fitted file with these laps.
 fn replace_laps(
+    recorded: &[u8],
     fitted: &[u8],
     k: usize,
     kinds: &[u8],
@@ -100,32 +242,52 @@ fn replace_laps(
     tolerance: f64,
     out: &mut [u8],
 ) -> usize
-    requires { ⌜ ((+0 ≺ tolerance) ≡ true) × (9 * length (now kinds) ≤ length (now nums)) × (1 ≤ k) × (8 ≤ length (now fitted)) × (tableOk (now fitted) ≡ true) × (mostWith (lentNew tolerance (now kinds) (now nums)) k (now fitted) ≤ 800) × (fileSize (lapCount (now fitted)) (mostWith (lentNew tolerance (now kinds) (now nums)) k (now fitted)) ≤ length (now out)) ⌝ }
-    ensures { λ r. ⌜ (r ≡ length (encode (swap k (fitNew tolerance (now (kinds .entry)) (now (nums .entry))) 1 (lapsOf (now (fitted .entry)))))) × (now (out .exit) ≡ encode (swap k (fitNew tolerance (now (kinds .entry)) (now (nums .entry))) 1 (lapsOf (now (fitted .entry)))) ++ drop (length (encode (swap k (fitNew tolerance (now (kinds .entry)) (now (nums .entry))) 1 (lapsOf (now (fitted .entry)))))) (now (out .entry))) ⌝ }
+    requires { ⌜ ((+0 ≺ tolerance) ≡ true) × (9 * length (now kinds) ≤ length (now nums)) × (1 ≤ k) × (8 ≤ length (now fitted)) × (tableOk (now fitted) ≡ true) × (mostWith (lentNew tolerance (lapsOf (now recorded)) k (now kinds) (now nums)) k (now recorded) (now fitted) ≤ 800) × (fileSize (lapCount (now fitted)) (mostWith (lentNew tolerance (lapsOf (now recorded)) k (now kinds) (now nums)) k (now recorded) (now fitted)) ≤ length (now out)) × (8 ≤ length (now recorded)) × (tableOk (now recorded) ≡ true) × (k ≤ lapCount (now recorded)) ⌝ }
+    ensures { λ r. ⌜ (r ≡ length (encode (replacedLaps tolerance k (now (kinds .entry)) (now (nums .entry)) (lapsOf (now (recorded .entry))) (lapsOf (now (fitted .entry)))))) × (now (out .exit) ≡ encode (replacedLaps tolerance k (now (kinds .entry)) (now (nums .entry)) (lapsOf (now (recorded .entry))) (lapsOf (now (fitted .entry)))) ++ drop (length (encode (replacedLaps tolerance k (now (kinds .entry)) (now (nums .entry)) (lapsOf (now (recorded .entry))) (lapsOf (now (fitted .entry)))))) (now (out .entry))) ⌝ }
 {
     let mut body = [0u8; BODY_BYTES];
-    let n = fit_commands(kinds, nums, tolerance, &mut body, 0);
-    let e = COMMAND_BYTES * n;
-    put_file(fitted, k, &body[..e], out)
+    let start = start_of(recorded, k);
+    let next = next_of(recorded, k);
+    let n = fit_commands(kinds, nums, start, tolerance, &mut body, 0);
+    let end = course_end(kinds, nums, start);
+    let to = COMMAND_BYTES * n;
+    let m = fit_next(recorded, next.at, next.count, end, tolerance, &mut body, to);
+    put_file(fitted, k, next.both, &body, n, m, out)
 }
 
-// The commands of a lap of n, if it is not lap k.
-fn other(k: usize, j: usize, n: usize) -> usize
-    ensures { λ r. ⌜ (r ≡ (if eqb j k then 0 else n)) × (r ≤ n) ⌝ }
+// The commands of a lap of n, if it is not fitted again.
+fn other(k: usize, both: bool, j: usize, n: usize) -> usize
+    requires { ⌜ 1 ≤ j ⌝ }
+    ensures { λ r. ⌜ (r ≡ (if eqb j k then 0 else (if both && eqb j (k + 1) then 0 else n))) × (r ≤ n) ⌝ }
 {
-    if j == k { 0 } else { n }
+    if j == k {
+        return 0;
+    }
+    if is_next(both, k, j) { 0 } else { n }
 }
 
-// The commands in all laps but lap k.
-fn others_of(fitted: &[u8], k: usize) -> usize
+// The commands in all laps but lap k and, where both are fitted again, lap k + 1.
+fn others_of(fitted: &[u8], k: usize, both: bool) -> usize
     requires { ⌜ (1 ≤ k) × (8 ≤ length (now fitted)) × (tableOk (now fitted) ≡ true) ⌝ }
-    ensures { λ r. ⌜ (r ≡ commandCount (swap k [] 1 (lapsOf (now (fitted .entry))))) × (r ≤ 800) ⌝ }
+    ensures { λ r. ⌜ (r ≡ commandCount (swapBoth both k [] [] (lapsOf (now (fitted .entry))))) × (r ≤ 800) ⌝ }
 {
     let mut m = 0;
     for j in 0..lap_count(fitted) {
-        m += other(k, j + 1, count_at(fitted, j));
+        m += other(k, both, j + 1, count_at(fitted, j));
     }
     m
+}
+
+// What the new commands, and the next lap where that is fitted again, could become at most, 801 for all above 800.
+fn most_new(s: &[u8], k: usize, kinds: &[u8], nums: &[f64], tolerance: f64) -> usize
+    requires { ⌜ (9 * length (now kinds) ≤ length (now nums)) × (8 ≤ length (now s)) × (tableOk (now s) ≡ true) × (1 ≤ k) × (k ≤ lapCount (now s)) ⌝ }
+    ensures { λ r. ⌜ r ≡ cap (mostBoth tolerance (lapsOf (now (s .entry))) k (lentCourse (now (kinds .entry)) (now (nums .entry)))) ⌝ }
+{
+    let start = start_of(s, k);
+    let next = next_of(s, k);
+    let end = course_end(kinds, nums, start);
+    let own = course_most(kinds, nums, start, tolerance);
+    add_capped(own, most_lap(s, next.at, next.count, end, tolerance))
 }
 
 // Row 1: the lengths of both files, and whether the new lap is whole commands.
@@ -213,27 +375,50 @@ fn is_whole(kinds: &[u8], nums: &[f64]) -> bool
     size / 9 == kinds.len()
 }
 
-// Whether the kinds have one Move, the first.
-fn moves_placed(kinds: &[u8]) -> bool
-    ensures { λ r. ⌜ r ≡ movePlaced (now (kinds .entry)) ⌝ }
+// Whether the first kind is to be a Move: where it must be, or is.
+fn opens(must: bool, kinds: &[u8]) -> bool
+    requires { ⌜ 1 ≤ length (now kinds) ⌝ }
+    ensures { λ r. ⌜ r ≡ (must || eqb (getD (now (kinds .entry)) 0 0) 0) ⌝ }
 {
+    if must {
+        return true;
+    }
+    kinds[0] == 0
+}
+
+// Whether a Move is to stand at index i.
+fn is_move_at(i: usize, moved: bool) -> bool
+    ensures { λ r. ⌜ r ≡ (eqb i 0 && moved) ⌝ }
+{
+    if i == 0 {
+        return moved;
+    }
+    false
+}
+
+// Whether the kinds have one Move, the first; or none, where they need not have one.
+fn moves_placed(must: bool, kinds: &[u8]) -> bool
+    requires { ⌜ 1 ≤ length (now kinds) ⌝ }
+    ensures { λ r. ⌜ r ≡ movePlaced must (now (kinds .entry)) ⌝ }
+{
+    let moved = opens(must, kinds);
     for i in 0..kinds.len() {
-        if !is_placed(i == 0, kinds[i]) {
+        if !is_placed(is_move_at(i, moved), kinds[i]) {
             return false;
         }
     }
     true
 }
 
-// Whether lent commands are a lap.
-fn is_lap(kinds: &[u8], nums: &[f64]) -> bool
+// Whether lent commands are a lap, which must have its Move or may lack it.
+fn is_lap(must: bool, kinds: &[u8], nums: &[f64]) -> bool
     requires { ⌜ 9 * length (now kinds) ≤ length (now nums) ⌝ }
-    ensures { λ r. ⌜ r ≡ lentFormed (now (kinds .entry)) (now (nums .entry)) ⌝ }
+    ensures { λ r. ⌜ r ≡ lentFormed must (now (kinds .entry)) (now (nums .entry)) ⌝ }
 {
     if kinds.len() == 0 {
         return false;
     }
-    if !moves_placed(kinds) {
+    if !moves_placed(must, kinds) {
         return false;
     }
     commands_formed(kinds, nums)
@@ -241,7 +426,7 @@ fn is_lap(kinds: &[u8], nums: &[f64]) -> bool
 
 // The first of the rows 1 to 7 that a replacement falls under, or 0.
 fn check_new(s: &[u8], f: &[u8], k: usize, kinds: &[u8], nums: &[f64], tolerance: f64) -> u32
-    ensures { λ r. ⌜ r ≡ refusal (newRows (now (s .entry)) (now (f .entry)) k (lentNew tolerance (now (kinds .entry)) (now (nums .entry))) tolerance) ⌝ }
+    ensures { λ r. ⌜ r ≡ refusal (newRows (now (s .entry)) (now (f .entry)) k (lentNew tolerance (lapsOf (now (s .entry))) k (now (kinds .entry)) (now (nums .entry))) tolerance) ⌝ }
 {
     if fails_1(s, f, is_whole(kinds, nums)) {
         return 1;
@@ -252,7 +437,7 @@ fn check_new(s: &[u8], f: &[u8], k: usize, kinds: &[u8], nums: &[f64], tolerance
     if fails_3(s, f) {
         return 3;
     }
-    if fails_4(s, is_lap(kinds, nums)) {
+    if fails_4(s, is_lap(k <= 1, kinds, nums)) {
         return 4;
     }
     if fails_5(s, commands_in(kinds, nums)) {
@@ -277,17 +462,19 @@ fn check_replacement(
     tolerance: f64,
     room: usize,
 ) -> u32
-    ensures { λ r. ⌜ r ≡ refusal (replaceRows (now (s .entry)) (now (f .entry)) k (lentNew tolerance (now (kinds .entry)) (now (nums .entry))) tolerance room) ⌝ }
+    ensures { λ r. ⌜ r ≡ refusal (replaceRows (now (s .entry)) (now (f .entry)) k (lentNew tolerance (lapsOf (now (s .entry))) k (now (kinds .entry)) (now (nums .entry))) tolerance room) ⌝ }
 {
     let refused = check_new(s, f, k, kinds, nums, tolerance);
     if refused != 0 {
         return refused;
     }
-    let most = course_most(kinds, nums, Point3D::ZERO, tolerance) + others_of(f, k);
+    let next = next_of(s, k);
+    let most = most_new(s, k, kinds, nums, tolerance) + others_of(f, k, next.both);
     check_sizes(lap_count(f), most, room)
 }
 
-// Writes the fitted file with lap number `lap` replaced by the fit of the new commands to the front of out. A refusal changes nothing.
+// Writes the fitted file with lap number `lap` replaced by the fit of the new commands, and the next lap fitted again where it
+// lacks its Move, to the front of out. A refusal changes nothing.
 pub fn replace_lap(
     recorded: &[u8],
     fitted: &[u8],
@@ -303,5 +490,5 @@ pub fn replace_lap(
     if refused != 0 {
         return Answer::Refused(refused);
     }
-    Answer::Written(replace_laps(fitted, lap, kinds, nums, tolerance, out))
+    Answer::Written(replace_laps(recorded, fitted, lap, kinds, nums, tolerance, out))
 }

@@ -12,12 +12,13 @@ use Rattle.floats.proofs.Order.{lt-or-ge}
 use Rattle.geo.specs.declared.types.Command.{Command}
 use Rattle.geo.specs.Domain.{tolerance}
 use Rattle.geo.specs.Outcome.{refusal, Outcome, refused, gives, unless}
+use Rattle.geo.specs.declared.types.Point3D.{Point3D}
 use Rattle.geo.specs.Lent.{origin, kindOf, flat}
 use Rattle.geo.proofs.Rows.{refusal-front, unless-gives}
 use Rattle.geo.proofs.Tolerance.{tolerance-positive}
 use Rattle.file.specs.Command.{decoded, enc}
 use Rattle.fitting.specs.Pieces.{lapsRule}
-use Rattle.course.specs.Course.{courseFit}
+use Rattle.course.specs.Course.{fitOn}
 use Rattle.listing.specs.Rows.{chainRows, partRows, rowsOf, rowsOn, stepsIn, sumOf}
 use Rattle.listing.proofs.Columns.{steps-append}
 use Rattle.listing.proofs.Laws.{course-kinds, course-steps, sum-append}
@@ -25,7 +26,7 @@ use Rattle.laps.specs.File.{Lap, lapCount, lapsOf}
 use Rattle.laps.specs.Rows.{fileSize, fileRows}
 use Rattle.laps.proofs.Rows.{FilePassed, file-passed, size-8, size-0}
 use Rattle.laps.proofs.Walks.{not-big}
-use Rattle.lap_fit.specs.Fit.{lapsMost, fileFitRows}
+use Rattle.lap_fit.specs.Fit.{lapEnd, startOf, lapsMost, fileFitRows}
 use Rattle.lap_fit.proofs.Accepted.{accepted}
 use Rattle.lap_fit.proofs.Rows.{fit-6, fit-sizes}
 use Rattle.lap_replace.specs.Demand.{lapAt}
@@ -93,9 +94,9 @@ module _ (s : List ℕ) (tol : Float) (room room′ : ℕ) (h : mostText 800 ≤
       sized t =
           let l = not-big s (p .small) .1 in
           ⊎-elim
-          (λ few. text-0 s tol room p t (omega arith) (omega arith) ∙ sym (fit-sizes s tol room′ p t ∙ size-0 (lapCount s) (lapsMost tol (lapsOf s)) room′ (omega arith) (omega arith)))
-          (λ many. text-8 s tol room p t (omega arith) ∙ sym (fit-sizes s tol room′ p t ∙ size-8 (lapCount s) (lapsMost tol (lapsOf s)) room′ (omega arith)))
-          (lt-or-ge (lapsMost tol (lapsOf s)) 801)
+          (λ few. text-0 s tol room p t (omega arith) (omega arith) ∙ sym (fit-sizes s tol room′ p t ∙ size-0 (lapCount s) (lapsMost tol origin (lapsOf s)) room′ (omega arith) (omega arith)))
+          (λ many. text-8 s tol room p t (omega arith) ∙ sym (fit-sizes s tol room′ p t ∙ size-8 (lapCount s) (lapsMost tol origin (lapsOf s)) room′ (omega arith)))
+          (lt-or-ge (lapsMost tol origin (lapsOf s)) 801)
 
       either : (t : Bool) → tolerance tol ≡ t → refusal (textRows s tol room) ≡ refusal (fileFitRows s tol room′)
       either true e = sized (ap not e)
@@ -130,7 +131,7 @@ unfolding lapRows
 kinds-of-the-fit s f tol room e k a b =
     let cs = map decoded (lapAt s k) in
     let l = laps-are-fitted s f tol room e .1 k a b in
-    course-kinds (lapsRule tol) origin cs ∙ sym (ap (map kindByte) l ∙ kind-bytes (courseFit (lapsRule tol) cs))
+    course-kinds (lapsRule tol) (startOf k (lapsOf s)) cs ∙ sym (ap (map kindByte) l ∙ kind-bytes (fitOn (lapsRule tol) (startOf k (lapsOf s)) cs))
 
 -- ---- steps
 -- They are those of the lap's parts in order,
@@ -146,7 +147,7 @@ rows-of-a-chain tol points = refl
 -- The steps that they give are, together, those of the lap's chains.
 pub steps-of-the-chains : StepsOfTheChains
 unfolding lapRows
-steps-of-the-chains s f tol room e k a b = course-steps (lapsRule tol) (tolerance-positive tol (accepted s tol room f e .passed .within)) origin (map decoded (lapAt s k))
+steps-of-the-chains s f tol room e k a b = course-steps (lapsRule tol) (tolerance-positive tol (accepted s tol room f e .passed .within)) (startOf k (lapsOf s)) (map decoded (lapAt s k))
 
 -- ---- the sum under the listing
 -- a file that is listed passes the rows, and the text is its listing
@@ -160,18 +161,18 @@ unfolding listFile
 listed-passes s text tol room e =
     let g = given-text (refusal (textRows s tol room)) (listText tol (lapsOf s)) text e in (text-passed s tol room (g .0), g .1)
 
-laps-sum : (tol : Float) → (+0 ≺ tol) ≡ true → (ls : List Lap) → lapsSteps tol ls ≡ sumOf (stepsIn (allRows tol ls))
-unfolding lapsSteps allRows flat
-laps-sum tol pos [] = unfold sumOf stepsIn in refl
-laps-sum tol pos (l ∷ ls) =
-    let a = rows-steps tol pos l in
-    let b = laps-sum tol pos ls in
-    let e = ap sumOf (steps-append (lapRows tol l) (allRows tol ls)) in
-    let d = sum-append (stepsIn (lapRows tol l)) (stepsIn (allRows tol ls)) in omega arith
+laps-sum : (tol : Float) → (+0 ≺ tol) ≡ true → (p : Point3D) (ls : List Lap) → lapsSteps tol p ls ≡ sumOf (stepsIn (allRows tol p ls))
+unfolding lapsSteps allRows
+laps-sum tol pos p [] = unfold sumOf stepsIn in refl
+laps-sum tol pos p (l ∷ ls) =
+    let a = rows-steps tol pos p l in
+    let b = laps-sum tol pos (lapEnd p l) ls in
+    let e = ap sumOf (steps-append (lapRows tol p l) (allRows tol (lapEnd p l) ls)) in
+    let d = sum-append (stepsIn (lapRows tol p l)) (stepsIn (allRows tol (lapEnd p l) ls)) in omega arith
 
 -- The sum, which is worked out over the thinned chains, is that of the steps in all rows, and is at most 800.
 pub sum-of-the-rows : SumOfTheRows
 sum-of-the-rows s text tol room e =
     let p = listed-passes s text tol room e .0 in
-    let f = laps-few tol (lapsOf s) in
-    let m = p .few in (laps-sum tol (tolerance-positive tol (p .within)) (lapsOf s), omega arith)
+    let f = laps-few tol origin (lapsOf s) in
+    let m = p .few in (laps-sum tol (tolerance-positive tol (p .within)) origin (lapsOf s), omega arith)

@@ -15,31 +15,33 @@ use Rattle.file.specs.Command.{commandsAt}
 use Rattle.laps.specs.File.{lapCount, countAt, lapsAt, lapsOf, tableOk}
 use Rattle.laps.proofs.Here.{Here, Step, step, start-at, all-laps}
 use Rattle.laps.proofs.Turns.{laps-cons, laps-nil}
-use Rattle.lap_fit.specs.Fit.{mostLap, lapsMost}
+use Rattle.geo.specs.declared.types.Point3D.{Point3D}
+use Rattle.geo.specs.Lent.{origin}
+use Rattle.lap_fit.specs.Fit.{lapEnd, mostLap, lapsMost}
 use Rattle.lap_fit.proofs.Lap.{mosts-step}
 use Rattle.lap_rows.specs.Listing.{ascii, header, lapText, lapsText, lapSteps, lapsSteps, totalText, listText, mostText}
 use Rattle.lap_rows.specs.Left.{TextPut}
 use Rattle.lap_rows.proofs.Text.{put-both, put-same, total-length, Writing, write-start, write-step, write-done}
 use Rattle.lap_rows.proofs.Counts.{text-few, laps-few}
 
--- where the loop stands before lap j + 1, which is at `at`: what is left, written from `to` on, gives the whole, and has room with the last line; its steps, added to `total`, are all
-pub record Listing (tol : Float) (s : List ℕ) (l : ℕ) (out₀ out : List ℕ) (at to total j : ℕ) : Type 0 where
+-- where the loop stands before lap j + 1, which is at `at` and starts at p: what is left, written from `to` on, gives the whole, and has room with the last line; its steps, added to `total`, are all
+pub record Listing (tol : Float) (s : List ℕ) (l : ℕ) (out₀ out : List ℕ) (p : Point3D) (at to total j : ℕ) : Type 0 where
   pub inside : j ≤ l
   pub here : Here s j at l
-  pub few : lapsMost tol (lapsAt s j at (l - j)) ≤ 800
-  pub room : to + 9 * lapsMost tol (lapsAt s j at (l - j)) + 10 ≤ length out₀
-  pub adding : total + lapsSteps tol (lapsAt s j at (l - j)) ≡ lapsSteps tol (lapsOf s)
-  pub going : Writing out₀ out 15 to (lapsText tol (j + 1) (lapsAt s j at (l - j))) (lapsText tol 1 (lapsOf s))
+  pub few : lapsMost tol p (lapsAt s j at (l - j)) ≤ 800
+  pub room : to + 9 * lapsMost tol p (lapsAt s j at (l - j)) + 10 ≤ length out₀
+  pub adding : total + lapsSteps tol p (lapsAt s j at (l - j)) ≡ lapsSteps tol origin (lapsOf s)
+  pub going : Writing out₀ out 15 to (lapsText tol (j + 1) p (lapsAt s j at (l - j))) (lapsText tol 1 origin (lapsOf s))
 
 -- what a turn has: n commands from `at` on, and room for their text
-pub record Turn (tol : Float) (s : List ℕ) (l : ℕ) (out : List ℕ) (at to total j n : ℕ) : Type 0 where
+pub record Turn (tol : Float) (s : List ℕ) (l : ℕ) (out : List ℕ) (p : Point3D) (at to total j n : ℕ) : Type 0 where
   pub lap : Step s j at l n
-  pub few : mostLap tol (commandsAt s at n) ≤ 800
-  pub room : to + 9 * mostLap tol (commandsAt s at n) ≤ length out
+  pub few : mostLap tol p (commandsAt s at n) ≤ 800
+  pub room : to + 9 * mostLap tol p (commandsAt s at n) ≤ length out
 
 module _ (tol : Float) (s : List ℕ) (l : ℕ) (out₀ : List ℕ) where
-  pub laps-start : (to : ℕ) → to ≡ 15 → l ≡ lapCount s → tableOk s ≡ true → lapsMost tol (lapsOf s) ≤ 800 → mostText (lapsMost tol (lapsOf s)) ≤ length out₀
-      → Listing tol s l out₀ out₀ (8 + 8 * l) to 0 0
+  pub laps-start : (to : ℕ) → to ≡ 15 → l ≡ lapCount s → tableOk s ≡ true → lapsMost tol origin (lapsOf s) ≤ 800 → mostText (lapsMost tol origin (lapsOf s)) ≤ length out₀
+      → Listing tol s l out₀ out₀ origin (8 + 8 * l) to 0 0
   laps-start to f e t h k =
       let a = all-laps s l e in
       record {
@@ -47,36 +49,36 @@ module _ (tol : Float) (s : List ℕ) (l : ℕ) (out₀ : List ℕ) where
         here = start-at s l e t;
         few = rw a h;
         room = rw (f, a) k;
-        adding = rw a (zero-add (lapsSteps tol (lapsOf s)));
-        going = rw f (write-start out₀ 15 _ _ (ap (lapsText tol 1) a));
+        adding = rw a (zero-add (lapsSteps tol origin (lapsOf s)));
+        going = rw f (write-start out₀ 15 _ _ (ap (lapsText tol 1 origin) a));
       }
 
-  module _ (out : List ℕ) (at to total j n : ℕ) (w : Listing tol s l out₀ out at to total j) (h : j < l) (e : n ≡ countAt s j) where
-    pub turn : Turn tol s l out at to total j n
+  module _ (out : List ℕ) (p q : Point3D) (at to total j n : ℕ) (w : Listing tol s l out₀ out p at to total j) (h : j < l) (e : n ≡ countAt s j) (z : q ≡ lapEnd p (commandsAt s at n)) where
+    pub turn : Turn tol s l out p at to total j n
     turn =
-        let m = mosts-step tol s j at l n h e in
+        let m = mosts-step tol p q s j at l n h e z in
         let f = w .few in
         let r = w .room in
-        let z = w .going .same in
+        let y = w .going .same in
         record { lap = step s j at l n e (w .here) h; few = omega arith; room = omega arith }
 
-    text-cons : lapsText tol (j + 1) (lapsAt s j at (l - j)) ≡ lapText tol (j + 1) (commandsAt s at n) ++ lapsText tol (j + 1 + 1) (lapsAt s (j + 1) (at + 73 * n) (l - (j + 1)))
+    text-cons : lapsText tol (j + 1) p (lapsAt s j at (l - j)) ≡ lapText tol (j + 1) p (commandsAt s at n) ++ lapsText tol (j + 1 + 1) q (lapsAt s (j + 1) (at + 73 * n) (l - (j + 1)))
     unfolding lapsText
-    text-cons = ap (lapsText tol (j + 1)) (laps-cons s j at l n h e)
+    text-cons = rw (laps-cons s j at l n h e, z)
 
-    steps-cons : lapsSteps tol (lapsAt s j at (l - j)) ≡ lapSteps tol (commandsAt s at n) + lapsSteps tol (lapsAt s (j + 1) (at + 73 * n) (l - (j + 1)))
+    steps-cons : lapsSteps tol p (lapsAt s j at (l - j)) ≡ lapSteps tol p (commandsAt s at n) + lapsSteps tol q (lapsAt s (j + 1) (at + 73 * n) (l - (j + 1)))
     unfolding lapsSteps
-    steps-cons = ap (lapsSteps tol) (laps-cons s j at l n h e)
+    steps-cons = rw (laps-cons s j at l n h e, z)
 
-    pub laps-step : (+0 ≺ tol) ≡ true → l ≤ 64 → (out′ : List ℕ) (to′ steps : ℕ) → TextPut (lapText tol (j + 1) (commandsAt s at n)) out out′ to to′
-        → steps ≡ lapSteps tol (commandsAt s at n) → Listing tol s l out₀ out′ (at + 73 * n) to′ (total + steps) (j + 1)
-    laps-step pos b out′ to′ steps p d =
-        let m = mosts-step tol s j at l n h e in
+    pub laps-step : (+0 ≺ tol) ≡ true → l ≤ 64 → (out′ : List ℕ) (to′ steps : ℕ) → TextPut (lapText tol (j + 1) p (commandsAt s at n)) out out′ to to′
+        → steps ≡ lapSteps tol p (commandsAt s at n) → Listing tol s l out₀ out′ q (at + 73 * n) to′ (total + steps) (j + 1)
+    laps-step pos b out′ to′ steps put d =
+        let m = mosts-step tol p q s j at l n h e z in
         let f = w .few in
         let r = w .room in
-        let q = p .ends in
+        let o = put .ends in
         let t = turn in
-        let x = text-few tol pos (commandsAt s at n) (j + 1) (omega arith) (t .few) in
+        let x = text-few tol pos p (commandsAt s at n) (j + 1) (omega arith) (t .few) in
         let a = w .adding in
         let c = steps-cons in
         record {
@@ -85,50 +87,50 @@ module _ (tol : Float) (s : List ℕ) (l : ℕ) (out₀ : List ℕ) where
           few = omega arith;
           room = omega arith;
           adding = omega arith;
-          going = write-step out₀ out out′ 15 to to′ _ _ _ _ text-cons p (w .going);
+          going = write-step out₀ out out′ 15 to to′ _ _ _ _ text-cons put (w .going);
         }
 
     -- what is added up stays small
-    pub turn-sum : lapsMost tol (lapsOf s) ≤ 800 → (steps : ℕ) → steps ≡ lapSteps tol (commandsAt s at n) → total + steps ≤ 800
+    pub turn-sum : lapsMost tol origin (lapsOf s) ≤ 800 → (steps : ℕ) → steps ≡ lapSteps tol p (commandsAt s at n) → total + steps ≤ 800
     turn-sum k steps d =
         let a = w .adding in
         let c = steps-cons in
-        let f = laps-few tol (lapsOf s) in omega arith
+        let f = laps-few tol origin (lapsOf s) in omega arith
 
   -- all laps are written, behind the first line, and all steps added up
   header-length : length header ≡ 15
   unfolding ascii listFrom
   header-length = refl
 
-  laps-written : (out : List ℕ) (at to total j : ℕ) → Listing tol s l out₀ out at to total j → l ≤ j → TextPut (lapsText tol 1 (lapsOf s)) out₀ out 15 to
+  laps-written : (out : List ℕ) (p : Point3D) (at to total j : ℕ) → Listing tol s l out₀ out p at to total j → l ≤ j → TextPut (lapsText tol 1 origin (lapsOf s)) out₀ out 15 to
   unfolding lapsText
-  laps-written out at to total j w h = write-done out₀ out 15 to _ _ (ap (lapsText tol (j + 1)) (laps-nil s j at l h)) (w .going)
+  laps-written out p at to total j w h = write-done out₀ out 15 to _ _ (ap (lapsText tol (j + 1) p) (laps-nil s j at l h)) (w .going)
 
-  pub laps-added : (out : List ℕ) (at to total j : ℕ) → Listing tol s l out₀ out at to total j → l ≤ j → total ≡ lapsSteps tol (lapsOf s)
+  pub laps-added : (out : List ℕ) (p : Point3D) (at to total j : ℕ) → Listing tol s l out₀ out p at to total j → l ≤ j → total ≡ lapsSteps tol origin (lapsOf s)
   unfolding lapsSteps
-  laps-added out at to total j w h = let z = ap (lapsSteps tol) (laps-nil s j at l h) in let a = w .adding in omega arith
+  laps-added out p at to total j w h = let z = ap (lapsSteps tol p) (laps-nil s j at l h) in let a = w .adding in omega arith
 
   -- there is room for the last line,
-  pub total-room : (out : List ℕ) (at to total j : ℕ) → Listing tol s l out₀ out at to total j → to + 10 ≤ length out
-  total-room out at to total j w = let r = w .room in let z = w .going .same in omega arith
+  pub total-room : (out : List ℕ) (p : Point3D) (at to total j : ℕ) → Listing tol s l out₀ out p at to total j → to + 10 ≤ length out
+  total-room out p at to total j w = let r = w .room in let z = w .going .same in omega arith
 
   -- which is written behind them
-  pub laps-done : (first : List ℕ) → 15 ≤ length first → out₀ ≡ header ++ drop 15 first → (out : List ℕ) (at to total j : ℕ) → Listing tol s l out₀ out at to total j → l ≤ j
-      → lapsMost tol (lapsOf s) ≤ 800 → (out′ : List ℕ) (end : ℕ) → TextPut (totalText total) out out′ to end
+  pub laps-done : (first : List ℕ) → 15 ≤ length first → out₀ ≡ header ++ drop 15 first → (out : List ℕ) (p : Point3D) (at to total j : ℕ) → Listing tol s l out₀ out p at to total j → l ≤ j
+      → lapsMost tol origin (lapsOf s) ≤ 800 → (out′ : List ℕ) (end : ℕ) → TextPut (totalText total) out out′ to end
       → (end ≡ length (listText tol (lapsOf s))) × (out′ ≡ listText tol (lapsOf s) ++ drop (length (listText tol (lapsOf s))) first)
   unfolding listText
-  laps-done first k o out at to total j w h m out′ end t =
+  laps-done first k o out p at to total j w h m out′ end t =
       let d = header-length in
       let front : out₀ ≡ sets first 0 header = o ∙ sym (sets-front header first (omega arith) ∙ ap (λ (n : ℕ). header ++ drop n first) d) in
-      let rows = put-both header (lapsText tol 1 (lapsOf s)) first out₀ out 0 15 to (record { ends = omega arith; bytes = front }) (laps-written out at to total j w h) in
-      let sum = laps-added out at to total j w h in
-      let last = put-same (totalText total) (totalText (lapsSteps tol (lapsOf s))) out out′ to end (ap totalText sum) t in
-      let p = put-both (header ++ lapsText tol 1 (lapsOf s)) (totalText (lapsSteps tol (lapsOf s))) first out out′ 0 to end rows last in
+      let rows = put-both header (lapsText tol 1 origin (lapsOf s)) first out₀ out 0 15 to (record { ends = omega arith; bytes = front }) (laps-written out p at to total j w h) in
+      let sum = laps-added out p at to total j w h in
+      let last = put-same (totalText total) (totalText (lapsSteps tol origin (lapsOf s))) out out′ to end (ap totalText sum) t in
+      let both = put-both (header ++ lapsText tol 1 origin (lapsOf s)) (totalText (lapsSteps tol origin (lapsOf s))) first out out′ 0 to end rows last in
       let z = ap length front ∙ length-sets first 0 header in
-      let r = total-room out at to total j w in
+      let r = total-room out p at to total j w in
       let y = w .going .same in
-      let q = p .ends in
+      let q = both .ends in
       let a = last .ends in
-      let f = laps-few tol (lapsOf s) in
-      let b = total-length (lapsSteps tol (lapsOf s)) (omega arith) in
-      (omega arith, p .bytes ∙ sets-front (header ++ lapsText tol 1 (lapsOf s) ++ totalText (lapsSteps tol (lapsOf s))) first (omega arith))
+      let f = laps-few tol origin (lapsOf s) in
+      let b = total-length (lapsSteps tol origin (lapsOf s)) (omega arith) in
+      (omega arith, both .bytes ∙ sets-front (header ++ lapsText tol 1 origin (lapsOf s) ++ totalText (lapsSteps tol origin (lapsOf s))) first (omega arith))

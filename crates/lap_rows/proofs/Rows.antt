@@ -13,6 +13,7 @@ use Rattle.geo.proofs.Rows.{row-fails, row-passes, row-passed, refusal-front, d
 use Rattle.laps.specs.File.{lapsOf}
 use Rattle.laps.specs.Rows.{fileRows}
 use Rattle.laps.proofs.Rows.{FilePassed, file-passed, behind-file}
+use Rattle.geo.specs.Lent.{origin}
 use Rattle.lap_fit.specs.Fit.{lapsMost}
 use Rattle.lap_rows.specs.Listing.{mostText, textRows}
 
@@ -43,8 +44,8 @@ text-number s tol room = refusal-few 9 (textRows s tol room) (omega arith, (omeg
 pub record TextPassed (s : List ℕ) (tol : Float) (room : ℕ) : Type 0 where
   pub file : FilePassed s
   pub within : tolerance tol ≡ true
-  pub few : lapsMost tol (lapsOf s) ≤ 800
-  pub space : mostText (lapsMost tol (lapsOf s)) ≤ room
+  pub few : lapsMost tol origin (lapsOf s) ≤ 800
+  pub space : mostText (lapsMost tol origin (lapsOf s)) ≤ room
 
 module _ (s : List ℕ) (tol : Float) (room : ℕ) where
   pub text-passed : 0 ≡ refusal (textRows s tol room) → TextPassed s tol room
@@ -52,9 +53,9 @@ module _ (s : List ℕ) (tol : Float) (room : ℕ) where
   text-passed e =
       let p = file-passed s 0 (front-passed (fileRows s) _ e) refl in
       let b = row-passed 5 (not (tolerance tol)) _ (e ∙ behind-file s _ p) in
-      let c = row-passed 7 (ltb 800 (lapsMost tol (lapsOf s))) _ (b .1) in
-      let d = row-passed 8 (ltb room (mostText (lapsMost tol (lapsOf s)))) _ (c .1) in
-      record { file = p; within = not-false _ (b .0); few = ltb-false 800 (lapsMost tol (lapsOf s)) (c .0); space = ltb-false room (mostText (lapsMost tol (lapsOf s))) (d .0) }
+      let c = row-passed 7 (ltb 800 (lapsMost tol origin (lapsOf s))) _ (b .1) in
+      let d = row-passed 8 (ltb room (mostText (lapsMost tol origin (lapsOf s)))) _ (c .1) in
+      record { file = p; within = not-false _ (b .0); few = ltb-false 800 (lapsMost tol origin (lapsOf s)) (c .0); space = ltb-false room (mostText (lapsMost tol origin (lapsOf s))) (d .0) }
 
   module _ (p : FilePassed s) where
     pub text-6 : not (tolerance tol) ≡ true → refusal (textRows s tol room) ≡ 6
@@ -62,17 +63,17 @@ module _ (s : List ℕ) (tol : Float) (room : ℕ) where
     text-6 h = behind-file s _ p ∙ row-fails 6 _ _ h
 
     module _ (t : not (tolerance tol) ≡ false) where
-      pub text-8 : 800 < lapsMost tol (lapsOf s) → refusal (textRows s tol room) ≡ 8
+      pub text-8 : 800 < lapsMost tol origin (lapsOf s) → refusal (textRows s tol room) ≡ 8
       unfolding textRows
-      text-8 h = behind-file s _ p ∙ row-passes 6 _ _ t ∙ row-fails 8 _ _ (lt-ltb 800 (lapsMost tol (lapsOf s)) h)
+      text-8 h = behind-file s _ p ∙ row-passes 6 _ _ t ∙ row-fails 8 _ _ (lt-ltb 800 (lapsMost tol origin (lapsOf s)) h)
 
-      pub text-9 : lapsMost tol (lapsOf s) ≤ 800 → room < mostText (lapsMost tol (lapsOf s)) → refusal (textRows s tol room) ≡ 9
+      pub text-9 : lapsMost tol origin (lapsOf s) ≤ 800 → room < mostText (lapsMost tol origin (lapsOf s)) → refusal (textRows s tol room) ≡ 9
       unfolding textRows
       text-9 h k =
-          behind-file s _ p ∙ row-passes 6 _ _ t ∙ row-passes 8 _ _ (le-ltb 800 (lapsMost tol (lapsOf s)) h) ∙ row-fails 9 _ _ (lt-ltb room (mostText (lapsMost tol (lapsOf s))) k)
+          behind-file s _ p ∙ row-passes 6 _ _ t ∙ row-passes 8 _ _ (le-ltb 800 (lapsMost tol origin (lapsOf s)) h) ∙ row-fails 9 _ _ (lt-ltb room (mostText (lapsMost tol origin (lapsOf s))) k)
 
-      pub text-0 : lapsMost tol (lapsOf s) ≤ 800 → mostText (lapsMost tol (lapsOf s)) ≤ room → refusal (textRows s tol room) ≡ 0
+      pub text-0 : lapsMost tol origin (lapsOf s) ≤ 800 → mostText (lapsMost tol origin (lapsOf s)) ≤ room → refusal (textRows s tol room) ≡ 0
       unfolding textRows
       text-0 h k =
-          behind-file s _ p ∙ row-passes 6 _ _ t ∙ row-passes 8 _ _ (le-ltb 800 (lapsMost tol (lapsOf s)) h)
-          ∙ row-passes 9 _ _ (le-ltb room (mostText (lapsMost tol (lapsOf s))) k) ∙ done
+          behind-file s _ p ∙ row-passes 6 _ _ t ∙ row-passes 8 _ _ (le-ltb 800 (lapsMost tol origin (lapsOf s)) h)
+          ∙ row-passes 9 _ _ (le-ltb room (mostText (lapsMost tol origin (lapsOf s))) k) ∙ done

@@ -30,20 +30,20 @@ use Rattle.file.specs.Bytes.{halfAt, wordAt, u32Bytes, f64Bytes, numberAt}
 use Rattle.file.specs.Command.{pointFrom, decoded, wellFormed, commandsAt, enc}
 use Rattle.course.specs.Parts as parts
 use Rattle.course.specs.Parts.{closed, carried, partsFrom, partMost}
-use Rattle.course.specs.Course.{joined, partsOn, mostOn}
+use Rattle.course.specs.Course.{joined, partsOn, mostOn, endOn}
 use Rattle.listing.specs.Rows.{shapeKind, letterOf, pieceRow, chainRows, partRows, rowsOf, rowsOn, chainSteps, chainsSteps}
-use Rattle.laps.specs.File.{lapCount, offsetAt, countAt, lapsAt, lapsOf, body, bodies, table, encode, short, big, hasMark, walk, tableOk, placed, formOk, domainOk, lapOk, lapsOk}
+use Rattle.laps.specs.File.{lapCount, offsetAt, countAt, lapsAt, lapsOf, body, bodies, table, encode, short, big, hasMark, walk, tableOk, placed, formOk, domainOk, lacks, lapOk, lapTested, lapsOk}
 use Rattle.laps.specs.Rows.{fileRows}
-use Rattle.lap_fit.specs.Fit.{mostLap, lapsMost}
+use Rattle.lap_fit.specs.Fit.{lapEnd, mostLap, lapsMost}
 use Rattle.lap_rows.specs.Listing.{ascii, digitsBy, decimal, rowText, rowsText, lapRows, lapText, lapsText, lapSteps, lapsSteps, totalText, listText, textRows, listFile}
 use Rattle.lap_rows.specs.Worked.{RightAngle, NoLaps}
 
 -- The right angle, as one lap of a Move and two Lines, lists as document 01 prints it, and its two steps are the sum.
 pub right-angle : RightAngle
-unfolding span climb size odd units round neg sum add sub mul div lt eq le isNan ofInt ofFields ofBits absOf maxOf clampOf better rootIn wholeRoot rootFrom inUnits rootOf plain coordinate centre within pointIn point3In everyFrom pointAt flat endOf kindOf numbersOf refusal unless lengthOf distanceSq distance fold listFrom turnAt crossSum clockwise farther farthestOf farthestIn toLine lineSq keptBy thinned thinnedPoints movedBy projected nearTo besideOf allNear allBeside collinearBy collinear plus sumsOf axesOf cross3 dot3 scaled detOf inverseTimes solved matrixOf sidesOf centered kasaCenter areaOf turnOf center3 radiusFrom centerBy centerThree circleRound throughThree worse worst spokeOf cosine sagittaOf endsOf stepOf stepBetween arcDeviation offsetOf cross2 dot2 atCentre halfOf turned turnsOf justBehind justAhead passesBy awayFrom traverses sharpTurn sharpAt closedRange measuredBy goingRound ofMeasured trialRound trialOf ofCircle ofCenter trialThree trialLeast orElse tryArcs normalOf shaped pieceCommand fitIn rooted lineDeviation arcOrCut chooseBy choice follow piecesBy line.chordOf collin.endsChord ceilOf toUnsigned vector.distance3 isFinite isPlusZero zero3 finite3 formed commandIn commandOf toBits halfAt wordAt u32Bytes f64Bytes numberAt pointFrom decoded wellFormed commandsAt enc parts.mostOf closed carried partsFrom partMost joined partsOn mostOn shapeKind pieceRow chainRows partRows rowsOf rowsOn lapCount offsetAt countAt lapsAt lapsOf body bodies table encode short big hasMark walk tableOk placed formOk domainOk lapOk lapsOk mostLap lapsMost fileRows ascii digitsBy decimal rowText rowsText lapRows lapText lapsText chainSteps chainsSteps lapSteps lapsSteps totalText listText textRows listFile letterOf parameterOf offFoot segmentOn segmentSq
+unfolding span climb size odd units round neg sum add sub mul div lt eq le isNan ofInt ofFields ofBits absOf maxOf clampOf better rootIn wholeRoot rootFrom inUnits rootOf plain coordinate centre within pointIn point3In everyFrom pointAt flat endOf kindOf numbersOf refusal unless lengthOf distanceSq distance fold listFrom turnAt crossSum clockwise farther farthestOf farthestIn toLine lineSq keptBy thinned thinnedPoints movedBy projected nearTo besideOf allNear allBeside collinearBy collinear plus sumsOf axesOf cross3 dot3 scaled detOf inverseTimes solved matrixOf sidesOf centered kasaCenter areaOf turnOf center3 radiusFrom centerBy centerThree circleRound throughThree worse worst spokeOf cosine sagittaOf endsOf stepOf stepBetween arcDeviation offsetOf cross2 dot2 atCentre halfOf turned turnsOf justBehind justAhead passesBy awayFrom traverses sharpTurn sharpAt closedRange measuredBy goingRound ofMeasured trialRound trialOf ofCircle ofCenter trialThree trialLeast orElse tryArcs normalOf shaped pieceCommand fitIn rooted lineDeviation arcOrCut chooseBy choice follow piecesBy line.chordOf collin.endsChord ceilOf toUnsigned vector.distance3 isFinite isPlusZero zero3 finite3 formed commandIn commandOf toBits halfAt wordAt u32Bytes f64Bytes numberAt pointFrom decoded wellFormed commandsAt enc parts.mostOf closed carried partsFrom partMost joined partsOn mostOn shapeKind pieceRow chainRows partRows rowsOf rowsOn lapCount offsetAt countAt lapsAt lapsOf body bodies table encode short big hasMark walk tableOk placed formOk domainOk lacks lapOk lapTested lapsOk lapEnd endOn mostLap lapsMost fileRows ascii digitsBy decimal rowText rowsText lapRows lapText lapsText chainSteps chainsSteps lapSteps lapsSteps totalText listText textRows listFile letterOf parameterOf offFoot segmentOn segmentSq
 right-angle = refl
 
 -- A file of no laps lists as its first line and the sum 0.
 pub no-laps : NoLaps
-unfolding climb size odd units round lt le isNan ofInt ofFields ofBits sum div refusal unless listFrom halfAt wordAt u32Bytes flat lapCount offsetAt countAt lapsAt lapsOf body bodies table encode short big hasMark walk tableOk formOk domainOk lapOk lapsOk lapsMost fileRows ascii digitsBy decimal lapsText lapsSteps totalText listText textRows listFile within
+unfolding climb size odd units round lt le isNan ofInt ofFields ofBits sum div refusal unless listFrom halfAt wordAt u32Bytes flat lapCount offsetAt countAt lapsAt lapsOf body bodies table encode short big hasMark walk tableOk formOk domainOk lapOk lapTested lapsOk lapsMost fileRows ascii digitsBy decimal lapsText lapsSteps totalText listText textRows listFile within
 no-laps = refl

@@ -1,20 +1,21 @@
 -- What the listing of a file says of its fit. Definitions only; `proofs/Demand.antt` has the proofs.
 use Prim.Native.Nat.{ℕ, _+_, _-_, _*_, _≤_}
 use mathlib.Core.Path.{_≡_}
-use mathlib.Core.List.{List, [], _∷_, map}
+use mathlib.Core.List.{List, [], _∷_, _++_, map}
 use lib.ListN.{getD}
 use lib.Ieee.{Float}
 use Rattle.geo.specs.Outcome.{refusal, gives}
-use Rattle.geo.specs.Lent.{flat}
+use Rattle.geo.specs.declared.types.Point3D.{Point3D}
+use Rattle.geo.specs.Lent.{flat, origin}
 use Rattle.file.specs.Command.{decoded}
 use Rattle.fitting.specs.Pieces.{lapsRule}
 use Rattle.course.specs.Parts.{chain}
-use Rattle.course.specs.Course.{courseParts}
+use Rattle.course.specs.Course.{partsOn}
 use Rattle.course.specs.Demand.{chainPieces}
 use Rattle.listing.specs.Rows.{ListRow, pieceRow, partRows, kindsOf, stepsIn, sumOf, chainsSteps}
 use Rattle.laps.specs.File.{Lap, lapCount, lapsOf}
 use Rattle.laps.specs.Rows.{fileSize}
-use Rattle.lap_fit.specs.Fit.{fileFitRows, fitFile}
+use Rattle.lap_fit.specs.Fit.{lapEnd, startOf, fileFitRows, fitFile}
 use Rattle.lap_replace.specs.Demand.{lapAt}
 use Rattle.lap_rows.specs.Listing.{decimal, lapRows, lapsSteps, listText, mostText, textRows, listFile}
 
@@ -52,11 +53,11 @@ kindByte c = getD c 0 0
 abbrev pub KindsOfTheFit : Type 0
 KindsOfTheFit =
     (s f : List ℕ) (tol : Float) (room : ℕ) → fitFile s tol room ≡ gives f
-    → (k : ℕ) → 1 ≤ k → k ≤ lapCount s → kindsOf (lapRows tol (lapAt s k)) ≡ map kindByte (lapAt f k)
+    → (k : ℕ) → 1 ≤ k → k ≤ lapCount s → kindsOf (lapRows tol (startOf k (lapsOf s)) (lapAt s k)) ≡ map kindByte (lapAt f k)
 
 -- They are those of the lap's parts in order: of a chain one row for each piece of its fit, with the piece's steps; of a command that is kept one row with no step.
 abbrev pub RowsOfTheParts : Type 0
-RowsOfTheParts = (s : List ℕ) (tol : Float) (k : ℕ) → lapRows tol (lapAt s k) ≡ flat (partRows (lapsRule tol)) (courseParts tol (map decoded (lapAt s k)))
+RowsOfTheParts = (s : List ℕ) (tol : Float) (k : ℕ) → lapRows tol (startOf k (lapsOf s)) (lapAt s k) ≡ flat (partRows (lapsRule tol)) (partsOn tol (startOf k (lapsOf s)) (map decoded (lapAt s k)))
 
 abbrev pub RowsOfAChain : Type 0
 RowsOfAChain = (tol : Float) (points : List Float) → partRows (lapsRule tol) (chain points) ≡ map pieceRow (chainPieces (lapsRule tol) points)
@@ -65,15 +66,16 @@ RowsOfAChain = (tol : Float) (points : List Float) → partRows (lapsRule tol) (
 abbrev pub StepsOfTheChains : Type 0
 StepsOfTheChains =
     (s f : List ℕ) (tol : Float) (room : ℕ) → fitFile s tol room ≡ gives f
-    → (k : ℕ) → 1 ≤ k → k ≤ lapCount s → sumOf (stepsIn (lapRows tol (lapAt s k))) ≡ chainsSteps (lapsRule tol) (courseParts tol (map decoded (lapAt s k)))
+    → (k : ℕ) → 1 ≤ k → k ≤ lapCount s → sumOf (stepsIn (lapRows tol (startOf k (lapsOf s)) (lapAt s k))) ≡ chainsSteps (lapsRule tol) (partsOn tol (startOf k (lapsOf s)) (map decoded (lapAt s k)))
 
 -- ---- the sum under the listing (document 02, §8)
--- the rows of laps, those of one behind those of another
-unfoldable pub allRows : Float → List Lap → List ListRow
-allRows tol ls = flat (lapRows tol) ls
+-- the rows of laps, the first of which starts at p, those of one behind those of another
+unfoldable pub allRows : Float → Point3D → List Lap → List ListRow
+allRows tol p [] = []
+allRows tol p (l ∷ ls) = lapRows tol p l ++ allRows tol (lapEnd p l) ls
 
 -- The sum, which is worked out over the thinned chains, is that of the steps in all rows, and is at most 800.
 abbrev pub SumOfTheRows : Type 0
 SumOfTheRows =
     (s text : List ℕ) (tol : Float) (room : ℕ) → listFile s tol room ≡ gives text
-    → (lapsSteps tol (lapsOf s) ≡ sumOf (stepsIn (allRows tol (lapsOf s)))) × (lapsSteps tol (lapsOf s) ≤ 800)
+    → (lapsSteps tol origin (lapsOf s) ≡ sumOf (stepsIn (allRows tol origin (lapsOf s)))) × (lapsSteps tol origin (lapsOf s) ≤ 800)

@@ -8,17 +8,18 @@ use mathlib.Core.List.{List, [], _∷_, _++_, map}
 use lib.Dec.{ltb}
 use lib.Ieee.{Float}
 use Rattle.floats.specs.Ops.{if_then_else_}
+use Rattle.geo.specs.declared.types.Point3D.{Point3D}
 use Rattle.geo.specs.Domain.{tolerance}
 use Rattle.geo.specs.Lent.{flat, origin}
 use Rattle.geo.specs.Outcome.{Row, row, refusal, Outcome, unless}
 use Rattle.geo.specs.Walk.{listFrom}
 use Rattle.file.specs.Command.{decoded}
 use Rattle.fitting.specs.Pieces.{lapsRule}
-use Rattle.course.specs.Course.{courseParts}
+use Rattle.course.specs.Course.{partsOn}
 use Rattle.listing.specs.Rows.{ListRow, letterOf, rowsOn, chainsSteps}
 use Rattle.laps.specs.File.{Lap, lapsOf}
 use Rattle.laps.specs.Rows.{fileRows}
-use Rattle.lap_fit.specs.Fit.{lapsMost}
+use Rattle.lap_fit.specs.Fit.{lapEnd, lapsMost}
 
 -- ---- text
 -- the bytes of a text of ASCII characters
@@ -47,29 +48,29 @@ rowText lap r = decimal lap ++ (comma ∷ letterOf (r .kind) ∷ comma ∷ []) +
 unfoldable pub rowsText : ℕ → List ListRow → List ℕ
 rowsText lap rs = flat (rowText lap) rs
 
--- whose rows are those of its commands
-unfoldable pub lapRows : Float → Lap → List ListRow
-lapRows tol l = rowsOn (lapsRule tol) origin (map decoded l)
+-- whose rows are those of its commands from its start p
+unfoldable pub lapRows : Float → Point3D → Lap → List ListRow
+lapRows tol p l = rowsOn (lapsRule tol) p (map decoded l)
 
-unfoldable pub lapText : Float → ℕ → Lap → List ℕ
-lapText tol lap l = rowsText lap (lapRows tol l)
+unfoldable pub lapText : Float → ℕ → Point3D → Lap → List ℕ
+lapText tol lap p l = rowsText lap (lapRows tol p l)
 
--- the laps from number j on
-unfoldable pub lapsText : Float → ℕ → List Lap → List ℕ
-lapsText tol j [] = []
-lapsText tol j (l ∷ ls) = lapText tol j l ++ lapsText tol (j + 1) ls
+-- the laps from number j on, which starts at p; each other one starts where the lap before it ends (document 02, §13)
+unfoldable pub lapsText : Float → ℕ → Point3D → List Lap → List ℕ
+lapsText tol j p [] = []
+lapsText tol j p (l ∷ ls) = lapText tol j p l ++ lapsText tol (j + 1) (lapEnd p l) ls
 
 abbrev pub header : List ℕ
 header = ascii "lap,kind,steps\n"
 
 -- ---- the sum under the listing (document 02, §8)
 -- "the number of kept points less one, added over all chains of two or more points": of a lap, and of several
-unfoldable pub lapSteps : Float → Lap → ℕ
-lapSteps tol l = chainsSteps (lapsRule tol) (courseParts tol (map decoded l))
+unfoldable pub lapSteps : Float → Point3D → Lap → ℕ
+lapSteps tol p l = chainsSteps (lapsRule tol) (partsOn tol p (map decoded l))
 
-unfoldable pub lapsSteps : Float → List Lap → ℕ
-lapsSteps tol [] = 0
-lapsSteps tol (l ∷ ls) = lapSteps tol l + lapsSteps tol ls
+unfoldable pub lapsSteps : Float → Point3D → List Lap → ℕ
+lapsSteps tol p [] = 0
+lapsSteps tol p (l ∷ ls) = lapSteps tol p l + lapsSteps tol (lapEnd p l) ls
 
 -- "a line `total,N`"
 unfoldable pub totalText : ℕ → List ℕ
@@ -77,7 +78,7 @@ totalText n = ascii "total," ++ decimal n ++ (newline ∷ [])
 
 -- ---- the whole
 unfoldable pub listText : Float → List Lap → List ℕ
-listText tol ls = header ++ lapsText tol 1 ls ++ totalText (lapsSteps tol ls)
+listText tol ls = header ++ lapsText tol 1 origin ls ++ totalText (lapsSteps tol origin ls)
 
 -- "A refusal prints the one line `refused,N`"
 unfoldable pub refusalText : ℕ → List ℕ
@@ -90,7 +91,7 @@ mostText most = 15 + 9 * most + 10
 
 unfoldable pub textRows : List ℕ → Float → ℕ → List Row
 textRows s tol room =
-    fileRows s ++ (row 6 (not (tolerance tol)) ∷ row 8 (ltb 800 (lapsMost tol (lapsOf s))) ∷ row 9 (ltb room (mostText (lapsMost tol (lapsOf s)))) ∷ [])
+    fileRows s ++ (row 6 (not (tolerance tol)) ∷ row 8 (ltb 800 (lapsMost tol origin (lapsOf s))) ∷ row 9 (ltb room (mostText (lapsMost tol origin (lapsOf s)))) ∷ [])
 
 unfoldable pub listFile : List ℕ → Float → ℕ → Outcome (List ℕ)
 listFile s tol room = unless (refusal (textRows s tol room)) (listText tol (lapsOf s))

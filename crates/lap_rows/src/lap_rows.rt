@@ -7,6 +7,7 @@ use fitting::fitting::Rule;
 use geo::domain::is_tolerance;
 use geo::types::Answer;
 use geo::types::Point3D;
+use lap_fit::fit::lap_end;
 use lap_fit::fit::most_of;
 use laps::lap_file::check_file;
 use laps::lap_file::count_at;
@@ -18,6 +19,7 @@ ghost use mathlib.Core.List.{List, _++_};
 ghost use Prim.Native.Nat.{ℕ, _+_, _*_, _<_, _≤_};
 ghost use lib.ListN.{length, drop};
 ghost use Rattle.floats.specs.Ops.{_≺_, +0};
+ghost use Rattle.geo.specs.Lent.{origin};
 ghost use Rattle.geo.specs.Outcome.{refusal, Wrote};
 ghost use Rattle.file.specs.Command.{commandsAt};
 ghost use Rattle.course.specs.Walks.{mostCommands, chainNumbers};
@@ -98,12 +100,13 @@ fn put_rows(kinds: &[u8], steps: &[u32], n: usize, lap: usize, out: &mut [u8], a
     }
 }
 
-// Lists the n commands from `at` on, and answers how many rows they have: they are fitted, and beside each command stands
+// Lists the n commands from `at` on, a lap with its start, and answers how many rows they have: they are fitted, and beside each command stands
 // how many steps it covers.
 fn list_commands(
     s: &[u8],
     at: usize,
     n: usize,
+    start: Point3D,
     tolerance: f64,
     kinds: &mut [u8],
     nums: &mut [f64],
@@ -112,9 +115,9 @@ fn list_commands(
     out_nums: &mut [f64],
     out_steps: &mut [u32],
 ) -> usize
-    requires { ⌜ ((+0 ≺ tolerance) ≡ true) × (at + 73 * n ≤ length (now s)) × (n ≤ length (now kinds)) × (9 * n ≤ length (now nums)) × (mostLap tolerance (commandsAt (now s) at n) ≤ mostCommands) × (mostLap tolerance (commandsAt (now s) at n) ≤ length (now «out_kinds»)) × (9 * mostLap tolerance (commandsAt (now s) at n) ≤ length (now «out_nums»)) × (length (now chain) ≡ chainNumbers) ⌝ }
+    requires { ⌜ ((+0 ≺ tolerance) ≡ true) × (at + 73 * n ≤ length (now s)) × (n ≤ length (now kinds)) × (9 * n ≤ length (now nums)) × (mostLap tolerance start (commandsAt (now s) at n) ≤ mostCommands) × (mostLap tolerance start (commandsAt (now s) at n) ≤ length (now «out_kinds»)) × (9 * mostLap tolerance start (commandsAt (now s) at n) ≤ length (now «out_nums»)) × (length (now chain) ≡ chainNumbers) ⌝ }
     // The commands' arrays, the chain and the numbers of the fit are lent as room to work in: what they hold at exit is left open.
-    ensures { λ r. ⌜ RowsPlaced (lapRows tolerance (commandsAt (now (s .entry)) at n)) r (now («out_kinds» .entry)) (now («out_kinds» .exit)) (now («out_steps» .entry)) (now («out_steps» .exit)) ⌝ }
+    ensures { λ r. ⌜ RowsPlaced (lapRows tolerance start (commandsAt (now (s .entry)) at n)) r (now («out_kinds» .entry)) (now («out_kinds» .exit)) (now («out_steps» .entry)) (now («out_steps» .exit)) ⌝ }
 {
     read_commands(s, at, n, kinds, nums);
     let m = 9 * n;
@@ -122,7 +125,7 @@ fn list_commands(
     fit_course_with_steps(
         &kinds[..n],
         &nums[..m],
-        Point3D::ZERO,
+        start,
         rule,
         chain,
         out_kinds,
@@ -131,11 +134,12 @@ fn list_commands(
     )
 }
 
-// Writes the text of one lap, the n commands from `at` on, from `to` on.
+// Writes the text of one lap, the n commands from `at` on with their start, from `to` on.
 fn put_lap(
     s: &[u8],
     at: usize,
     n: usize,
+    start: Point3D,
     tolerance: f64,
     lap: usize,
     kinds: &mut [u8],
@@ -147,16 +151,17 @@ fn put_lap(
     out: &mut [u8],
     to: usize,
 ) -> Added
-    requires { ⌜ ((+0 ≺ tolerance) ≡ true) × (at + 73 * n ≤ length (now s)) × (n ≤ mostCommands) × (lap < 100) × (mostLap tolerance (commandsAt (now s) at n) ≤ mostCommands) × (to + 9 * mostLap tolerance (commandsAt (now s) at n) ≤ length (now out)) ⌝ }
+    requires { ⌜ ((+0 ≺ tolerance) ≡ true) × (at + 73 * n ≤ length (now s)) × (n ≤ mostCommands) × (lap < 100) × (mostLap tolerance start (commandsAt (now s) at n) ≤ mostCommands) × (to + 9 * mostLap tolerance start (commandsAt (now s) at n) ≤ length (now out)) ⌝ }
     requires { ⌜ (mostCommands ≤ length (now kinds)) × (9 * mostCommands ≤ length (now nums)) × (mostCommands ≤ length (now «row_kinds»)) × (9 * mostCommands ≤ length (now «row_nums»)) × (mostCommands ≤ length (now «row_steps»)) × (length (now chain) ≡ chainNumbers) ⌝ }
     // All arrays but the output are lent as room to work in: what they hold at exit is left open.
-    ensures text { λ r. ⌜ TextPut (lapText tolerance lap (commandsAt (now (s .entry)) at n)) (now (out .entry)) (now (out .exit)) to (r .end) ⌝ }
-    ensures sum { λ r. ⌜ r .steps ≡ lapSteps tolerance (commandsAt (now (s .entry)) at n) ⌝ }
+    ensures text { λ r. ⌜ TextPut (lapText tolerance lap start (commandsAt (now (s .entry)) at n)) (now (out .entry)) (now (out .exit)) to (r .end) ⌝ }
+    ensures sum { λ r. ⌜ r .steps ≡ lapSteps tolerance start (commandsAt (now (s .entry)) at n) ⌝ }
 {
     let rows = list_commands(
         s,
         at,
         n,
+        start,
         tolerance,
         kinds,
         nums,
@@ -182,7 +187,7 @@ fn put_total(out: &mut [u8], at: usize, total: usize) -> usize
 // Writes the listing's text, which is its first line, the rows of each lap and the sum of their steps, and answers how many
 // bytes it has. The arrays stand here and not in `put_lap`, which would fill them for each lap.
 fn list_laps(s: &[u8], tolerance: f64, out: &mut [u8]) -> usize
-    requires { ⌜ ((+0 ≺ tolerance) ≡ true) × (8 ≤ length (now s)) × (tableOk (now s) ≡ true) × (lapCount (now s) ≤ 64) × (lapsMost tolerance (lapsOf (now s)) ≤ mostCommands) × (mostText (lapsMost tolerance (lapsOf (now s))) ≤ length (now out)) ⌝ }
+    requires { ⌜ ((+0 ≺ tolerance) ≡ true) × (8 ≤ length (now s)) × (tableOk (now s) ≡ true) × (lapCount (now s) ≤ 64) × (lapsMost tolerance origin (lapsOf (now s)) ≤ mostCommands) × (mostText (lapsMost tolerance origin (lapsOf (now s))) ≤ length (now out)) ⌝ }
     ensures { λ r. ⌜ (r ≡ length (listText tolerance (lapsOf (now (s .entry))))) × (now (out .exit) ≡ listText tolerance (lapsOf (now (s .entry))) ++ drop (length (listText tolerance (lapsOf (now (s .entry))))) (now (out .entry))) ⌝ }
 {
     let mut kinds = [0u8; Walk::MOST];
@@ -195,6 +200,7 @@ fn list_laps(s: &[u8], tolerance: f64, out: &mut [u8]) -> usize
     let mut total = 0;
     let l = lap_count(s);
     let mut at = 8 + 8 * l;
+    let mut start = Point3D::ZERO;
     let mut j = 0;
     while j < l {
         let n = count_at(s, j);
@@ -202,6 +208,7 @@ fn list_laps(s: &[u8], tolerance: f64, out: &mut [u8]) -> usize
             s,
             at,
             n,
+            start,
             tolerance,
             j + 1,
             &mut kinds,
@@ -215,6 +222,7 @@ fn list_laps(s: &[u8], tolerance: f64, out: &mut [u8]) -> usize
         );
         to = lap.end;
         total += lap.steps;
+        start = lap_end(s, at, n, start);
         at += COMMAND_BYTES * n;
         j += 1;
     }

@@ -21,6 +21,9 @@ use Rattle.listing.proofs.Laws.{sum-append}
 use Rattle.laps.specs.File.{Lap, lapsOf}
 use Rattle.lap_rows.specs.Listing.{ascii, digitsBy, decimal, comma, newline, rowText, rowsText, lapRows, lapText, lapsText, lapsSteps, header, totalText, listText, refusalText, mostText, listFile}
 use Rattle.lap_rows.specs.Demand.{spelled, allRows}
+use Rattle.geo.specs.declared.types.Point3D.{Point3D}
+use Rattle.geo.specs.Lent.{origin}
+use Rattle.lap_fit.specs.Fit.{lapEnd}
 use Rattle.lap_rows.proofs.Decimal.{last-digit, next-digit}
 use Rattle.lap_rows.proofs.Demand.{digits-spell, listed-passes, sum-of-the-rows}
 use Rattle.lapfit.specs.Input.{listInput, printed, lapfitText}
@@ -131,33 +134,33 @@ three-append : (xs ys : List (List ℕ)) → ThreeColumns xs → ThreeColumns ys
 three-append [] ys a b = b
 three-append (x ∷ xs) ys a b = (a .0, three-append xs ys (a .1) b)
 
-unfoldable lapsLines : Float → ℕ → List Lap → List (List ℕ)
-lapsLines tol j [] = []
-lapsLines tol j (l ∷ ls) = map (rowLine j) (lapRows tol l) ++ lapsLines tol (j + 1) ls
+unfoldable lapsLines : Float → ℕ → Point3D → List Lap → List (List ℕ)
+lapsLines tol j p [] = []
+lapsLines tol j p (l ∷ ls) = map (rowLine j) (lapRows tol p l) ++ lapsLines tol (j + 1) (lapEnd p l) ls
 
-laps-read : (tol : Float) (j : ℕ) (ls : List Lap) (rest : List ℕ) → linesIn (lapsText tol j ls ++ rest) ≡ lapsLines tol j ls ++ linesIn rest
+laps-read : (tol : Float) (j : ℕ) (p : Point3D) (ls : List Lap) (rest : List ℕ) → linesIn (lapsText tol j p ls ++ rest) ≡ lapsLines tol j p ls ++ linesIn rest
 unfolding lapsText lapText lapsLines
-laps-read tol j [] rest = refl
-laps-read tol j (l ∷ ls) rest =
-    ap linesIn (append-assoc (rowsText j (lapRows tol l)) (lapsText tol (j + 1) ls) rest) ∙ rows-read j (lapRows tol l) (lapsText tol (j + 1) ls ++ rest)
-    ∙ ap (λ (ts : List (List ℕ)). map (rowLine j) (lapRows tol l) ++ ts) (laps-read tol (j + 1) ls rest)
-    ∙ sym (append-assoc (map (rowLine j) (lapRows tol l)) (lapsLines tol (j + 1) ls) (linesIn rest))
+laps-read tol j p [] rest = refl
+laps-read tol j p (l ∷ ls) rest =
+    ap linesIn (append-assoc (rowsText j (lapRows tol p l)) (lapsText tol (j + 1) (lapEnd p l) ls) rest) ∙ rows-read j (lapRows tol p l) (lapsText tol (j + 1) (lapEnd p l) ls ++ rest)
+    ∙ ap (λ (ts : List (List ℕ)). map (rowLine j) (lapRows tol p l) ++ ts) (laps-read tol (j + 1) (lapEnd p l) ls rest)
+    ∙ sym (append-assoc (map (rowLine j) (lapRows tol p l)) (lapsLines tol (j + 1) (lapEnd p l) ls) (linesIn rest))
 
-laps-sum : (tol : Float) (j : ℕ) (ls : List Lap) → sumOf (map stepsOn (lapsLines tol j ls)) ≡ sumOf (stepsIn (allRows tol ls))
-unfolding lapsLines allRows flat
-laps-sum tol j [] = unfold stepsIn in refl
-laps-sum tol j (l ∷ ls) =
-    let here = map (rowLine j) (lapRows tol l) in
-    let next = lapsLines tol (j + 1) ls in
+laps-sum : (tol : Float) (j : ℕ) (p : Point3D) (ls : List Lap) → sumOf (map stepsOn (lapsLines tol j p ls)) ≡ sumOf (stepsIn (allRows tol p ls))
+unfolding lapsLines allRows
+laps-sum tol j p [] = unfold stepsIn in refl
+laps-sum tol j p (l ∷ ls) =
+    let here = map (rowLine j) (lapRows tol p l) in
+    let next = lapsLines tol (j + 1) (lapEnd p l) ls in
     let a = ap sumOf (map-append stepsOn here next) ∙ sum-append (map stepsOn here) (map stepsOn next) in
-    let b = ap sumOf (steps-append (lapRows tol l) (allRows tol ls)) ∙ sum-append (stepsIn (lapRows tol l)) (stepsIn (allRows tol ls)) in
-    let x = rows-sum j (lapRows tol l) in
-    let y = laps-sum tol (j + 1) ls in omega arith
+    let b = ap sumOf (steps-append (lapRows tol p l) (allRows tol (lapEnd p l) ls)) ∙ sum-append (stepsIn (lapRows tol p l)) (stepsIn (allRows tol (lapEnd p l) ls)) in
+    let x = rows-sum j (lapRows tol p l) in
+    let y = laps-sum tol (j + 1) (lapEnd p l) ls in omega arith
 
-laps-three : (tol : Float) (j : ℕ) (ls : List Lap) → ThreeColumns (lapsLines tol j ls)
+laps-three : (tol : Float) (j : ℕ) (p : Point3D) (ls : List Lap) → ThreeColumns (lapsLines tol j p ls)
 unfolding lapsLines
-laps-three tol j [] = tt
-laps-three tol j (l ∷ ls) = three-append (map (rowLine j) (lapRows tol l)) (lapsLines tol (j + 1) ls) (rows-three j (lapRows tol l)) (laps-three tol (j + 1) ls)
+laps-three tol j p [] = tt
+laps-three tol j p (l ∷ ls) = three-append (map (rowLine j) (lapRows tol p l)) (lapsLines tol (j + 1) (lapEnd p l) ls) (rows-three j (lapRows tol p l)) (laps-three tol (j + 1) (lapEnd p l) ls)
 
 -- ---- the first line and the last, and the line of a refusal
 first-read : (rest : List ℕ) → linesIn (header ++ rest) ≡ ascii "lap,kind,steps" ∷ linesIn rest
@@ -183,12 +186,12 @@ unfolding refusalText
 refusal-read n = worded (ascii "refused,") n (unfold ascii listFrom in (omega arith, (omega arith, (omega arith, (omega arith, (omega arith, (omega arith, (omega arith, (omega arith, tt)))))))))
 
 -- ---- the whole
-text-read : (tol : Float) (ls : List Lap) → linesIn (listText tol ls) ≡ ascii "lap,kind,steps" ∷ (lapsLines tol 1 ls ++ ((ascii "total," ++ decimal (lapsSteps tol ls)) ∷ []))
+text-read : (tol : Float) (ls : List Lap) → linesIn (listText tol ls) ≡ ascii "lap,kind,steps" ∷ (lapsLines tol 1 origin ls ++ ((ascii "total," ++ decimal (lapsSteps tol origin ls)) ∷ []))
 unfolding listText
 text-read tol ls =
-    ap linesIn (append-assoc header (lapsText tol 1 ls) (totalText (lapsSteps tol ls))) ∙ first-read (lapsText tol 1 ls ++ totalText (lapsSteps tol ls))
+    ap linesIn (append-assoc header (lapsText tol 1 origin ls) (totalText (lapsSteps tol origin ls))) ∙ first-read (lapsText tol 1 origin ls ++ totalText (lapsSteps tol origin ls))
     ∙ ap (λ (ts : List (List ℕ)). ascii "lap,kind,steps" ∷ ts)
-    (laps-read tol 1 ls (totalText (lapsSteps tol ls)) ∙ ap (λ (ts : List (List ℕ)). lapsLines tol 1 ls ++ ts) (total-read (lapsSteps tol ls)))
+    (laps-read tol 1 origin ls (totalText (lapsSteps tol origin ls)) ∙ ap (λ (ts : List (List ℕ)). lapsLines tol 1 origin ls ++ ts) (total-read (lapsSteps tol origin ls)))
 
 -- an input that is listed is a tolerance and a file that is
 file-listed : (b : Bool) (o : Outcome (List ℕ)) (text : List ℕ) → (if b then refused 1 else o) ≡ gives text → o ≡ gives text
@@ -208,15 +211,15 @@ sum-is-printed s text e =
     let f = as-read s text (mostText 800) e in
     let t = listed-passes (drop 8 s) text tol (mostText 800) f .1 in
     let q = sum-of-the-rows (drop 8 s) text tol (mostText 800) f in
-    let under : SumUnder (lapsSteps tol ls) text = record {
-      rows = lapsLines tol 1 ls;
-      last = ascii "total," ++ decimal (lapsSteps tol ls);
-      digits = decimal (lapsSteps tol ls);
+    let under : SumUnder (lapsSteps tol origin ls) text = record {
+      rows = lapsLines tol 1 origin ls;
+      last = ascii "total," ++ decimal (lapsSteps tol origin ls);
+      digits = decimal (lapsSteps tol origin ls);
       lines = ap linesIn (sym t) ∙ text-read tol ls;
-      columns = laps-three tol 1 ls;
-      word = total-columns (lapsSteps tol ls);
-      says = digits-spell (lapsSteps tol ls);
-      adds = q .0 ∙ sym (laps-sum tol 1 ls);
+      columns = laps-three tol 1 origin ls;
+      word = total-columns (lapsSteps tol origin ls);
+      says = digits-spell (lapsSteps tol origin ls);
+      adds = q .0 ∙ sym (laps-sum tol 1 origin ls);
     } in (rw e under, q .1)
 
 -- A refusal prints its one line, and no sum.

@@ -5,6 +5,7 @@ use mathlib.Core.List.{List, [], _∷_, _++_, map}
 use lib.ListN.{length, getD, drop}
 use lib.Dec.{eqb}
 use Rattle.floats.specs.Ops.{if_then_else_}
+use Rattle.geo.specs.Lent.{origin}
 use Rattle.geo.specs.Outcome.{refused, gives}
 use Rattle.file.specs.Bytes.{numberAt}
 use Rattle.listing.specs.Rows.{sumOf}
@@ -55,7 +56,7 @@ pub record SumUnder (n : ℕ) (text : List ℕ) : Type 0 where
 abbrev pub SumIsPrinted : Type 0
 SumIsPrinted =
     (s text : List ℕ) → listInput s (mostText 800) ≡ gives text
-    → SumUnder (lapsSteps (numberAt s 0) (lapsOf (drop 8 s))) (lapfitText s) × (lapsSteps (numberAt s 0) (lapsOf (drop 8 s)) ≤ 800)
+    → SumUnder (lapsSteps (numberAt s 0) origin (lapsOf (drop 8 s))) (lapfitText s) × (lapsSteps (numberAt s 0) origin (lapsOf (drop 8 s)) ≤ 800)
 
 -- A refusal prints its one line, and no sum.
 abbrev pub RefusalAlone : Type 0

@@ -35,8 +35,8 @@ pub record FilePassed (s : List ℕ) : Type 0 where
   pub long : short s ≡ false
   pub small : big s ≡ false
   pub table : tableOk s ≡ true
-  pub formed : lapsOk formOk (lapsOf s) ≡ true
-  pub near : lapsOk domainOk (lapsOf s) ≡ true
+  pub formed : lapsOk formOk true (lapsOf s) ≡ true
+  pub near : lapsOk domainOk true (lapsOf s) ≡ true
 
 -- with rows behind them
 pub file-passed-with : (s : List ℕ) (ts : List Row) → 0 ≡ refusal (fileRows s ++ ts) → FilePassed s × (0 ≡ refusal ts)
@@ -45,8 +45,8 @@ file-passed-with s ts e =
     let a = row-passed 0 (short s) _ e in
     let b = row-passed 1 (big s) _ (a .1) in
     let c = row-passed 2 (not (tableOk s)) _ (b .1) in
-    let d = row-passed 3 (not (lapsOk formOk (lapsOf s))) _ (c .1) in
-    let f = row-passed 4 (not (lapsOk domainOk (lapsOf s))) _ (d .1) in
+    let d = row-passed 3 (not (lapsOk formOk true (lapsOf s))) _ (c .1) in
+    let f = row-passed 4 (not (lapsOk domainOk true (lapsOf s))) _ (d .1) in
     (record { long = a .0; small = b .0; table = not-false _ (c .0); formed = not-false _ (d .0); near = not-false _ (f .0) }, f .1)
 
 pub file-passed : (s : List ℕ) (r : ℕ) → r ≡ refusal (fileRows s) → r ≡ 0 → FilePassed s
@@ -57,7 +57,7 @@ pub behind-file : (s : List ℕ) (ts : List Row) → FilePassed s → refusal (f
 unfolding fileRows
 behind-file s ts p =
     row-passes 1 (short s) _ (p .long) ∙ row-passes 2 (big s) _ (p .small) ∙ row-passes 3 (not (tableOk s)) _ (ap not (p .table))
-    ∙ row-passes 4 (not (lapsOk formOk (lapsOf s))) _ (ap not (p .formed)) ∙ row-passes 5 (not (lapsOk domainOk (lapsOf s))) _ (ap not (p .near))
+    ∙ row-passes 4 (not (lapsOk formOk true (lapsOf s))) _ (ap not (p .formed)) ∙ row-passes 5 (not (lapsOk domainOk true (lapsOf s))) _ (ap not (p .near))
 
 pub long-of : (s : List ℕ) → FilePassed s → 8 ≤ length s
 long-of s p = not-short s (p .long)

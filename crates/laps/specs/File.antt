@@ -110,12 +110,17 @@ tableOk s =
     else false
 
 -- ---- row 4 and row 5 of a lap
--- "Each lap has one Move, its first command": whether a kind may stand where it does
+-- whether a lap lacks its Move (document 02, §13): its first kind is not 0
+unfoldable pub lacks : Lap → Bool
+lacks [] = false
+lacks (c ∷ cs) = not (eqb (getD c 0 0) 0)
+
+-- "Each lap has one Move, its first command": whether a kind may stand where it does; `first` where a Move is to stand
 unfoldable pub placed : Bool → ℕ → Bool
 placed true kind = eqb kind 0
 placed false kind = not (eqb kind 0)
 
--- row 4 of a command, which stands first in its lap or not
+-- row 4 of a command
 unfoldable pub formOk : Bool → List ℕ → Bool
 formOk first c = placed first (getD c 0 0) && wellFormed c
 
@@ -123,14 +128,19 @@ formOk first c = placed first (getD c 0 0) && wellFormed c
 unfoldable pub domainOk : Bool → List ℕ → Bool
 domainOk first c = commandIn (decoded c)
 
--- a test of each command of a lap, and of all laps
+-- a test of each command of a lap, of which the first is to be a Move or none is
 unfoldable pub lapOk : (Bool → List ℕ → Bool) → Bool → Lap → Bool
 lapOk test first [] = true
 lapOk test first (c ∷ cs) = if test first c then lapOk test false cs else false
 
-unfoldable pub lapsOk : (Bool → List ℕ → Bool) → List Lap → Bool
-lapsOk test [] = true
-lapsOk test (l ∷ ls) = if lapOk test true l then lapsOk test ls else false
+-- of a lap that must have its Move, or may lack it: then none of its commands is one
+unfoldable pub lapTested : (Bool → List ℕ → Bool) → Bool → Lap → Bool
+lapTested test must l = lapOk test (must || not (lacks l)) l
+
+-- of all laps: "A lap after the first may lack its Move"
+unfoldable pub lapsOk : (Bool → List ℕ → Bool) → Bool → List Lap → Bool
+lapsOk test must [] = true
+lapsOk test must (l ∷ ls) = if lapTested test must l then lapsOk test false ls else false
 
 -- the two tests, as the code names them
 unfoldable pub tested : Check → Bool → List ℕ → Bool

@@ -1,6 +1,6 @@
 -- The rows of document 01's table that are of a file, and of the size of what is written. Definitions only.
 use Prim.Native.Nat.{ℕ, _+_, _*_}
-use mathlib.Core.Bool.{not}
+use mathlib.Core.Bool.{true, not}
 use mathlib.Core.List.{List, [], _∷_}
 use lib.Dec.{ltb}
 use Rattle.geo.specs.Outcome.{Row, row}
@@ -12,8 +12,8 @@ fileRows s =
     row 1 (short s)
     ∷ row 2 (big s)
     ∷ row 3 (not (tableOk s))
-    ∷ row 4 (not (lapsOk formOk (lapsOf s)))
-    ∷ row 5 (not (lapsOk domainOk (lapsOf s)))
+    ∷ row 4 (not (lapsOk formOk true (lapsOf s)))
+    ∷ row 5 (not (lapsOk domainOk true (lapsOf s)))
     ∷ []
 
 -- "A file needs 8 + 8 × L + 73 × most bytes"

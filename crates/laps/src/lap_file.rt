@@ -6,7 +6,7 @@ use file::words::half_at;
 use file::words::put_u32;
 use geo::domain::command_in;
 ghost use mathlib.Core.Path.{_≡_};
-ghost use mathlib.Core.Bool.{true};
+ghost use mathlib.Core.Bool.{true, not, _||_};
 ghost use mathlib.Core.List.{_++_};
 ghost use Prim.Native.Nat.{_+_, _*_, _<_, _≤_};
 ghost use lib.ListN.{length};
@@ -14,7 +14,7 @@ ghost use lib.Seq.{sets};
 ghost use Rattle.geo.specs.Outcome.{refusal};
 ghost use Rattle.file.specs.Bytes.{u32Bytes};
 ghost use Rattle.file.specs.Command.{commandsAt};
-ghost use Rattle.laps.specs.File.{lapCount, offsetAt, countAt, lapsOf, mark, short, big, hasMark, walk, tableOk, placed, formOk, tested, lapOk, lapsOk};
+ghost use Rattle.laps.specs.File.{lapCount, offsetAt, countAt, lapsOf, mark, short, big, hasMark, walk, tableOk, placed, formOk, lacks, tested, lapTested, lapsOk};
 ghost use Rattle.laps.specs.Rows.{fileRows, sizeRows};
 
 // The most that a file may have: "The lap count L, 0 to 64", "At most 800 commands and 65,536 bytes".
@@ -41,7 +41,7 @@ pub fn lap_count(s: &[u8]) -> usize
 }
 
 // The offset in entry j of the table.
-fn offset_at(s: &[u8], j: usize) -> usize
+pub fn offset_at(s: &[u8], j: usize) -> usize
     requires { ⌜ 16 + 8 * j ≤ length (now s) ⌝ }
     ensures { λ r. ⌜ (r ≡ offsetAt (now (s .entry)) j) × (r < 4294967296) ⌝ }
 {
@@ -132,7 +132,7 @@ pub fn has_table(s: &[u8]) -> bool
     walks(s, l)
 }
 
-// Whether a kind may stand first in a lap, or behind the first.
+// Whether a kind may stand where a Move is to stand, or elsewhere in a lap.
 pub fn is_placed(first: bool, kind: u8) -> bool
     ensures { λ r. ⌜ r ≡ placed first kind ⌝ }
 {
@@ -164,35 +164,58 @@ fn passes(check: Check, first: bool, c: &[u8]) -> bool
     }
 }
 
-// The same of the n commands from `at` on.
-fn lap_passes(check: Check, s: &[u8], at: usize, n: usize) -> bool
+// Whether the lap of the n commands from `at` on lacks its Move.
+pub fn lacks_move(s: &[u8], at: usize, n: usize) -> bool
     requires { ⌜ at + 73 * n ≤ length (now s) ⌝ }
-    ensures { λ r. ⌜ r ≡ lapOk (tested check) true (commandsAt (now (s .entry)) at n) ⌝ }
+    ensures { λ r. ⌜ r ≡ lacks (commandsAt (now (s .entry)) at n) ⌝ }
 {
+    if n == 0 {
+        return false;
+    }
+    s[at] != 0
+}
+
+// Whether a Move is to stand first: in a lap that must have one, or does not lack it.
+fn opens(must: bool, without: bool) -> bool
+    ensures { λ r. ⌜ r ≡ (must || not without) ⌝ }
+{
+    if must {
+        return true;
+    }
+    !without
+}
+
+// Row 4 or row 5 of the n commands from `at` on, a lap that must have its Move or may lack it.
+fn lap_passes(check: Check, must: bool, s: &[u8], at: usize, n: usize) -> bool
+    requires { ⌜ at + 73 * n ≤ length (now s) ⌝ }
+    ensures { λ r. ⌜ r ≡ lapTested (tested check) must (commandsAt (now (s .entry)) at n) ⌝ }
+{
+    let mut first = opens(must, lacks_move(s, at, n));
     let mut i = 0;
     let mut b = at;
     while i < n {
         let e = b + COMMAND_BYTES;
-        if !passes(check, i == 0, &s[b..e]) {
+        if !passes(check, first, &s[b..e]) {
             return false;
         }
+        first = false;
         b = e;
         i += 1;
     }
     true
 }
 
-// The same of all laps.
+// The same of all laps. Only the first must have its Move.
 pub fn all_pass(check: Check, s: &[u8]) -> bool
     requires { ⌜ (8 ≤ length (now s)) × (tableOk (now s) ≡ true) ⌝ }
-    ensures { λ r. ⌜ r ≡ lapsOk (tested check) (lapsOf (now (s .entry))) ⌝ }
+    ensures { λ r. ⌜ r ≡ lapsOk (tested check) true (lapsOf (now (s .entry))) ⌝ }
 {
     let l = lap_count(s);
     let mut at = 8 + 8 * l;
     let mut j = 0;
     while j < l {
         let n = count_at(s, j);
-        if !lap_passes(check, s, at, n) {
+        if !lap_passes(check, j == 0, s, at, n) {
             return false;
         }
         at += COMMAND_BYTES * n;

@@ -1,17 +1,18 @@
 -- Document 02, §11: the theorems of `specs/Demand.antt` about the file. Assumes nothing.
 use Prim.Native.Nat.{ℕ, zero, suc, _+_, _≤_}
 use mathlib.Core.Path.{_≡_, refl, sym, ap, _∙_, subst}
-use mathlib.Core.Bool.{Bool, true, false, not}
+use mathlib.Core.Bool.{Bool, true, false, not, _||_}
 use mathlib.Core.List.{List, [], _∷_, _++_, map, head-eq-of-cons-eq, tail-eq-of-cons-eq}
 use native.Mathlib.Omega.{arith}
 use borrow.Author.Tests.{le-ltb}
 use lib.ListN.{length, getD}
-use lib.Dec.{T, ltb}
+use lib.Dec.{T, ltb, eqb}
 use lib.IntN.{ℤ, pos, negsuc}
 use lib.Ieee.{binary64, fits, ofBits, ofFields, odd}
 use lib.Ieee.Fits.{round-fits}
 use lib.Ieee.Bits.{ofBits-fits}
 use Rattle.floats.specs.Ops.{if_then_else_}
+use Rattle.floats.proofs.Order.{and-left}
 use Rattle.geo.specs.declared.types.Point3D.{Point3D}
 use Rattle.geo.specs.Lent.{origin}
 use Rattle.geo.specs.Domain.{commandIn, formed, zero3, isPlusZero, tolerance}
@@ -20,12 +21,12 @@ use Rattle.geo.proofs.Rows.{unless-given}
 use Rattle.file.specs.Command.{laid, decoded, HeldPoint}
 use Rattle.file.proofs.RoundTrip.{decoded-enc, formed-laid, HeldCommand}
 use Rattle.file.proofs.Stores.{enc-move, enc-line, enc-bezier}
-use Rattle.laps.specs.File.{encode, lapCount, lapsOf, short, big, tableOk, formOk, placed, domainOk, lapOk, lapsOk}
+use Rattle.laps.specs.File.{encode, lapCount, lapsOf, short, big, tableOk, formOk, placed, domainOk, Lap, lacks, lapOk, lapTested, lapsOk}
 use Rattle.laps.specs.Rows.{fileRows, fileSize, sizeRows}
 use Rattle.laps.proofs.Whole.{length-encode}
 use Rattle.laps.proofs.ReadBack.{Somes, laps-encode, table-encode, lap-count-encode}
 use Rattle.laps.proofs.Rows.{file-passed, behind-file}
-use Rattle.lap_fit.specs.Fit.{fitLap, lapsMost, fileFitRows, fitFile}
+use Rattle.lap_fit.specs.Fit.{fitLaps, lapsMost, fileFitRows, fitFile}
 use Rattle.svg_text.specs.Thousandths.{floatOf, TenDigits}
 use Rattle.svg_text.specs.Path.{Drawn, move, line, curve, named}
 use Rattle.svg_text.specs.Drawing.{place, drawn}
@@ -200,12 +201,36 @@ lap-formed (move x y ∷ cs) = refl
 lap-formed (line x y ∷ cs) = rw (form-line x y) (lap-formed cs)
 lap-formed (curve a b c d x y ∷ cs) = rw (form-curve a b c d x y) (lap-formed cs)
 
-laps-formed : (cs : List Drawn) → lapsOk formOk (courseLaps cs) ≡ true
-unfolding lapsOk lapOk lapsDrawn courseLaps
-laps-formed [] = refl
-laps-formed (move x y ∷ cs) = rw (form-move x y, lap-formed cs) (laps-formed cs)
-laps-formed (line x y ∷ cs) = laps-formed cs
-laps-formed (curve a b c d x y ∷ cs) = laps-formed cs
+-- a lap that has its Move is tested with it, whether it must have it or may lack it
+has-move : (c : List ℕ) (l : Lap) → formOk true c ≡ true → lacks (c ∷ l) ≡ false
+unfolding lacks formOk placed
+has-move c l e = ap not (and-left (eqb (getD c 0 0) 0) _ e)
+
+with-move : (test : Bool → List ℕ → Bool) (must : Bool) (c : List ℕ) (l : Lap) → lacks (c ∷ l) ≡ false → lapTested test must (c ∷ l) ≡ lapOk test true (c ∷ l)
+unfolding lapTested
+with-move test must c l e = ap (λ (b : Bool). lapOk test b (c ∷ l)) (either must (lacks (c ∷ l)) e)
+  where
+    either : (m t : Bool) → t ≡ false → (m || not t) ≡ true
+    either true t z = refl
+    either false t z = ap not z
+
+both-true : (a b : Bool) → a ≡ true → b ≡ true → (if a then b else false) ≡ true
+both-true true b p q = q
+both-true false b p q = p
+
+opened-formed : (x y : ℤ) (cs : List Drawn) → lapOk formOk true (inked (move x y) ∷ map inked (untilMove cs)) ≡ true
+unfolding lapOk
+opened-formed x y cs = rw (form-move x y) (lap-formed cs)
+
+laps-formed : (must : Bool) (cs : List Drawn) → lapsOk formOk must (courseLaps cs) ≡ true
+unfolding lapsOk lapsDrawn courseLaps
+laps-formed must [] = refl
+laps-formed must (move x y ∷ cs) =
+    both-true _ _
+    (with-move formOk must (inked (move x y)) (map inked (untilMove cs)) (has-move (inked (move x y)) (map inked (untilMove cs)) (form-move x y)) ∙ opened-formed x y cs)
+    (laps-formed false cs)
+laps-formed must (line x y ∷ cs) = laps-formed must cs
+laps-formed must (curve a b c d x y ∷ cs) = laps-formed must cs
 
 -- row 5: its numbers
 first-in : (first : Bool) (c : Drawn) (cs : List Drawn) → allIn (c ∷ cs) ≡ true → (domainOk first (inked c) ≡ true) × (allIn cs ≡ true)
@@ -223,12 +248,19 @@ lap-in (move x y ∷ cs) e = refl
 lap-in (line x y ∷ cs) e = let h = first-in false (line x y) cs e in rw (h .0) (lap-in cs (h .1))
 lap-in (curve a b c d x y ∷ cs) e = let h = first-in false (curve a b c d x y) cs e in rw (h .0) (lap-in cs (h .1))
 
-laps-in : (cs : List Drawn) → allIn cs ≡ true → lapsOk domainOk (courseLaps cs) ≡ true
-unfolding lapsOk lapOk lapsDrawn courseLaps
-laps-in [] e = refl
-laps-in (move x y ∷ cs) e = let h = first-in true (move x y) cs e in rw (h .0, lap-in cs (h .1)) (laps-in cs (h .1))
-laps-in (line x y ∷ cs) e = laps-in cs (first-in false (line x y) cs e .1)
-laps-in (curve a b c d x y ∷ cs) e = laps-in cs (first-in false (curve a b c d x y) cs e .1)
+opened-in : (x y : ℤ) (cs : List Drawn) → allIn (move x y ∷ cs) ≡ true → lapOk domainOk true (inked (move x y) ∷ map inked (untilMove cs)) ≡ true
+unfolding lapOk
+opened-in x y cs e = let h = first-in true (move x y) cs e in rw (h .0) (lap-in cs (h .1))
+
+laps-in : (must : Bool) (cs : List Drawn) → allIn cs ≡ true → lapsOk domainOk must (courseLaps cs) ≡ true
+unfolding lapsOk lapsDrawn courseLaps
+laps-in must [] e = refl
+laps-in must (move x y ∷ cs) e =
+    both-true _ _
+    (with-move domainOk must (inked (move x y)) (map inked (untilMove cs)) (has-move (inked (move x y)) (map inked (untilMove cs)) (form-move x y)) ∙ opened-in x y cs e)
+    (laps-in false cs (first-in true (move x y) cs e .1))
+laps-in must (line x y ∷ cs) e = laps-in must cs (first-in false (line x y) cs e .1)
+laps-in must (curve a b c d x y ∷ cs) e = laps-in must cs (first-in false (curve a b c d x y) cs e .1)
 
 module _ (cs : List Drawn) (laps-few : length (lapsDrawn cs) ≤ 64) (few : length cs ≤ 800) where
   not-short : short (courseFile cs) ≡ false
@@ -252,7 +284,7 @@ module _ (cs : List Drawn) (laps-few : length (lapsDrawn cs) ≤ 64) (few : leng
 
   file-right : allIn cs ≡ true → refusal (fileRows (courseFile cs)) ≡ 0
   unfolding fileRows refusal
-  file-right e = rw (not-short, not-big, table-right, course-back cs laps-few few, laps-formed cs, laps-in cs e)
+  file-right e = rw (not-short, not-big, table-right, course-back cs laps-few few, laps-formed true cs, laps-in true cs e)
 
 -- Each M opens a lap, and the result is a lap file.
 pub result-is-course : ResultIsCourse
@@ -285,7 +317,7 @@ pub fit-takes-course : FitTakesCourse
 unfolding fitFile fileFitRows sizeRows
 fit-takes-course t room f tol space n e h =
     let p = file-passed f (refusal (fileRows f)) refl (result-is-course t room f e .right) in
-    let fitted = encode (map (fitLap tol) (lapsOf f)) in
-    let rows = row 6 (not (tolerance tol)) ∷ sizeRows (lapCount f) (lapsMost tol (lapsOf f)) space in
-    late (not (tolerance tol)) (ltb 800 (lapsMost tol (lapsOf f))) (ltb space (fileSize (lapCount f) (lapsMost tol (lapsOf f)))) fitted n
+    let fitted = encode (fitLaps tol origin (lapsOf f)) in
+    let rows = row 6 (not (tolerance tol)) ∷ sizeRows (lapCount f) (lapsMost tol origin (lapsOf f)) space in
+    late (not (tolerance tol)) (ltb 800 (lapsMost tol origin (lapsOf f))) (ltb space (fileSize (lapCount f) (lapsMost tol origin (lapsOf f)))) fitted n
     (sym (ap (λ (k : ℕ). unless k fitted) (behind-file f rows p)) ∙ h)

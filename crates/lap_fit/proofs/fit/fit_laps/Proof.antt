@@ -1,24 +1,25 @@
 -- `lap_fit::fit::fit_laps` meets its contract: the laps that are left, written from here, give the whole file; each place lies in the file, each fit in what is left of the output, and the arrays keep their lengths. The measure is how many laps are left. Assumes nothing.
 use Prim.Native.Nat.{_-_, _≤_}
 use mathlib.Core.Path.{_≡_, refl, sym, subst}
-use mathlib.Core.List.{List, map}
+use mathlib.Core.List.{List}
 use native.Mathlib.Omega.{arith}
 use lib.ListN.{length}
+use Rattle.geo.specs.Lent.{origin}
 use Rattle.laps.specs.File.{Lap, lapsAt, lapsOf}
 use Rattle.laps.proofs.Going.{Going, turn}
 use Rattle.laps.proofs.Here.{Here, step, start-at, all-laps}
 use Rattle.laps.proofs.Turns.{ends-by, fits-next}
-use Rattle.lap_fit.specs.Fit.{fitLap, lapsMost}
+use Rattle.lap_fit.specs.Fit.{fitLaps, lapsMost}
 use Rattle.lap_fit.proofs.Lap.{mosts-step}
 use Rattle.lap_fit.proofs.Turns.{total-most, fit-begin, fit-cons, fit-done}
 use Rattle.lap_fit.proofs.fit.fit_laps.Statement.{statement}
 use Rattle.lap_fit.proofs.fit.fit_laps.Tie as tie
 
 abbrev Inv-loop : tie.InvT-loop
-Inv-loop s tolerance out₀ kinds₀ nums₀ chain₀ out-kinds₀ out-nums₀ l at₀ to₀ j₀ out kinds nums chain out-kinds out-nums at to j = (j ≤ l) × Here s j at l × (lapsMost tolerance (lapsAt s j at (l - j)) ≤ 800) × Going out₀ out l j to (map (fitLap tolerance) (lapsAt s j at (l - j))) (map (fitLap tolerance) (lapsOf s)) × (length kinds ≡ 800) × (length nums ≡ 7200) × (length out-kinds ≡ 800) × (length out-nums ≡ 7200) × (length chain ≡ 2403)
+Inv-loop s tolerance out₀ kinds₀ nums₀ chain₀ out-kinds₀ out-nums₀ l at₀ to₀ start₀ j₀ out kinds nums chain out-kinds out-nums at to start j = (j ≤ l) × Here s j at l × (lapsMost tolerance start (lapsAt s j at (l - j)) ≤ 800) × Going out₀ out l j to (fitLaps tolerance start (lapsAt s j at (l - j))) (fitLaps tolerance origin (lapsOf s)) × (length kinds ≡ 800) × (length nums ≡ 7200) × (length out-kinds ≡ 800) × (length out-nums ≡ 7200) × (length chain ≡ 2403)
 
 abbrev μ-loop : tie.MeasureT-loop
-μ-loop s tolerance out₀ kinds₀ nums₀ chain₀ out-kinds₀ out-nums₀ l at₀ to₀ j₀ out kinds nums chain out-kinds out-nums at to j = l - j
+μ-loop s tolerance out₀ kinds₀ nums₀ chain₀ out-kinds₀ out-nums₀ l at₀ to₀ start₀ j₀ out kinds nums chain out-kinds out-nums at to start j = l - j
 
 lap-count-requires : tie.Need-lap-count-requires Inv-loop μ-loop
 lap-count-requires c κs = omega (arith, c .before .before .pre)
@@ -33,7 +34,7 @@ add-at : tie.Need-add-at Inv-loop μ-loop
 add-at c = omega arith
 
 loop-holds : tie.Need-loop-holds Inv-loop μ-loop
-loop-holds c = let a = c .before .before .before .before .before .before .before .args in let p = c .before .before .before .before .before .before .before .pre in let e = c .before .before .before .before .lap-count .ensures .0 in (omega arith, start-at (a .s .now) _ e (p .2), subst (λ (ls : List Lap). lapsMost (a .tolerance) ls ≤ 800) (sym (all-laps (a .s .now) _ e)) (p .3), fit-begin (a .tolerance) (p .0) (a .s .now) _ _ e (omega (arith, p)), refl, refl, refl, refl, refl)
+loop-holds c = let a = c .before .before .before .before .before .before .before .args in let p = c .before .before .before .before .before .before .before .pre in let e = c .before .before .before .before .lap-count .ensures .0 in (omega arith, start-at (a .s .now) _ e (p .2), subst (λ (ls : List Lap). lapsMost (a .tolerance) origin ls ≤ 800) (sym (all-laps (a .s .now) _ e)) (p .3), fit-begin (a .tolerance) (p .0) (a .s .now) _ _ e (omega (arith, p)), refl, refl, refl, refl, refl)
 
 count-at-requires : tie.Need-count-at-requires Inv-loop μ-loop
 count-at-requires c κs = omega (arith, c .before .loop .inv .1 .table)
@@ -56,47 +57,50 @@ slice-aggregate-fit-lap-5 c = sym (c .before .before .before .before .before .be
 fit-lap-requires : tie.Need-fit-lap-requires Inv-loop μ-loop
 fit-lap-requires c κs = let a = c .before .before .before .before .before .before .before .before .before .before .before .before .before .before .before .before .args in let l = c .before .before .before .before .before .before .before .before .loop in let e = c .before .before .before .before .before .before .count-at .ensures .0 in let t = c .before .before .before .before .before .before .before .loop-test .taken in
     let w = step (a .s .now) (l .j) (l .at) _ _ e (l .inv .1) t in
-    let m = mosts-step (a .tolerance) (a .s .now) (l .j) (l .at) _ _ t e in
+    let m = mosts-step (a .tolerance) (l .start) _ (a .s .now) (l .j) (l .at) _ _ t e refl in
     let q = l .inv .2 in
-    (c .before .before .before .before .before .before .before .before .before .before .before .before .before .before .before .before .pre .0, w .fits, w .few, omega (arith, m, q), fits-next _ _ _ _ _ _ _ _ (fit-cons (a .tolerance) (a .s .now) _ (l .out) _ (l .j) (l .at) (l .to) _ _ t e (l .inv .3)), l .inv .4, l .inv .5, l .inv .6, l .inv .7, l .inv .8)
+    (c .before .before .before .before .before .before .before .before .before .before .before .before .before .before .before .before .pre .0, w .fits, w .few, omega (arith, m, q), fits-next _ _ _ _ _ _ _ _ (fit-cons (a .tolerance) (l .start) _ (a .s .now) _ (l .out) _ (l .j) (l .at) (l .to) _ _ t e refl (l .inv .3)), l .inv .4, l .inv .5, l .inv .6, l .inv .7, l .inv .8)
 
 put-entry-requires : tie.Need-put-entry-requires Inv-loop μ-loop
 put-entry-requires c κs = let g = c .before .before .before .before .before .before .before .before .before .before .before .before .before .before .before .before .before .loop .inv .3 in let h = c .before .before .before .before .before .before .before .before .before .before .before .before .before .before .before .before .before .loop .inv .1 in omega (arith, c .before .before .before .before .before .before .before .before .before .before .before .before .before .before .before .before .loop-test .taken)
 
+lap-end-requires : tie.Need-lap-end-requires Inv-loop μ-loop
+lap-end-requires c κs = let l = c .before .before .before .before .before .before .before .before .before .before .before .before .before .before .before .before .before .before .before .before .loop in step (c .before .before .before .before .before .before .before .before .before .before .before .before .before .before .before .before .before .before .before .before .before .before .before .before .before .before .before .before .args .s .now) (l .j) (l .at) _ _ (c .before .before .before .before .before .before .before .before .before .before .before .before .before .before .before .before .before .before .count-at .ensures .0) (l .inv .1) (c .before .before .before .before .before .before .before .before .before .before .before .before .before .before .before .before .before .before .before .loop-test .taken) .fits
+
 mul-at-2 : tie.Need-mul-at-2 Inv-loop μ-loop
-mul-at-2 c = let l = c .before .before .before .before .before .before .before .before .before .before .before .before .before .before .before .before .before .before .before .before .loop in let w = step (c .before .before .before .before .before .before .before .before .before .before .before .before .before .before .before .before .before .before .before .before .before .before .before .before .before .before .before .before .args .s .now) (l .j) (l .at) _ _ (c .before .before .before .before .before .before .before .before .before .before .before .before .before .before .before .before .before .before .count-at .ensures .0) (l .inv .1) (c .before .before .before .before .before .before .before .before .before .before .before .before .before .before .before .before .before .before .before .loop-test .taken) in omega arith
+mul-at-2 c = let l = c .before .before .before .before .before .before .before .before .before .before .before .before .before .before .before .before .before .before .before .before .before .loop in let w = step (c .before .before .before .before .before .before .before .before .before .before .before .before .before .before .before .before .before .before .before .before .before .before .before .before .before .before .before .before .before .args .s .now) (l .j) (l .at) _ _ (c .before .before .before .before .before .before .before .before .before .before .before .before .before .before .before .before .before .before .before .count-at .ensures .0) (l .inv .1) (c .before .before .before .before .before .before .before .before .before .before .before .before .before .before .before .before .before .before .before .before .loop-test .taken) in omega arith
 
 add-at-2 : tie.Need-add-at-2 Inv-loop μ-loop
-add-at-2 c = let l = c .before .before .before .before .before .before .before .before .before .before .before .before .before .before .before .before .before .before .before .before .loop in let w = step (c .before .before .before .before .before .before .before .before .before .before .before .before .before .before .before .before .before .before .before .before .before .before .before .before .before .before .before .before .args .s .now) (l .j) (l .at) _ _ (c .before .before .before .before .before .before .before .before .before .before .before .before .before .before .before .before .before .before .count-at .ensures .0) (l .inv .1) (c .before .before .before .before .before .before .before .before .before .before .before .before .before .before .before .before .before .before .before .loop-test .taken) in omega arith
+add-at-2 c = let l = c .before .before .before .before .before .before .before .before .before .before .before .before .before .before .before .before .before .before .before .before .before .loop in let w = step (c .before .before .before .before .before .before .before .before .before .before .before .before .before .before .before .before .before .before .before .before .before .before .before .before .before .before .before .before .before .args .s .now) (l .j) (l .at) _ _ (c .before .before .before .before .before .before .before .before .before .before .before .before .before .before .before .before .before .before .before .count-at .ensures .0) (l .inv .1) (c .before .before .before .before .before .before .before .before .before .before .before .before .before .before .before .before .before .before .before .before .loop-test .taken) in omega (arith, w .then .past, w .then .few, c .before .before .before .before .before .before .before .before .before .before .before .before .before .before .before .before .before .before .before .before .before .before .before .before .before .before .lap-count .ensures .1)
 
 mul-to : tie.Need-mul-to Inv-loop μ-loop
-mul-to c = let a = c .before .before .before .before .before .before .before .before .before .before .before .before .before .before .before .before .before .before .before .before .before .before .before .before .before .before .before .before .args in let l = c .before .before .before .before .before .before .before .before .before .before .before .before .before .before .before .before .before .before .before .before .loop in
-    let m = total-most (a .tolerance) (c .before .before .before .before .before .before .before .before .before .before .before .before .before .before .before .before .before .before .before .before .before .before .before .before .before .before .before .before .pre .0) (lapsOf (a .s .now)) in
-    let w = ends-by _ _ _ _ _ _ _ _ _ (fit-cons (a .tolerance) (a .s .now) _ (l .out) _ (l .j) (l .at) (l .to) _ _ (c .before .before .before .before .before .before .before .before .before .before .before .before .before .before .before .before .before .before .before .loop-test .taken) (c .before .before .before .before .before .before .before .before .before .before .before .before .before .before .before .before .before .before .count-at .ensures .0) (l .inv .3)) (c .before .before .before .before .before .before .before .before .before .before .before .fit-lap .ensures .count) (omega (arith, m, c .before .before .before .before .before .before .before .before .before .before .before .before .before .before .before .before .before .before .before .before .before .before .before .before .before .before .before .before .pre .3)) in omega (arith, w, c .before .before .before .before .before .before .before .before .before .before .before .before .before .before .before .before .before .before .before .before .before .before .before .before .before .lap-count .ensures .1)
+mul-to c = let a = c .before .before .before .before .before .before .before .before .before .before .before .before .before .before .before .before .before .before .before .before .before .before .before .before .before .before .before .before .before .args in let l = c .before .before .before .before .before .before .before .before .before .before .before .before .before .before .before .before .before .before .before .before .before .loop in
+    let m = total-most (a .tolerance) (c .before .before .before .before .before .before .before .before .before .before .before .before .before .before .before .before .before .before .before .before .before .before .before .before .before .before .before .before .before .pre .0) origin (lapsOf (a .s .now)) in
+    let w = ends-by _ _ _ _ _ _ _ _ _ (fit-cons (a .tolerance) (l .start) _ (a .s .now) _ (l .out) _ (l .j) (l .at) (l .to) _ _ (c .before .before .before .before .before .before .before .before .before .before .before .before .before .before .before .before .before .before .before .before .loop-test .taken) (c .before .before .before .before .before .before .before .before .before .before .before .before .before .before .before .before .before .before .before .count-at .ensures .0) refl (l .inv .3)) (c .before .before .before .before .before .before .before .before .before .before .before .before .fit-lap .ensures .count) (omega (arith, m, c .before .before .before .before .before .before .before .before .before .before .before .before .before .before .before .before .before .before .before .before .before .before .before .before .before .before .before .before .before .pre .3)) in omega (arith, w, c .before .before .before .before .before .before .before .before .before .before .before .before .before .before .before .before .before .before .before .before .before .before .before .before .before .before .lap-count .ensures .1)
 
 add-to : tie.Need-add-to Inv-loop μ-loop
-add-to c = let a = c .before .before .before .before .before .before .before .before .before .before .before .before .before .before .before .before .before .before .before .before .before .before .before .before .before .before .before .before .args in let l = c .before .before .before .before .before .before .before .before .before .before .before .before .before .before .before .before .before .before .before .before .loop in
-    let m = total-most (a .tolerance) (c .before .before .before .before .before .before .before .before .before .before .before .before .before .before .before .before .before .before .before .before .before .before .before .before .before .before .before .before .pre .0) (lapsOf (a .s .now)) in
-    let w = ends-by _ _ _ _ _ _ _ _ _ (fit-cons (a .tolerance) (a .s .now) _ (l .out) _ (l .j) (l .at) (l .to) _ _ (c .before .before .before .before .before .before .before .before .before .before .before .before .before .before .before .before .before .before .before .loop-test .taken) (c .before .before .before .before .before .before .before .before .before .before .before .before .before .before .before .before .before .before .count-at .ensures .0) (l .inv .3)) (c .before .before .before .before .before .before .before .before .before .before .before .fit-lap .ensures .count) (omega (arith, m, c .before .before .before .before .before .before .before .before .before .before .before .before .before .before .before .before .before .before .before .before .before .before .before .before .before .before .before .before .pre .3)) in omega (arith, w, c .before .before .before .before .before .before .before .before .before .before .before .before .before .before .before .before .before .before .before .before .before .before .before .before .before .lap-count .ensures .1)
+add-to c = let a = c .before .before .before .before .before .before .before .before .before .before .before .before .before .before .before .before .before .before .before .before .before .before .before .before .before .before .before .before .before .args in let l = c .before .before .before .before .before .before .before .before .before .before .before .before .before .before .before .before .before .before .before .before .before .loop in
+    let m = total-most (a .tolerance) (c .before .before .before .before .before .before .before .before .before .before .before .before .before .before .before .before .before .before .before .before .before .before .before .before .before .before .before .before .before .pre .0) origin (lapsOf (a .s .now)) in
+    let w = ends-by _ _ _ _ _ _ _ _ _ (fit-cons (a .tolerance) (l .start) _ (a .s .now) _ (l .out) _ (l .j) (l .at) (l .to) _ _ (c .before .before .before .before .before .before .before .before .before .before .before .before .before .before .before .before .before .before .before .before .loop-test .taken) (c .before .before .before .before .before .before .before .before .before .before .before .before .before .before .before .before .before .before .before .count-at .ensures .0) refl (l .inv .3)) (c .before .before .before .before .before .before .before .before .before .before .before .before .fit-lap .ensures .count) (omega (arith, m, c .before .before .before .before .before .before .before .before .before .before .before .before .before .before .before .before .before .before .before .before .before .before .before .before .before .before .before .before .before .pre .3)) in omega (arith, w, c .before .before .before .before .before .before .before .before .before .before .before .before .before .before .before .before .before .before .before .before .before .before .before .before .before .before .lap-count .ensures .1)
 
 add-j : tie.Need-add-j Inv-loop μ-loop
-add-j c = omega (arith, c .before .before .before .before .before .before .before .before .before .before .before .before .before .before .before .before .before .before .before .loop-test .taken)
+add-j c = omega (arith, c .before .before .before .before .before .before .before .before .before .before .before .before .before .before .before .before .before .before .before .before .loop-test .taken, c .before .before .before .before .before .before .before .before .before .before .before .before .before .before .before .before .before .before .before .before .before .before .before .before .before .before .lap-count .ensures .1)
 
 loop-less : tie.Need-loop-less Inv-loop μ-loop
-loop-less c = omega (arith, c .before .before .before .before .before .before .before .before .before .before .before .before .before .before .before .before .before .before .before .loop-test .taken)
+loop-less c = omega (arith, c .before .before .before .before .before .before .before .before .before .before .before .before .before .before .before .before .before .before .before .before .loop-test .taken)
 
 loop-again : tie.Need-loop-again Inv-loop μ-loop
-loop-again c = let a = c .before .before .before .before .before .before .before .before .before .before .before .before .before .before .before .before .before .before .before .before .before .before .before .before .before .before .before .before .args in let l = c .before .before .before .before .before .before .before .before .before .before .before .before .before .before .before .before .before .before .before .before .loop in let e = c .before .before .before .before .before .before .before .before .before .before .before .before .before .before .before .before .before .before .count-at .ensures .0 in let t = c .before .before .before .before .before .before .before .before .before .before .before .before .before .before .before .before .before .before .before .loop-test .taken in
-    let m = mosts-step (a .tolerance) (a .s .now) (l .j) (l .at) _ _ t e in
+loop-again c = let a = c .before .before .before .before .before .before .before .before .before .before .before .before .before .before .before .before .before .before .before .before .before .before .before .before .before .before .before .before .before .args in let l = c .before .before .before .before .before .before .before .before .before .before .before .before .before .before .before .before .before .before .before .before .before .loop in let e = c .before .before .before .before .before .before .before .before .before .before .before .before .before .before .before .before .before .before .before .count-at .ensures .0 in let t = c .before .before .before .before .before .before .before .before .before .before .before .before .before .before .before .before .before .before .before .before .loop-test .taken in
+    let m = mosts-step (a .tolerance) (l .start) _ (a .s .now) (l .j) (l .at) _ _ t e (c .lap-end .ensures) in
     let q = l .inv .2 in
-    let k = c .before .before .before .before .before .before .before .before .before .before .before .fit-lap .kept in
-    (omega arith, step (a .s .now) (l .j) (l .at) _ _ e (l .inv .1) t .then, omega (arith, m, q), turn _ (l .out) _ _ _ (l .j) (l .to) _ _ _ _ (fit-cons (a .tolerance) (a .s .now) _ (l .out) _ (l .j) (l .at) (l .to) _ _ t e (l .inv .3)) (c .before .before .before .before .before .before .before .before .before .before .before .fit-lap .ensures .count) (c .before .before .before .before .before .before .before .before .before .before .before .fit-lap .ensures .bytes) (c .before .before .put-entry .ensures), omega (arith, k, l .inv .4), omega (arith, k, l .inv .5), omega (arith, k, l .inv .6), omega (arith, k, l .inv .7), omega (arith, k, l .inv .8))
+    let k = c .before .before .before .before .before .before .before .before .before .before .before .before .fit-lap .kept in
+    (omega arith, step (a .s .now) (l .j) (l .at) _ _ e (l .inv .1) t .then, omega (arith, m, q), turn _ (l .out) _ _ _ (l .j) (l .to) _ _ _ _ (fit-cons (a .tolerance) (l .start) _ (a .s .now) _ (l .out) _ (l .j) (l .at) (l .to) _ _ t e (c .lap-end .ensures) (l .inv .3)) (c .before .before .before .before .before .before .before .before .before .before .before .before .fit-lap .ensures .count) (c .before .before .before .before .before .before .before .before .before .before .before .before .fit-lap .ensures .bytes) (c .before .before .before .put-entry .ensures), omega (arith, k, l .inv .4), omega (arith, k, l .inv .5), omega (arith, k, l .inv .6), omega (arith, k, l .inv .7), omega (arith, k, l .inv .8))
 
 same-length : tie.Need-same-length Inv-loop μ-loop
 same-length c = omega (arith, c .before .loop .inv .3 .same, c .before .before .before .before .put-head .kept .0)
 
 returns : tie.Need-returns Inv-loop μ-loop
-returns c = let a = c .before .before .before .before .before .before .before .before .before .args in let l = c .before .loop in fit-done (a .tolerance) (a .s .now) (a .out .now) _ (l .out) _ (l .j) (l .at) (l .to) (c .before .before .before .before .before .before .lap-count .ensures .0) (c .loop-test .left) (c .before .before .before .before .put-head .ensures) (l .inv .3)
+returns c = let a = c .before .before .before .before .before .before .before .before .before .args in let l = c .before .loop in fit-done (a .tolerance) (l .start) (a .s .now) (a .out .now) _ (l .out) _ (l .j) (l .at) (l .to) (c .before .before .before .before .before .before .lap-count .ensures .0) (c .loop-test .left) (c .before .before .before .before .put-head .ensures) (l .inv .3)
 
 pub fit-laps-spec : {M : Type 1} → statement M
 fit-laps-spec =
@@ -117,6 +121,7 @@ fit-laps-spec =
     slice-aggregate-fit-lap-5
     fit-lap-requires
     put-entry-requires
+    lap-end-requires
     mul-at-2
     add-at-2
     mul-to

@@ -14,8 +14,8 @@ fit-course-requires c κs = let p = c .before .before .before .before .before .b
 write-commands-requires : tie.Need-write-commands-requires
 write-commands-requires c κs = let a = c .before .before .before .before .before .before .before .before .before .before .before .before .before .before .before .before .before .before .before .before .args in let p = c .before .before .before .before .before .before .before .before .before .before .before .before .before .before .before .before .before .before .before .before .pre in let f = rw (c .before .before .before .before .before .before .before .before .before .before .before .before .before .of-laps .ensures) at (c .before .before .before .before .before .before .before .before .before .fit-course .ensures) in
     let h = p .4 in let k = p .5 in
-    let e = counted-new (a .tolerance) (p .0) (a .kinds .now) (a .nums .now) (p .2) _ _ _ _ _ f (omega arith) (omega arith) in
-    (fits-kinds (a .tolerance) (p .0) (a .kinds .now) (a .nums .now) (p .2) _ _ _ _ _ f (omega arith) (omega arith), fits-numbers (a .tolerance) (p .0) (a .kinds .now) (a .nums .now) (p .2) _ _ _ _ _ f (omega arith) (omega arith), omega (arith, p .3))
+    let e = counted-new (a .tolerance) (p .0) (a .start) (a .kinds .now) (a .nums .now) (p .2) _ _ _ _ _ f (omega arith) (omega arith) in
+    (fits-kinds (a .tolerance) (p .0) (a .start) (a .kinds .now) (a .nums .now) (p .2) _ _ _ _ _ f (omega arith) (omega arith), fits-numbers (a .tolerance) (p .0) (a .start) (a .kinds .now) (a .nums .now) (p .2) _ _ _ _ _ f (omega arith) (omega arith), omega (arith, p .3))
 
 same-length : tie.Need-same-length
 same-length c = search needs
@@ -30,7 +30,7 @@ same-length-4 : tie.Need-same-length-4
 same-length-4 c = search needs
 
 returns : tie.Need-returns
-returns c = let a = c .before .before .before .before .before .before .before .before .before .before .before .before .before .before .before .before .before .before .before .before .before .before .before .args in let p = c .before .before .before .before .before .before .before .before .before .before .before .before .before .before .before .before .before .before .before .before .before .before .before .pre in let h = p .4 in let k = p .5 in put-fit (a .tolerance) (p .0) (a .kinds .now) (a .nums .now) (p .2) _ _ _ _ _ (rw (c .before .before .before .before .before .before .before .before .before .before .before .before .before .before .before .before .of-laps .ensures) at (c .before .before .before .before .before .before .before .before .before .before .before .before .fit-course .ensures)) (omega arith) (omega arith) (a .out .now) _ (a .to) (c .before .before .write-commands .ensures)
+returns c = let a = c .before .before .before .before .before .before .before .before .before .before .before .before .before .before .before .before .before .before .before .before .before .before .before .args in let p = c .before .before .before .before .before .before .before .before .before .before .before .before .before .before .before .before .before .before .before .before .before .before .before .pre in let h = p .4 in let k = p .5 in put-fit (a .tolerance) (p .0) (a .start) (a .kinds .now) (a .nums .now) (p .2) _ _ _ _ _ (rw (c .before .before .before .before .before .before .before .before .before .before .before .before .before .before .before .before .of-laps .ensures) at (c .before .before .before .before .before .before .before .before .before .before .before .before .fit-course .ensures)) (omega arith) (omega arith) (a .out .now) _ (a .to) (c .before .before .write-commands .ensures)
 
 pub fit-lent-spec : {M : Type 1} → statement M
 fit-lent-spec =

@@ -14,13 +14,13 @@ use Rattle.lap_fit.proofs.fit.most_lap.Statement.{statement}
 use Rattle.lap_fit.proofs.fit.most_lap.Tie as tie
 
 abbrev Inv-loop : tie.InvT-loop
-Inv-loop s at n tolerance most₀ last₀ b₀ i₀ most last b i = (b ≡ at + 73 * i) × (i ≤ n) × (most ≤ 801) × (cap (most + weights tolerance s last b (n - i)) ≡ cap (mostLap tolerance (commandsAt s at n)))
+Inv-loop s at n tolerance most₀ last₀ b₀ i₀ most last b i = (b ≡ at + 73 * i) × (i ≤ n) × (most ≤ 801) × (cap (most + weights tolerance s last b (n - i)) ≡ cap (mostLap tolerance last₀ (commandsAt s at n)))
 
 abbrev μ-loop : tie.MeasureT-loop
 μ-loop s at n tolerance most₀ last₀ b₀ i₀ most last b i = n - i
 
 loop-holds : tie.Need-loop-holds Inv-loop μ-loop
-loop-holds c = let a = c .before .args in (omega arith, omega arith, omega arith, rw (sub-zero, zero-add) (ap cap (weights-all (a .tolerance) (a .s .now) (a .at) (a .n))))
+loop-holds c = let a = c .before .args in (omega arith, omega arith, omega arith, rw (sub-zero, zero-add) (ap cap (weights-all (a .tolerance) (a .s .now) (a .start) (a .at) (a .n))))
 
 add-e : tie.Need-add-e Inv-loop μ-loop
 add-e c = omega arith

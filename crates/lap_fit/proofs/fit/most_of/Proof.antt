@@ -3,6 +3,7 @@ use Prim.Native.Nat.{_+_, _-_, _≤_}
 use mathlib.Core.Path.{_≡_, sym, ap, _∙_}
 use native.Mathlib.Nat.{zero-add}
 use native.Mathlib.Omega.{arith}
+use Rattle.geo.specs.Lent.{origin}
 use Rattle.course.specs.Walks.{cap}
 use Rattle.laps.specs.File.{lapsAt, lapsOf}
 use Rattle.laps.proofs.Here.{Here, step, start-at, all-laps}
@@ -13,10 +14,10 @@ use Rattle.lap_fit.proofs.fit.most_of.Statement.{statement}
 use Rattle.lap_fit.proofs.fit.most_of.Tie as tie
 
 abbrev Inv-loop : tie.InvT-loop
-Inv-loop s tolerance l at₀ most₀ j₀ at most j = (j ≤ l) × (most ≤ 801) × Here s j at l × (cap (most + lapsMost tolerance (lapsAt s j at (l - j))) ≡ cap (lapsMost tolerance (lapsOf s)))
+Inv-loop s tolerance l at₀ most₀ start₀ j₀ at most start j = (j ≤ l) × (most ≤ 801) × Here s j at l × (cap (most + lapsMost tolerance start (lapsAt s j at (l - j))) ≡ cap (lapsMost tolerance origin (lapsOf s)))
 
 abbrev μ-loop : tie.MeasureT-loop
-μ-loop s tolerance l at₀ most₀ j₀ at most j = l - j
+μ-loop s tolerance l at₀ most₀ start₀ j₀ at most start j = l - j
 
 lap-count-requires : tie.Need-lap-count-requires Inv-loop μ-loop
 lap-count-requires c κs = omega arith
@@ -28,7 +29,7 @@ add-at : tie.Need-add-at Inv-loop μ-loop
 add-at c = omega arith
 
 loop-holds : tie.Need-loop-holds Inv-loop μ-loop
-loop-holds c = let a = c .before .before .args in let e = c .lap-count .ensures .0 in (omega arith, omega arith, start-at (a .s .now) _ e (c .before .before .pre .1), rw zero-add (ap (λ ls. cap (lapsMost (a .tolerance) ls)) (all-laps (a .s .now) _ e)))
+loop-holds c = let a = c .before .before .args in let e = c .lap-count .ensures .0 in (omega arith, omega arith, start-at (a .s .now) _ e (c .before .before .pre .1), rw zero-add (ap (λ ls. cap (lapsMost (a .tolerance) origin ls)) (all-laps (a .s .now) _ e)))
 
 count-at-requires : tie.Need-count-at-requires Inv-loop μ-loop
 count-at-requires c κs = omega arith
@@ -39,11 +40,14 @@ most-lap-requires c κs = let l = c .before .before .loop in let w = step (c .be
 add-capped-requires : tie.Need-add-capped-requires Inv-loop μ-loop
 add-capped-requires c κs = (c .before .before .before .loop .inv .1, cap-small _ _ (c .most-lap .ensures))
 
+lap-end-requires : tie.Need-lap-end-requires Inv-loop μ-loop
+lap-end-requires c κs = let l = c .before .before .before .before .loop in step (c .before .before .before .before .before .before .before .args .s .now) (l .j) (l .at) _ _ (c .before .before .count-at .ensures .0) (l .inv .2) (c .before .before .before .loop-test .taken) .fits
+
 mul-at-2 : tie.Need-mul-at-2 Inv-loop μ-loop
 mul-at-2 c = omega arith
 
 add-at-2 : tie.Need-add-at-2 Inv-loop μ-loop
-add-at-2 c = let l = c .before .before .before .before .loop in let w = step (c .before .before .before .before .before .before .before .args .s .now) (l .j) (l .at) _ _ (c .before .before .count-at .ensures .0) (l .inv .2) (c .before .before .before .loop-test .taken) in omega arith
+add-at-2 c = let l = c .before .before .before .before .before .loop in let w = step (c .before .before .before .before .before .before .before .before .args .s .now) (l .j) (l .at) _ _ (c .before .before .before .count-at .ensures .0) (l .inv .2) (c .before .before .before .before .loop-test .taken) in omega arith
 
 add-j : tie.Need-add-j Inv-loop μ-loop
 add-j c = omega arith
@@ -52,10 +56,10 @@ loop-less : tie.Need-loop-less Inv-loop μ-loop
 loop-less c = omega arith
 
 loop-again : tie.Need-loop-again Inv-loop μ-loop
-loop-again c = let a = c .before .before .before .before .before .before .before .args in let l = c .before .before .before .before .loop in (omega arith, c .add-capped .ensures .1, step (a .s .now) (l .j) (l .at) _ _ (c .before .before .count-at .ensures .0) (l .inv .2) (c .before .before .before .loop-test .taken) .then, cap-step (l .most) _ _ _ _ _ (c .before .most-lap .ensures) (c .add-capped .ensures .0) (ap (λ m. cap (l .most + m)) (sym (mosts-step (a .tolerance) (a .s .now) (l .j) (l .at) _ _ (c .before .before .before .loop-test .taken) (c .before .before .count-at .ensures .0))) ∙ l .inv .3))
+loop-again c = let a = c .before .before .before .before .before .before .before .before .args in let l = c .before .before .before .before .before .loop in (omega arith, c .before .add-capped .ensures .1, step (a .s .now) (l .j) (l .at) _ _ (c .before .before .before .count-at .ensures .0) (l .inv .2) (c .before .before .before .before .loop-test .taken) .then, cap-step (l .most) _ _ _ _ _ (c .before .before .most-lap .ensures) (c .before .add-capped .ensures .0) (ap (λ m. cap (l .most + m)) (sym (mosts-step (a .tolerance) (l .start) _ (a .s .now) (l .j) (l .at) _ _ (c .before .before .before .before .loop-test .taken) (c .before .before .before .count-at .ensures .0) (c .lap-end .ensures))) ∙ l .inv .3))
 
 returns : tie.Need-returns Inv-loop μ-loop
-returns c = let a = c .before .before .before .before .args in let l = c .before .loop in cap-done (l .most) _ _ (mosts-end (a .tolerance) (a .s .now) (l .j) (l .at) _ (c .loop-test .left)) (l .inv .1) (l .inv .3)
+returns c = let a = c .before .before .before .before .args in let l = c .before .loop in cap-done (l .most) _ _ (mosts-end (a .tolerance) (l .start) (a .s .now) (l .j) (l .at) _ (c .loop-test .left)) (l .inv .1) (l .inv .3)
 
 pub most-of-spec : {M : Type 1} → statement M
 most-of-spec =
@@ -70,6 +74,7 @@ most-of-spec =
     count-at-requires
     most-lap-requires
     add-capped-requires
+    lap-end-requires
     mul-at-2
     add-at-2
     add-j

@@ -1,6 +1,7 @@
 -- `lap_replace::replace::check_replacement` meets its contract: rows 1 to 7, and then the sizes by the most that is told. Assumes nothing.
 use mathlib.Core.Path.{sym, _∙_}
 use native.Mathlib.Omega.{arith}
+use Rattle.laps.specs.File.{lapsOf}
 use Rattle.lap_fit.proofs.Cap.{cap-small}
 use Rattle.lap_replace.specs.Replace.{lentNew}
 use Rattle.lap_replace.proofs.Rows.{lent-nine, past-1, past-3, past-7, new-passed, new-refused, new-sizes, sizes-with}
@@ -12,27 +13,30 @@ check-new-requires : tie.Need-check-new-requires
 check-new-requires c κs = search needs
 
 returns : tie.Need-returns
-returns c = let a = c .before .before .before .before .before .before .args in new-refused (a .s .now) (a .f .now) (a .k) (lentNew (a .tolerance) (a .kinds .now) (a .nums .now)) (a .tolerance) (a .room) _ (c .before .check-new .ensures) (c .if1 .taken)
+returns c = let a = c .before .before .before .before .before .before .args in new-refused (a .s .now) (a .f .now) (a .k) (lentNew (a .tolerance) (lapsOf (a .s .now)) (a .k) (a .kinds .now) (a .nums .now)) (a .tolerance) (a .room) _ (c .before .check-new .ensures) (c .if1 .taken)
 
-course-most-requires : tie.Need-course-most-requires
-course-most-requires c κs = let a = c .before .before .before .before .before .before .args in let p = new-passed (a .s .now) (a .f .now) (a .k) (lentNew (a .tolerance) (a .kinds .now) (a .nums .now)) (a .tolerance) _ (c .before .check-new .ensures) (c .if1 .left) in let e = lent-nine (a .kinds .now) (a .nums .now) (past-1 (a .s .now) (a .f .now) _ (p .p1) .2) in omega (arith, e)
+next-of-requires : tie.Need-next-of-requires
+next-of-requires c κs = let a = c .before .before .before .before .before .before .args in let p = new-passed (a .s .now) (a .f .now) (a .k) (lentNew (a .tolerance) (lapsOf (a .s .now)) (a .k) (a .kinds .now) (a .nums .now)) (a .tolerance) _ (c .before .check-new .ensures) (c .if1 .left) in (past-1 (a .s .now) (a .f .now) _ (p .p1) .0, past-3 (a .s .now) (a .f .now) (p .p3) .0, past-7 (a .k) (a .s .now) (p .p7) .1)
+
+most-new-requires : tie.Need-most-new-requires
+most-new-requires c κs = let a = c .before .before .before .before .before .before .before .args in let p = new-passed (a .s .now) (a .f .now) (a .k) (lentNew (a .tolerance) (lapsOf (a .s .now)) (a .k) (a .kinds .now) (a .nums .now)) (a .tolerance) _ (c .before .before .check-new .ensures) (c .before .if1 .left) in let e = lent-nine (a .kinds .now) (a .nums .now) (past-1 (a .s .now) (a .f .now) _ (p .p1) .2) in (omega (arith, e), past-1 (a .s .now) (a .f .now) _ (p .p1) .0, past-3 (a .s .now) (a .f .now) (p .p3) .0, past-7 (a .k) (a .s .now) (p .p7) .0, past-7 (a .k) (a .s .now) (p .p7) .1)
 
 others-of-requires : tie.Need-others-of-requires
-others-of-requires c κs = let a = c .before .before .before .before .before .before .before .args in let p = new-passed (a .s .now) (a .f .now) (a .k) (lentNew (a .tolerance) (a .kinds .now) (a .nums .now)) (a .tolerance) _ (c .before .before .check-new .ensures) (c .before .if1 .left) in (past-7 (a .k) (a .s .now) (p .p7), past-1 (a .s .now) (a .f .now) _ (p .p1) .1, past-3 (a .s .now) (a .f .now) (p .p3) .1)
+others-of-requires c κs = let a = c .before .before .before .before .before .before .before .before .args in let p = new-passed (a .s .now) (a .f .now) (a .k) (lentNew (a .tolerance) (lapsOf (a .s .now)) (a .k) (a .kinds .now) (a .nums .now)) (a .tolerance) _ (c .before .before .before .check-new .ensures) (c .before .before .if1 .left) in (past-7 (a .k) (a .s .now) (p .p7) .0, past-1 (a .s .now) (a .f .now) _ (p .p1) .1, past-3 (a .s .now) (a .f .now) (p .p3) .1)
 
 add-most : tie.Need-add-most
-add-most c = let b = cap-small _ _ (c .before .course-most .ensures) in omega (arith, c .others-of .ensures .1)
+add-most c = let b = cap-small _ _ (c .before .most-new .ensures) in omega (arith, b, c .others-of .ensures .1)
 
 lap-count-requires : tie.Need-lap-count-requires
-lap-count-requires c κs = let a = c .before .before .before .before .before .before .before .before .args in let p = new-passed (a .s .now) (a .f .now) (a .k) (lentNew (a .tolerance) (a .kinds .now) (a .nums .now)) (a .tolerance) _ (c .before .before .before .check-new .ensures) (c .before .before .if1 .left) in past-1 (a .s .now) (a .f .now) _ (p .p1) .1
+lap-count-requires c κs = let a = c .before .before .before .before .before .before .before .before .before .args in let p = new-passed (a .s .now) (a .f .now) (a .k) (lentNew (a .tolerance) (lapsOf (a .s .now)) (a .k) (a .kinds .now) (a .nums .now)) (a .tolerance) _ (c .before .before .before .before .check-new .ensures) (c .before .before .before .if1 .left) in past-1 (a .s .now) (a .f .now) _ (p .p1) .1
 
 check-sizes-requires : tie.Need-check-sizes-requires
 check-sizes-requires c κs = c .lap-count .ensures .1
 
 returns-2 : tie.Need-returns-2
-returns-2 c = let a = c .before .before .before .before .before .before .before .before .before .before .args in
-    c .check-sizes .ensures ∙ sizes-with (lentNew (a .tolerance) (a .kinds .now) (a .nums .now)) (a .k) (a .f .now) _ _ _ (a .room) (c .before .lap-count .ensures .0) (c .before .before .before .course-most .ensures) (c .before .before .others-of .ensures .0)
-    ∙ sym (new-sizes (a .s .now) (a .f .now) (a .k) (lentNew (a .tolerance) (a .kinds .now) (a .nums .now)) (a .tolerance) (a .room) (new-passed (a .s .now) (a .f .now) (a .k) (lentNew (a .tolerance) (a .kinds .now) (a .nums .now)) (a .tolerance) _ (c .before .before .before .before .before .check-new .ensures) (c .before .before .before .before .if1 .left)))
+returns-2 c = let a = c .before .before .before .before .before .before .before .before .before .before .before .args in let p = new-passed (a .s .now) (a .f .now) (a .k) (lentNew (a .tolerance) (lapsOf (a .s .now)) (a .k) (a .kinds .now) (a .nums .now)) (a .tolerance) _ (c .before .before .before .before .before .before .check-new .ensures) (c .before .before .before .before .before .if1 .left) in
+    c .check-sizes .ensures ∙ sizes-with (lentNew (a .tolerance) (lapsOf (a .s .now)) (a .k) (a .kinds .now) (a .nums .now)) (a .k) (a .s .now) (a .f .now) _ _ _ _ (a .room) (c .before .before .before .before .next-of .ensures .0) (c .before .lap-count .ensures .0) (c .before .before .before .most-new .ensures) (c .before .before .others-of .ensures .0)
+    ∙ sym (new-sizes (a .s .now) (a .f .now) (a .k) (lentNew (a .tolerance) (lapsOf (a .s .now)) (a .k) (a .kinds .now) (a .nums .now)) (a .tolerance) (a .room) p)
 
 pub check-replacement-spec : {M : Type 1} → statement M
 check-replacement-spec =
@@ -40,7 +44,8 @@ check-replacement-spec =
     (tie.spec
     check-new-requires
     returns
-    course-most-requires
+    next-of-requires
+    most-new-requires
     others-of-requires
     add-most
     lap-count-requires

@@ -3,6 +3,7 @@ use mathlib.Core.Path.{_≡_, sym, _∙_}
 use mathlib.Core.Bool.{true, false}
 use borrow.Author.Tests.{eq-eqb, ne-eqb, not-true, not-false}
 use Rattle.lap_replace.specs.Replace.{movePlaced, lentFormed}
+use native.Mathlib.Omega.{arith}
 use borrow.Author.Needs.{needs}
 use Rattle.lap_replace.proofs.replace.is_lap.Statement.{statement}
 use Rattle.lap_replace.proofs.replace.is_lap.Tie as tie
@@ -12,18 +13,18 @@ unfolding lentFormed
 returns c = rw (eq-eqb _ _ (c .if1 .taken))
 
 moves-placed-requires : tie.Need-moves-placed-requires
-moves-placed-requires c κs = search needs
+moves-placed-requires c κs = omega (arith, c .if1 .left)
 
 returns-2 : tie.Need-returns-2
 unfolding lentFormed
-returns-2 c = let q : movePlaced (c .before .before .before .before .before .args .kinds .now) ≡ false = sym (c .before .moves-placed .ensures) ∙ not-true _ (c .if2 .taken) in rw (ne-eqb _ _ (c .before .before .if1 .left), q)
+returns-2 c = let q : movePlaced (c .before .before .before .before .before .args .must) (c .before .before .before .before .before .args .kinds .now) ≡ false = sym (c .before .moves-placed .ensures) ∙ not-true _ (c .if2 .taken) in rw (ne-eqb _ _ (c .before .before .if1 .left), q)
 
 commands-formed-requires : tie.Need-commands-formed-requires
 commands-formed-requires c κs = search needs
 
 returns-3 : tie.Need-returns-3
 unfolding lentFormed
-returns-3 c = let q : movePlaced (c .before .before .before .before .before .before .args .kinds .now) ≡ true = sym (c .before .before .moves-placed .ensures) ∙ not-false _ (c .before .if2 .left) in rw (ne-eqb _ _ (c .before .before .before .if1 .left), q) (c .commands-formed .ensures)
+returns-3 c = let q : movePlaced (c .before .before .before .before .before .before .args .must) (c .before .before .before .before .before .before .args .kinds .now) ≡ true = sym (c .before .before .moves-placed .ensures) ∙ not-false _ (c .before .if2 .left) in rw (ne-eqb _ _ (c .before .before .before .if1 .left), q) (c .commands-formed .ensures)
 
 pub is-lap-spec : {M : Type 1} → statement M
 is-lap-spec =

@@ -3,6 +3,7 @@ use mathlib.Core.Path.{sym, _∙_}
 use native.Mathlib.Omega.{arith}
 use Rattle.geo.proofs.Tolerance.{tolerance-positive}
 use Rattle.geo.proofs.Outcomes.{wrote-refused}
+use Rattle.laps.specs.File.{lapsOf}
 use Rattle.laps.proofs.Rows.{wrote-bytes}
 use Rattle.lap_replace.specs.Replace.{lentNew, replaceLap}
 use Rattle.lap_replace.proofs.Rows.{lent-nine, replace-passed, past-1, past-3, past-7}
@@ -18,10 +19,10 @@ unfolding replaceLap
 returns c = wrote-refused _ _ (c .before .check-replacement .ensures) _ _ _ (c .if1 .taken)
 
 replace-laps-requires : tie.Need-replace-laps-requires
-replace-laps-requires c κs = let a = c .before .before .before .before .before .before .before .before .args in let p = replace-passed (a .recorded .now) (a .fitted .now) (a .lap) (lentNew (a .tolerance) (a .kinds .now) (a .nums .now)) (a .tolerance) _ (sym (c .before .if1 .left) ∙ c .before .before .check-replacement .ensures) in
+replace-laps-requires c κs = let a = c .before .before .before .before .before .before .before .before .args in let p = replace-passed (a .recorded .now) (a .fitted .now) (a .lap) (lentNew (a .tolerance) (lapsOf (a .recorded .now)) (a .lap) (a .kinds .now) (a .nums .now)) (a .tolerance) _ (sym (c .before .if1 .left) ∙ c .before .before .check-replacement .ensures) in
     let q = past-1 (a .recorded .now) (a .fitted .now) _ (p .0 .p1) in
     let e = lent-nine (a .kinds .now) (a .nums .now) (q .2) in
-    (tolerance-positive (a .tolerance) (p .0 .p6), omega (arith, e), past-7 (a .lap) (a .recorded .now) (p .0 .p7), q .1, past-3 (a .recorded .now) (a .fitted .now) (p .0 .p3) .1, p .1, p .2)
+    (tolerance-positive (a .tolerance) (p .0 .p6), omega (arith, e), past-7 (a .lap) (a .recorded .now) (p .0 .p7) .0, q .1, past-3 (a .recorded .now) (a .fitted .now) (p .0 .p3) .1, p .1, p .2, q .0, past-3 (a .recorded .now) (a .fitted .now) (p .0 .p3) .0, past-7 (a .lap) (a .recorded .now) (p .0 .p7) .1)
 
 same-length : tie.Need-same-length
 same-length c = search needs

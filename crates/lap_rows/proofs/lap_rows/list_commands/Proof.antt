@@ -2,7 +2,6 @@
 use mathlib.Core.Path.{refl, sym, ap}
 use native.Mathlib.Omega.{arith}
 use Rattle.fitting.specs.Pieces.{lapsRule}
-use Rattle.geo.specs.Lent.{origin}
 use Rattle.course.specs.Course.{lentCourse}
 use Rattle.listing.specs.Rows.{rowsOn}
 use Rattle.listing.proofs.Noted.{rows-placed}
@@ -39,7 +38,7 @@ fit-course-with-steps-requires : tie.Need-fit-course-with-steps-requires
 fit-course-with-steps-requires c κs = let a = c .before .before .before .before .before .before .before .before .before .before .before .before .before .before .before .before .before .before .before .before .before .args in let p = c .before .before .before .before .before .before .before .before .before .before .before .before .before .before .before .before .before .before .before .before .before .pre in let r = c .before .before .before .before .before .before .before .before .before .before .before .read-commands .ensures in
     let x = long-kinds (a .s .now) (a .at) (a .n) _ _ _ _ (p .2) (p .3) (r .0) (r .1) in
     let y = long-numbers (a .s .now) (a .at) (a .n) _ _ _ _ (p .2) (p .3) (r .0) (r .1) in
-    let z = most-read (a .s .now) (a .at) (a .n) _ _ _ _ (p .2) (p .3) (r .0) (r .1) (a .tolerance) in
+    let z = most-read (a .s .now) (a .at) (a .n) _ _ _ _ (p .2) (p .3) (r .0) (r .1) (a .tolerance) (a .start) in
     rw (c .before .before .before .before .before .before .of-laps .ensures) (p .0, (omega arith, omega (arith, p .4), omega (arith, p .5), omega (arith, p .6), p .7))
 
 same-length : tie.Need-same-length
@@ -63,7 +62,7 @@ same-length-6 c = search needs
 returns : tie.Need-returns
 unfolding lapRows
 returns c = let a = c .before .before .before .before .before .before .before .before .before .before .before .before .before .before .before .before .before .before .before .before .before .before .before .before .before .before .before .before .before .before .args in let p = c .before .before .before .before .before .before .before .before .before .before .before .before .before .before .before .before .before .before .before .before .before .before .before .before .before .before .before .before .before .before .pre in let r = c .before .before .before .before .before .before .before .before .before .before .before .before .before .before .before .before .before .before .before .before .read-commands .ensures in
-    placed-same _ _ _ _ _ _ _ (ap (rowsOn (lapsRule (a .tolerance)) origin) (read-back (a .s .now) (a .at) (a .n) _ _ _ _ (p .2) (p .3) (r .0) (r .1))) (rows-placed (lapsRule (a .tolerance)) refl origin _ _ (a .out-kinds .now) _ (a .out-nums .now) _ (a .out-steps .now) _ (rw (c .before .before .before .before .before .before .before .before .before .before .before .before .before .before .before .of-laps .ensures) at (c .before .before .before .before .before .before .before .before .fit-course-with-steps .ensures)))
+    placed-same _ _ _ _ _ _ _ (ap (rowsOn (lapsRule (a .tolerance)) (a .start)) (read-back (a .s .now) (a .at) (a .n) _ _ _ _ (p .2) (p .3) (r .0) (r .1))) (rows-placed (lapsRule (a .tolerance)) refl (a .start) _ _ (a .out-kinds .now) _ (a .out-nums .now) _ (a .out-steps .now) _ (rw (c .before .before .before .before .before .before .before .before .before .before .before .before .before .before .before .of-laps .ensures) at (c .before .before .before .before .before .before .before .before .fit-course-with-steps .ensures)))
 
 pub list-commands-spec : {M : Type 1} → statement M
 list-commands-spec =

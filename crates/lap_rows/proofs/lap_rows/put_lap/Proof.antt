@@ -18,11 +18,11 @@ list-commands-requires c κs = let p = c .before .before .before .before .before
 put-rows-requires : tie.Need-put-rows-requires
 put-rows-requires c κs = let a = c .before .before .before .before .before .before .before .before .before .before .before .before .before .before .before .before .before .before .before .before .before .before .before .before .before .before .before .before .before .before .args in let p = c .before .before .before .before .before .before .before .before .before .before .before .before .before .before .before .before .before .before .before .before .before .before .before .before .before .before .before .before .before .before .pre .0 in let q = c .before .before .before .before .before .before .before .before .before .before .before .before .before .before .before .before .before .before .before .before .before .before .before .before .before .before .before .before .before .before .pre .1 in let w = c .before .before .before .before .before .before .before .before .before .before .before .before .before .before .before .list-commands .ensures in
     let l = commandsAt (a .s .now) (a .at) (a .n) in
-    let f = rows-few (a .tolerance) (p .0) l in
+    let f = rows-few (a .tolerance) (p .0) (a .start) l in
     let n = w .count in
     let e = rows-back _ _ _ _ _ _ w (omega (arith, f, p .4, q)) (omega (arith, f, p .4, q)) in
     let k = c .before .before .before .before .before .before .before .before .before .before .before .before .before .before .before .list-commands .kept in
-    (p .3, omega (arith, f, n, p .4, q, k), omega (arith, f, n, p .4, q, k), subst (λ (rs : List ListRow). sumOf (stepsIn rs) < 1000) (sym e) (rows-short (a .tolerance) (p .0) l (p .4)), omega (arith, f, n, p .5))
+    (p .3, omega (arith, f, n, p .4, q, k), omega (arith, f, n, p .4, q, k), subst (λ (rs : List ListRow). sumOf (stepsIn rs) < 1000) (sym e) (rows-short (a .tolerance) (p .0) (a .start) l (p .4)), omega (arith, f, n, p .5))
 
 same-length : tie.Need-same-length
 same-length c = search needs
@@ -49,9 +49,9 @@ returns : tie.Need-returns
 unfolding lapText
 returns c = let a = c .before .before .before .before .before .before .before .before .before .before .before .before .before .before .before .before .before .before .before .before .before .before .before .before .before .before .before .before .before .before .before .before .before .args in let p = c .before .before .before .before .before .before .before .before .before .before .before .before .before .before .before .before .before .before .before .before .before .before .before .before .before .before .before .before .before .before .before .before .before .pre .0 in let q = c .before .before .before .before .before .before .before .before .before .before .before .before .before .before .before .before .before .before .before .before .before .before .before .before .before .before .before .before .before .before .before .before .before .pre .1 in let w = c .before .before .before .before .before .before .before .before .before .before .before .before .before .before .before .before .before .before .list-commands .ensures in
     let l = commandsAt (a .s .now) (a .at) (a .n) in
-    let f = rows-few (a .tolerance) (p .0) l in
+    let f = rows-few (a .tolerance) (p .0) (a .start) l in
     let e = rows-back _ _ _ _ _ _ w (omega (arith, f, p .4, q)) (omega (arith, f, p .4, q)) in
-    (text-same (a .lap) _ _ _ _ _ _ e (c .before .before .put-rows .ensures .0), c .before .before .put-rows .ensures .1 ∙ ap (λ (rs : List ListRow). sumOf (stepsIn rs)) e ∙ rows-steps (a .tolerance) (p .0) l)
+    (text-same (a .lap) _ _ _ _ _ _ e (c .before .before .put-rows .ensures .0), c .before .before .put-rows .ensures .1 ∙ ap (λ (rs : List ListRow). sumOf (stepsIn rs)) e ∙ rows-steps (a .tolerance) (p .0) (a .start) l)
 
 pub put-lap-spec : {M : Type 1} → statement M
 put-lap-spec =

@@ -1,26 +1,30 @@
 -- `laps::lap_file::lap_passes` meets its contract: the commands that are left decide the whole answer. The measure is how many are left. Assumes nothing.
 use Prim.Native.Nat.{_+_, _-_, _*_, _≤_}
 use mathlib.Core.Path.{_≡_}
-use mathlib.Core.Bool.{true}
 use native.Mathlib.Omega.{arith}
-use native.Mathlib.Nat.{sub-zero}
+use borrow.Author.Needs.{needs}
 use borrow.Author.Tests.{not-true, not-false}
-use lib.Dec.{eqb}
 use lib.ListN.{length-take, length-drop}
 use Rattle.file.specs.Command.{commandsAt}
-use Rattle.laps.specs.File.{lapOk, tested}
-use Rattle.laps.proofs.Walks.{lap-go, lap-stop, lap-end}
+use Rattle.laps.specs.File.{lapOk, lapTested, tested}
+use Rattle.laps.proofs.Walks.{lap-begin, lap-go, lap-stop, lap-end}
 use Rattle.laps.proofs.lap_file.lap_passes.Statement.{statement}
 use Rattle.laps.proofs.lap_file.lap_passes.Tie as tie
 
 abbrev Inv-loop : tie.InvT-loop
-Inv-loop check s at n i₀ b₀ i b = (b ≡ at + 73 * i) × (i ≤ n) × (lapOk (tested check) (eqb i 0) (commandsAt s b (n - i)) ≡ lapOk (tested check) true (commandsAt s at n))
+Inv-loop check must s at n first₀ i₀ b₀ first i b = (b ≡ at + 73 * i) × (i ≤ n) × (lapOk (tested check) first (commandsAt s b (n - i)) ≡ lapTested (tested check) must (commandsAt s at n))
 
 abbrev μ-loop : tie.MeasureT-loop
-μ-loop check s at n i₀ b₀ i b = n - i
+μ-loop check must s at n first₀ i₀ b₀ first i b = n - i
+
+lacks-move-requires : tie.Need-lacks-move-requires Inv-loop μ-loop
+lacks-move-requires c κs = search needs
+
+opens-requires : tie.Need-opens-requires Inv-loop μ-loop
+opens-requires c κs = search needs
 
 loop-holds : tie.Need-loop-holds Inv-loop μ-loop
-loop-holds c = (omega arith, omega arith, rw sub-zero)
+loop-holds c = let a = c .before .before .before .args in (omega arith, omega arith, lap-begin (tested (a .check)) (a .must) _ _ (a .s .now) (a .at) (a .n) (c .before .lacks-move .ensures) (c .opens .ensures))
 
 add-e : tie.Need-add-e Inv-loop μ-loop
 add-e c = omega arith
@@ -38,7 +42,7 @@ passes-requires : tie.Need-passes-requires Inv-loop μ-loop
 passes-requires c κs = simp (length-take, length-drop) (omega arith)
 
 returns : tie.Need-returns Inv-loop μ-loop
-returns c = let a = c .before .before .before .before .before .before .args in lap-stop (tested (a .check)) (a .s .now) (c .before .before .before .before .loop .b) (a .n) (c .before .before .before .before .loop .i) _ (c .before .before .before .loop-test .taken) _ (c .before .passes .ensures) (c .before .before .before .before .loop .inv .2) (not-true _ (c .if1 .taken))
+returns c = let a = c .before .before .before .before .before .before .before .before .args in lap-stop (tested (a .check)) (c .before .before .before .before .loop .first) (a .s .now) (c .before .before .before .before .loop .b) (a .n) (c .before .before .before .before .loop .i) _ (c .before .before .before .loop-test .taken) _ (c .before .passes .ensures) (c .before .before .before .before .loop .inv .2) (not-true _ (c .if1 .taken))
 
 add-i : tie.Need-add-i Inv-loop μ-loop
 add-i c = omega arith
@@ -47,10 +51,10 @@ loop-less : tie.Need-loop-less Inv-loop μ-loop
 loop-less c = omega arith
 
 loop-again : tie.Need-loop-again Inv-loop μ-loop
-loop-again c = let a = c .before .before .before .before .before .before .args in (omega arith, omega arith, lap-go (tested (a .check)) (a .s .now) (c .before .before .before .before .loop .b) (a .n) (c .before .before .before .before .loop .i) _ (c .before .before .before .loop-test .taken) _ (c .before .passes .ensures) (c .before .before .before .before .loop .inv .2) (not-false _ (c .if1 .left)))
+loop-again c = let a = c .before .before .before .before .before .before .before .before .args in (omega arith, omega arith, lap-go (tested (a .check)) (c .before .before .before .before .loop .first) (a .s .now) (c .before .before .before .before .loop .b) (a .n) (c .before .before .before .before .loop .i) _ (c .before .before .before .loop-test .taken) _ (c .before .passes .ensures) (c .before .before .before .before .loop .inv .2) (not-false _ (c .if1 .left)))
 
 returns-2 : tie.Need-returns-2 Inv-loop μ-loop
-returns-2 c = let a = c .before .before .before .args in lap-end (tested (a .check)) (eqb (c .before .loop .i) 0) (a .s .now) (c .before .loop .b) (a .n) (c .before .loop .i) _ (c .loop-test .left) (c .before .loop .inv .2)
+returns-2 c = let a = c .before .before .before .before .before .args in lap-end (tested (a .check)) (c .before .loop .first) (a .s .now) (c .before .loop .b) (a .n) (c .before .loop .i) _ (c .loop-test .left) (c .before .loop .inv .2)
 
 pub lap-passes-spec : {M : Type 1} → statement M
 lap-passes-spec =
@@ -58,6 +62,8 @@ lap-passes-spec =
     (tie.spec
     Inv-loop
     μ-loop
+    lacks-move-requires
+    opens-requires
     loop-holds
     add-e
     sub-passes
