@@ -37,11 +37,32 @@ fn read(body: &[u8]) -> Vec<Command> {
         .collect()
 }
 
+/// A lap's commands with a Move in front: its own, or one that is put in and not written.
+pub struct Lap {
+    pub commands: Vec<Command>,
+    pub put_in: bool,
+}
+
+/// The laps of a file. One that lacks its Move starts at the last end before it.
+fn read_all(bodies: &[&[u8]]) -> Vec<Lap> {
+    let mut last = Point3D::new(0.0, 0.0, 0.0);
+    let mut laps = Vec::with_capacity(bodies.len());
+    for body in bodies {
+        let put_in = body[0] != 0;
+        let mut commands = Vec::with_capacity(1 + body.len() / 73);
+        commands.extend(put_in.then_some(Command::Move { end: last }));
+        commands.extend(read(body));
+        last = commands[commands.len() - 1].end_point();
+        laps.push(Lap { commands, put_in });
+    }
+    laps
+}
+
 /// That Rust's fit of a lap, as the body of a file.
-fn fitted_lap(lap: &[Command], tolerance: f64) -> Vec<u8> {
-    let fitted = fitting::fit_arcs(lap, tolerance);
+fn fitted_lap(lap: &Lap, tolerance: f64) -> Vec<u8> {
+    let fitted = fitting::fit_arcs(&lap.commands, tolerance);
     let mut bytes = Vec::with_capacity(73 * fitted.len());
-    for (kind, points) in fitted.iter().map(parts) {
+    for (kind, points) in fitted.iter().skip(lap.put_in as usize).map(parts) {
         bytes.push(kind);
         points.iter().flat_map(|p| [p.x, p.y, p.z]).for_each(|x| bytes.extend(x.to_le_bytes()));
     }
@@ -55,13 +76,13 @@ struct Looked {
     most: f64,
 }
 
-fn look(body: &[u8], lap: &[Command], tolerance: f64) -> Looked {
+fn look(body: &[u8], lap: &Lap, tolerance: f64) -> Looked {
     let near = |p: Point3D| [p.x, p.y, p.z].iter().all(|x| x.abs() <= 1_000_000.0);
     let finite = |p: Point3D| [p.x, p.y, p.z].iter().all(|x| x.is_finite());
-    let (mut looked, mut last) = (Looked { formed: true, within: true, most: 0.0 }, Point3D::new(0.0, 0.0, 0.0));
-    for (i, (one, command)) in body.chunks_exact(73).zip(lap).enumerate() {
+    let (mut looked, mut last) = (Looked { formed: true, within: true, most: 0.0 }, lap.commands[0].end_point());
+    for (i, (one, command)) in body.chunks_exact(73).zip(&lap.commands[lap.put_in as usize..]).enumerate() {
         let end = command.end_point();
-        looked.formed &= (i == 0) == (one[0] == 0) && one[0] < 4 && (one[0] > 1 || one[25..].iter().all(|b| *b == 0));
+        looked.formed &= (i == 0 || one[0] != 0) && one[0] < 4 && (one[0] > 1 || one[25..].iter().all(|b| *b == 0));
         looked.within &= near(end)
             && match command {
                 Command::Move { .. } | Command::Line { .. } => true,
@@ -81,7 +102,7 @@ fn look(body: &[u8], lap: &[Command], tolerance: f64) -> Looked {
 }
 
 /// The laps of a file, or the number of the first of document 01's rows that its fit falls under, an output's room left out.
-pub fn checked(bytes: &[u8], tolerance: f64) -> Result<Vec<Vec<Command>>, u32> {
+pub fn checked(bytes: &[u8], tolerance: f64) -> Result<Vec<Lap>, u32> {
     if bytes.len() < 8 {
         return Err(1);
     }
@@ -89,10 +110,10 @@ pub fn checked(bytes: &[u8], tolerance: f64) -> Result<Vec<Vec<Command>>, u32> {
         return Err(2);
     }
     let raw = bodies(bytes).ok_or(3u32)?;
-    let laps: Vec<Vec<Command>> = raw.iter().map(|body| read(body)).collect();
+    let laps = read_all(&raw);
     let looked: Vec<Looked> = raw.iter().zip(&laps).map(|(body, lap)| look(body, lap, tolerance)).collect();
     let rows = [
-        (4, !looked.iter().all(|lap| lap.formed)),
+        (4, laps.first().is_some_and(|lap| lap.put_in) || !looked.iter().all(|lap| lap.formed)),
         (5, !looked.iter().all(|lap| lap.within)),
         (6, !(0.001..=1_000.0).contains(&tolerance)),
         (8, looked.iter().map(|lap| lap.most).sum::<f64>() > 800.0),
@@ -107,29 +128,30 @@ fn given_fit(bytes: &[u8], tolerance: f64, with_rows: bool) -> Vec<u8> {
     let laps = if with_rows {
         checked(bytes, tolerance).expect("an input that is accepted")
     } else {
-        bodies(bytes).expect("a right table").iter().map(|body| read(body)).collect()
+        read_all(&bodies(bytes).expect("a right table"))
     };
     file(&laps.iter().map(|lap| fitted_lap(lap, tolerance)).collect::<Vec<_>>())
 }
 
-/// The new commands come as a lap's body too, from which the rows read what the commands do not keep.
+/// The new commands come as a lap's body too, from which the rows read what the commands do not keep. No lap carries on here.
 fn given_replacement(recorded: &[u8], fitted: &[u8], lap: usize, new: &[u8], tolerance: f64, checked: bool) -> Vec<u8> {
     let mut laps: Vec<Vec<u8>> = bodies(fitted).expect("a right table").iter().map(|body| body.to_vec()).collect();
-    let commands = read(new);
+    let fresh = read_all(&[new]).swap_remove(0);
     if checked {
-        let looked = |body: &[u8], lap: &[Command]| {
+        let looked = |body: &[u8], lap: &Lap| {
             let looked = look(body, lap, tolerance);
             assert!(looked.formed && looked.within, "an input that is accepted");
             looked.most
         };
-        for body in bodies(recorded).expect("a right table") {
-            black_box(looked(body, &read(body)));
+        let raw = bodies(recorded).expect("a right table");
+        for (body, lap) in raw.iter().zip(read_all(&raw)) {
+            black_box(looked(body, &lap));
         }
         let others: usize = laps.iter().map(|body| body.len() / 73).sum::<usize>() - laps[lap - 1].len() / 73;
-        let most = looked(new, &commands) + others as f64;
+        let most = looked(new, &fresh) + others as f64;
         assert!((0.001..=1_000.0).contains(&tolerance) && most <= 800.0, "an input that is accepted");
     }
-    laps[lap - 1] = fitted_lap(&commands, tolerance);
+    laps[lap - 1] = fitted_lap(&fresh, tolerance);
     file(&laps)
 }
 

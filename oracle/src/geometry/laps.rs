@@ -2,8 +2,9 @@
 //!
 //! Document 01's file layer stands here once more, written apart from the proved code: reading, the rows of the table and
 //! the bytes of a file. The fit of a lap is the `fit_arcs` of the given Rust into which the distance to the segment is put
-//! (document 02, §4). Where document 01's margins do not hold for a lap, that lap's answer is left open: there the proved
-//! function's commands are taken as they are, and all else is compared.
+//! (document 02, §4); of a lap without a Move it is that of the lap with one put in front, which is then taken out of the
+//! answer (document 02, §13). Where document 01's margins do not hold for a lap, that lap's answer is left open: there the
+//! proved function's commands are taken as they are, and all else is compared.
 use super::calls::{pz_fit_file, pz_replace_lap};
 use super::course::{self, controls, way_of_arcs};
 use super::draw::Draw;
@@ -87,6 +88,47 @@ pub fn laps_of(bytes: &[u8]) -> Option<Vec<Commands>> {
     Some(bodies(bytes)?.into_iter().map(commands).collect())
 }
 
+// ---- laps that carry on
+
+fn carries_on(lap: &Commands) -> bool {
+    lap.kinds.first().is_some_and(|kind| *kind != 0)
+}
+
+/// The end of a lap's last command.
+fn last_end(lap: &Commands) -> [f64; 3] {
+    lap.numbers.chunks_exact(9).last().map_or([0.0; 3], |nine| [nine[0], nine[1], nine[2]])
+}
+
+/// A lap with a Move in front: its own, or one that is put in and not written.
+pub struct Started {
+    pub commands: Commands,
+    pub put_in: bool,
+}
+
+impl Started {
+    /// "A lap after the first may lack its Move and then starts at the previous lap's last recorded end."
+    fn behind(last: [f64; 3], lap: &Commands) -> Started {
+        if !carries_on(lap) {
+            return Started { commands: lap.clone(), put_in: false };
+        }
+        let front = [&last[..], &[0.0; 6]].concat();
+        let commands =
+            Commands { kinds: [&[0], &lap.kinds[..]].concat(), numbers: [&front, &lap.numbers[..]].concat() };
+        Started { commands, put_in: true }
+    }
+
+    /// Its own most: the Move that is put in does not count.
+    fn most(&self, tolerance: f64) -> f64 {
+        course::most(&self.commands, tolerance) - self.put_in as u8 as f64
+    }
+}
+
+/// The laps of a file, each with a Move in front.
+pub fn started(laps: &[Commands]) -> Vec<Started> {
+    let starts = [[0.0; 3]].into_iter().chain(laps.iter().map(last_end));
+    starts.zip(laps).map(|(last, lap)| Started::behind(last, lap)).collect()
+}
+
 // ---- the table
 
 fn short(bytes: &[u8]) -> bool {
@@ -97,10 +139,15 @@ fn big(bytes: &[u8]) -> bool {
     bytes.len() > 65_536 || u32_at(bytes, 4).is_some_and(|laps| laps > 64)
 }
 
-/// Row 4 of a lap: one Move, its first command, and commands that are well formed.
-fn formed(lap: &Commands) -> bool {
+/// Row 4 of a lap: a command at least, no Move but in front, where a first lap must have one, and commands that are well formed.
+fn formed(lap: &Commands, first: bool) -> bool {
     let moves: Vec<usize> = (0..lap.kinds.len()).filter(|i| lap.kinds[*i] == 0).collect();
-    moves == [0] && lap.each(table::formed)
+    let placed = moves == [0] || (moves.is_empty() && !first && !lap.kinds.is_empty());
+    placed && lap.each(table::formed)
+}
+
+fn all_formed(laps: &[Commands]) -> bool {
+    laps.iter().enumerate().all(|(i, lap)| formed(lap, i == 0))
 }
 
 fn within(lap: &Commands) -> bool {
@@ -113,7 +160,7 @@ fn size(laps: usize, most: f64) -> f64 {
 }
 
 fn most_of(laps: &[Commands], tolerance: f64) -> f64 {
-    laps.iter().map(|lap| course::most(lap, tolerance)).sum()
+    started(laps).iter().map(|lap| lap.most(tolerance)).sum()
 }
 
 /// Rows 8 and 9.
@@ -128,7 +175,7 @@ pub fn fit_rows(bytes: &[u8], tolerance: f64, room: usize) -> Vec<Row> {
         (1, short(bytes)),
         (2, big(bytes)),
         (3, read.is_none()),
-        table::malformed(laps.iter().all(formed)),
+        table::malformed(all_formed(laps)),
         table::outside(laps.iter().all(within)),
         table::bad_tolerance(table::tolerance(tolerance)),
     ];
@@ -147,12 +194,21 @@ pub struct Replacement {
 }
 
 impl Replacement {
-    /// The new lap's most, and the commands in all other laps of the fitted file.
+    /// The laps that are fitted again, by their place in the file: the new one, and the next where that carries on.
+    fn refitted(&self) -> Vec<(usize, Started)> {
+        let mut laps = laps_of(&self.recorded).unwrap_or_default();
+        let Some(new) = self.lap.checked_sub(1).filter(|place| *place < laps.len()) else { return Vec::new() };
+        laps[new] = self.new.clone();
+        let next = laps.get(self.lap).is_some_and(carries_on);
+        started(&laps).into_iter().enumerate().skip(new).take(1 + next as usize).collect()
+    }
+
+    /// The mosts of the laps that are fitted again, and the commands in all other laps of the fitted file.
     fn most(&self) -> f64 {
-        let all = bodies(&self.fitted).unwrap_or_default();
-        let others = all.iter().enumerate().filter(|(i, _)| i + 1 != self.lap);
+        let (all, refitted) = (bodies(&self.fitted).unwrap_or_default(), self.refitted());
+        let others = all.iter().enumerate().filter(|(i, _)| refitted.iter().all(|lap| lap.0 != *i));
         let copied: usize = others.map(|(_, body)| body.len() / COMMAND).sum();
-        course::most(&self.new, self.tolerance) + copied as f64
+        refitted.iter().map(|lap| lap.1.most(self.tolerance)).sum::<f64>() + copied as f64
     }
 
     fn rows(&self) -> Vec<Row> {
@@ -165,7 +221,7 @@ impl Replacement {
             (2, big(&self.recorded) || big(&self.fitted)),
             table::too_many_commands(self.new.kinds.len()),
             (3, recorded.is_none() || fitted.is_none() || count(&recorded) != count(&fitted)),
-            table::malformed(laps.iter().all(formed) && formed(&self.new)),
+            table::malformed(all_formed(laps) && formed(&self.new, self.lap <= 1)),
             table::outside(laps.iter().all(within) && within(&self.new)),
             table::bad_tolerance(table::tolerance(self.tolerance)),
             (7, self.lap == 0 || self.lap > laps.len()),
@@ -180,12 +236,12 @@ impl Replacement {
 /// A lap as it is to be written, and where its fit stands.
 type Made = (Vec<u8>, Stands);
 
-/// That Rust's fit of a lap.
-fn fit_of_lap(lap: &Commands, tolerance: f64) -> Made {
-    let data = lap.given();
+/// That Rust's fit of a lap, without the Move that was put in.
+fn fit_of_lap(lap: &Started, tolerance: f64) -> Made {
+    let data = lap.commands.given();
     let answer = fit_arcs(&data, tolerance);
     let stands = way_of_arcs(&data, tolerance).stands(&answer);
-    let all: Vec<_> = answer.iter().map(parts).collect();
+    let all: Vec<_> = answer.iter().skip(lap.put_in as usize).map(parts).collect();
     let kinds = all.iter().map(|part| part.0).collect();
     let numbers = all.iter().flat_map(|part| part.1).flat_map(|p| [p.x, p.y, p.z]).collect();
     (body(&Commands { kinds, numbers }), stands)
@@ -257,7 +313,7 @@ pub fn fit_of(recorded: &[u8], tolerance: f64, room: usize) -> Judged {
         },
         |before| {
             let laps = laps_of(recorded).expect("a table that was accepted");
-            made = laps.iter().map(|lap| fit_of_lap(lap, tolerance)).collect();
+            made = started(&laps).iter().map(|lap| fit_of_lap(lap, tolerance)).collect();
             left(before, room, &written(&made))
         },
     );
@@ -298,7 +354,9 @@ pub fn replacement_of(r: &Replacement) -> Judged {
         |before| {
             let all = bodies(&r.fitted).expect("a table that was accepted");
             made = all.iter().map(|body| (body.to_vec(), Stands::UNTRIED)).collect();
-            made[r.lap - 1] = fit_of_lap(&r.new, r.tolerance);
+            for (place, lap) in r.refitted() {
+                made[place] = fit_of_lap(&lap, r.tolerance);
+            }
             left(before, r.room, &written(&made))
         },
     );
@@ -405,8 +463,35 @@ fn counts(draw: &mut Draw) -> Vec<usize> {
     }
 }
 
+/// Takes the Move of a lap away, where a command is left.
+pub fn carry_on(lap: &mut Commands) {
+    if lap.kinds.len() > 1 && lap.kinds[0] == 0 {
+        lap.kinds.remove(0);
+        lap.numbers.drain(..9);
+    }
+}
+
+/// Lets laps behind the first carry on: none, every second one, all, or any.
+fn carried(draw: &mut Draw, laps: &mut [Commands]) {
+    let (way, other) = (draw.below(5), draw.below(2));
+    let labels = ["every second lap carries on", "all laps but the first carry on", "any laps carry on"];
+    let Some(label) = labels.get(way) else { return };
+    draw.label(label);
+    for (i, lap) in laps.iter_mut().enumerate().skip(1) {
+        if way == 1 || (way == 0 && i % 2 == other) || (way == 2 && draw.flag()) {
+            carry_on(lap);
+        }
+    }
+}
+
 /// The laps of a recording, all in order.
 fn laps(draw: &mut Draw) -> Vec<Commands> {
+    let mut laps = laps_with_moves(draw);
+    carried(draw, &mut laps);
+    laps
+}
+
+fn laps_with_moves(draw: &mut Draw) -> Vec<Commands> {
     if draw.one_in(4) {
         draw.label("file: a workout of six laps");
         return workout(draw);
@@ -554,7 +639,7 @@ fn given_fit(recorded: &[u8], tolerance: f64) -> Vec<u8> {
         return recorded.to_vec();
     }
     let laps = laps_of(recorded).expect("a table that was accepted");
-    written(&laps.iter().map(|lap| fit_of_lap(lap, tolerance)).collect::<Vec<_>>())
+    written(&started(&laps).iter().map(|lap| fit_of_lap(lap, tolerance)).collect::<Vec<_>>())
 }
 
 /// Bodies of any bytes, for so many laps and commands.
@@ -604,8 +689,17 @@ fn fitted_for(draw: &mut Draw, laps: &[Commands], recorded: &[u8], tolerance: f6
     }
 }
 
-/// A new lap in order: any, or a lap of the track.
+/// A new lap in order: any, or a lap of the track; one in three carries on.
 fn new_lap(draw: &mut Draw) -> Commands {
+    let mut new = new_lap_with_move(draw);
+    if draw.one_in(3) {
+        draw.label("new: carries on");
+        carry_on(&mut new);
+    }
+    new
+}
+
+fn new_lap_with_move(draw: &mut Draw) -> Commands {
     let count = match draw.below(12) {
         0 => draw.edge(&[(799, "new: 799 commands"), (800, "new: 800 commands")]),
         1 => draw.labelled("new: one command", 1),

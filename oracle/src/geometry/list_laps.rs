@@ -2,7 +2,7 @@
 //! each lap.
 use super::draw::Draw;
 use super::fit::Judged;
-use super::laps::{FUNCTIONS, Replacement, first_bytes, fit_of, lap, recording, replacement_of, workout};
+use super::laps::{FUNCTIONS, Replacement, carry_on, first_bytes, fit_of, lap, recording, replacement_of, workout};
 use super::list::{Record, filled, record};
 use super::margins::Margins;
 use super::simplify::Commands;
@@ -109,6 +109,46 @@ fn replacements(draw: &mut Draw) -> Vec<Judged> {
         .collect()
 }
 
+/// Laps that carry on behind a Bezier, behind an Arc, behind another of one command, and behind a Move alone; one that
+/// carries on in front of all; and each of them replaced by a lap with its Move and by one without.
+fn carried_on() -> Vec<Judged> {
+    let carried = |plane: &[f64]| {
+        let mut lap = lines(plane);
+        carry_on(&mut lap);
+        lap
+    };
+    let curve = [5.0, 0.0, 0.0, 3.0, 8.0, 0.0, 6.0, 4.0, 0.0];
+    let bend = [9.0, 4.0, 0.0, 2.0, 2.0, 0.0, 0.0, 0.0, 1.0];
+    let with = |kind: u8, nine: [f64; 9], mut lap: Commands| {
+        lap.kinds.push(kind);
+        lap.numbers.extend(nine);
+        lap
+    };
+    let first = with(3, curve, lines(&[0.0, 0.0, 4.0, 0.0]));
+    let laps = [
+        first,
+        with(2, bend, carried(&[0.0, 0.0, 5.0, 4.0])),
+        carried(&[0.0, 0.0, 9.0, 9.0]),
+        carried(&[0.0, 0.0, 20.0, 9.0, 12.0, 9.0]),
+        lines(&[7.0, 7.0]),
+        carried(&[0.0, 0.0, 7.0, 3.0, 10.0, 3.0, 10.0, 9.0]),
+    ];
+    let recorded = recording(&laps);
+    let fitted = recording(&laps.clone().map(|lap| Commands { kinds: vec![1; lap.kinds.len()], ..lap }));
+    let new = [lines(&[3.0, 4.0, 4.0, 3.0, 5.0, 0.0]), carried(&[0.0, 0.0, 4.0, 3.0, 5.0, 0.0])];
+    let calls = (0..8).flat_map(|lap| new.iter().map(move |new| (lap, new)));
+    let replaced = calls.map(|(lap, new)| Replacement {
+        recorded: recorded.clone(),
+        fitted: fitted.clone(),
+        lap,
+        new: new.clone(),
+        tolerance: 0.3,
+        room: ROOM,
+    });
+    let fits = [fit_of(&recorded, 0.3, ROOM), fit_of(&recording(&laps[1..]), 0.3, ROOM)];
+    fits.into_iter().chain(replaced.map(|r| replacement_of(&r))).collect()
+}
+
 /// A workout of six laps as it is and with something wrong at its last command, a lap without a Move, 64 laps and 65, 800
 /// commands and 801, the most bytes and one more.
 fn edges(draw: &mut Draw) -> Vec<Judged> {
@@ -139,11 +179,11 @@ fn edges(draw: &mut Draw) -> Vec<Judged> {
     ]
 }
 
-/// The worked cases, the shuttle, changed bits, replacements, the edges, and then drawn calls, half of them replacements. One that is long,
-/// or whose answer is not owed, is drawn again.
+/// The worked cases, the shuttle, changed bits, replacements, laps that carry on, the edges, and then drawn calls, half of them
+/// replacements. One that is long, or whose answer is not owed, is drawn again.
 pub fn records(count: usize, seed: u64) -> Vec<Record> {
     let mut draw = Draw::new(Random::new(seed));
-    let fixed = [worked(), shuttle(), flipped(), replacements(&mut draw), edges(&mut draw)];
+    let fixed = [worked(), shuttle(), flipped(), replacements(&mut draw), carried_on(), edges(&mut draw)];
     let inside = |call: &&Judged| call.stands.is_none_or(|stands| stands.margins != Margins::Outside);
     let fixed: Vec<Record> = fixed.iter().flatten().filter(inside).map(|judged| record(&judged.call)).collect();
     draw.labels();

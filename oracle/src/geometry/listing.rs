@@ -1,12 +1,12 @@
 //! The program `lapfit`: what it prints, compared with what the given Rust makes of the same input once the distance to the
 //! segment is put in (document 02, §4), and its time beside that of a Rust program that does the same.
 use super::bench::{ROUNDS, head, print_times};
-use super::bench_laps::full_files;
+use super::bench_laps::{Lap, full_files};
 use super::course::way_of_arcs;
 use super::draw::Draw;
 use super::fit::{Judged, Stands};
 use super::frame::{Compared, Function, Outcome};
-use super::laps::{any_file, argument, fit_rows, laps_of, recording};
+use super::laps::{any_file, argument, fit_rows, laps_of, recording, started};
 use super::lent::Lent;
 use super::margins::Margins;
 use super::simplify::parts;
@@ -65,9 +65,11 @@ impl Rows<'_> {
         self.chain.clear();
     }
 
-    fn list(&mut self, lap: &[Command]) {
-        let mut last = Point3D::new(0.0, 0.0, 0.0);
-        for command in lap {
+    /// The rows of a lap; a Move that was put in has none.
+    fn list(&mut self, lap: &Lap) {
+        let mut last = lap.commands[0].end_point();
+        self.chain.extend(lap.put_in.then_some(last));
+        for command in &lap.commands[lap.put_in as usize..] {
             let end = command.end_point();
             match command {
                 Command::Move { .. } | Command::Arc { .. } => {
@@ -142,11 +144,11 @@ fn steps_kept(lap: &[Command], tolerance: f64) -> usize {
 /// The listing by the Rust's way through each lap with the sum under it, and where its arc trials stand.
 fn listing(file: &[u8], tolerance: f64) -> (String, Stands) {
     let (mut text, mut total, mut stands) = (HEAD.to_string(), 0, Stands::UNTRIED);
-    for (i, lap) in laps_of(file).expect("a table that was accepted").iter().enumerate() {
-        let data = lap.given();
+    for (i, lap) in started(&laps_of(file).expect("a table that was accepted")).iter().enumerate() {
+        let data = lap.commands.given();
         let answer = fitting::fit_arcs(&data, tolerance);
         let way = way_of_arcs(&data, tolerance);
-        for (command, steps) in answer.iter().zip(&way.steps) {
+        for (command, steps) in answer.iter().zip(&way.steps).skip(lap.put_in as usize) {
             let letter = ["M", "L", "A"][parts(command).0 as usize];
             writeln!(text, "{},{letter},{steps}", i + 1).expect("a string takes all");
         }
