@@ -61,6 +61,7 @@ def parents():
     add("--columns", type=columns, metavar="NAMES", help="the columns of a table: lap,time,x,y,z or lap,time,lat,lon,z; - skips one")
     add("--laps-at", type=listed, default=[], metavar="TIMES", help="laps by times: FROM..TO, or FROM alone, with commas between")
     add("--renumber", action="store_true", help="count the laps anew where one is missing")
+    add("--carry-on", action="store_true", help="each lap behind the first starts where the last one ended, as on a track")
     shared["fit"].add_argument("--fit", metavar="FITTED.laps", help="check that this file is the fit of the workout")
     add, limits = shared["limits"].add_argument, Limits()
     add("--flat", type=float, default=limits.flat, help="the greatest radius of a bend, in metres (default %(default)s)")

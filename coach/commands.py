@@ -10,7 +10,7 @@ from files import label
 from fitting import check_fit, count, fit_line, fitted_pieces
 from geometry import strokes_of
 from gpx import gpx_text
-from lapfile import BEZIER, commands_of, file_of
+from lapfile import BEZIER, body_of, commands_of, file_of, joined, started
 from live import live_text
 from maps import map_of
 from page import page_of
@@ -26,7 +26,7 @@ from workout import Choices, Workout, check_laps, read_workout, workout_text
 
 def recording(files, name, words):
     """The workout of a file, read as the words say."""
-    return read_workout(files.read(name), label(name), Choices(words.columns, words.laps_at, words.renumber))
+    return read_workout(files.read(name), label(name), Choices(words.columns, words.laps_at, words.renumber, words.carry_on))
 
 
 def told(line, *outputs):
@@ -41,13 +41,14 @@ def read(files, words):
 
 
 def summary(workout):
-    spent = sum(lap[-1].time - lap[0].time for lap in workout.laps)
-    return f"{count(sum(map(len, workout.laps)), 'position')} in {count(len(workout.laps), 'lap')}, {spent:.2f} s in all"
+    laps, recorded = workout.laps, workout.recorded
+    spent = sum(lap[-1].time - lap[0].time for lap in laps)
+    return f"{count(sum(map(len, recorded)), 'position')} in {count(len(laps), 'lap')}, {spent:.2f} s in all"
 
 
 def make(files, words):
     workout = recording(files, words.workout, words)
-    files.save((words.recorded, file_of(workout.laps)))
+    files.save((words.recorded, file_of(workout.laps, workout.carries_on)))
     return told(summary(workout), words.recorded)
 
 
@@ -141,12 +142,13 @@ def replace(files, words):
     check_fit(workout, words.tolerance, label(words.workout), given, label(words.fitted))
     choices = Choices(alone=True, part_of=workout)
     new = read_workout(files.read(words.new_lap), label(words.new_lap), choices)
-    laps = workout.laps[:words.lap - 1] + new.laps + workout.laps[words.lap:]
+    laps = workout.recorded[:words.lap - 1] + new.recorded + workout.recorded[words.lap:]
     check_laps(laps, label(words.new_lap))
-    recorded = file_of(workout.laps)
-    fitted = replaced_bytes(recorded, given, words.lap, file_of(new.laps), words.tolerance, words.workout)
-    corrected = Workout(laps, workout.origin, workout.start)
-    line = fit_line(commands_of(file_of(laps), words.new_lap), commands_of(fitted, words.new_lap))
+    corrected = Workout(laps, workout.origin, workout.start, workout.carries_on)
+    carry_on = corrected.carries_on
+    body = body_of(corrected.laps[words.lap - 1], carry_on and words.lap > 1)
+    fitted = replaced_bytes(file_of(workout.laps, carry_on), given, words.lap, joined([body]), words.tolerance, words.workout)
+    line = fit_line(commands_of(file_of(corrected.laps, carry_on), words.new_lap), commands_of(fitted, words.new_lap))
     files.save((words.new_workout, workout_text(corrected).encode()), (words.new_fitted, fitted))
     return told(line, words.new_workout, words.new_fitted)
 
@@ -173,7 +175,7 @@ def text(files, words):
 
 def gpx(files, words):
     """A lap file as GPX: times, where a workout gives them, stand at recorded positions alone."""
-    laps = commands_of(files.read(words.file), label(words.file))
+    laps = started(commands_of(files.read(words.file), label(words.file)))
     workout = recording(files, words.workout, words) if words.workout else None
     plane = plane_of(words, workout)
     if plane is None:

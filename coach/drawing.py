@@ -2,6 +2,7 @@
 from course import BORDER, HEAD, START, WIDTH, Frame, arrow, path_of, px, tick, titled
 from fitting import count
 from geometry import strokes_of
+from lapfile import started
 from lapfile import ARC, BEZIER
 from picture import STYLE
 
@@ -57,7 +58,7 @@ def length(strokes):
 def drawing_of(recorded, fitted, tolerance):
     """The picture of all laps in one frame, as SVG."""
     laps = [mirrored(commands) for commands in recorded]
-    strokes = [strokes_of(mirrored(commands)) for commands in fitted]
+    strokes = [strokes_of(mirrored(commands)) for commands in started(fitted)]
     places = [place for commands in laps for place in places_of(commands)]
     frame = Frame.of(places or [(0.0, 0.0)])
     centre = [(min(axis) + max(axis)) / 2 for axis in zip(*places)] if places else [0.0, 0.0]
@@ -79,7 +80,7 @@ def drawing_of(recorded, fitted, tolerance):
 
 def course_line(recorded, fitted):
     """What was read and fitted, in one line."""
-    strokes = [strokes_of(commands) for commands in fitted]
+    strokes = [strokes_of(commands) for commands in started(fitted)]
     arcs = sum(stroke.is_arc for lap in strokes for stroke in lap)
     lines = sum(map(len, strokes)) - arcs
     return (f"{count(sum(map(len, recorded)), 'command')} in {count(len(recorded), 'lap')}; "

@@ -1,6 +1,6 @@
 """The fit of a workout: its pieces, whether a fitted file is its fit, and what a fit did in one line."""
 from geometry import farthest, strokes_of
-from lapfile import commands_of, file_of
+from lapfile import commands_of, file_of, started
 from pieces import pieces_of
 from proved import fitted_bytes
 from trouble import Trouble
@@ -8,13 +8,13 @@ from trouble import Trouble
 
 def fitted_pieces(workout, tolerance, name):
     """The pieces of each lap at a tolerance."""
-    fresh = fitted_bytes(tolerance, file_of(workout.laps), name)
-    return pieces_of(workout.laps, commands_of(fresh, name))
+    fresh = fitted_bytes(tolerance, file_of(workout.laps, workout.carries_on), name)
+    return pieces_of(workout.laps, started(commands_of(fresh, name)))
 
 
 def check_fit(workout, tolerance, name, fitted, fit_name):
     """Stops a fitted file that is not the workout's at the tolerance: the workout is fitted again and compared."""
-    fresh = fitted_bytes(tolerance, file_of(workout.laps), name)
+    fresh = fitted_bytes(tolerance, file_of(workout.laps, workout.carries_on), name)
     if fitted == fresh:
         return
     given, laps = commands_of(fitted, fit_name), commands_of(fresh, name)
@@ -27,7 +27,7 @@ def check_fit(workout, tolerance, name, fitted, fit_name):
 def fit_line(recorded, fitted):
     """What a fit did, in one line."""
     places = [[command[1:4] for command in commands] for commands in recorded]
-    strokes = [strokes_of(commands) for commands in fitted]
+    strokes = [strokes_of(commands) for commands in started(fitted)]
     arcs = sum(stroke.is_arc for lap in strokes for stroke in lap)
     lines = sum(map(len, strokes)) - arcs
     line = (f"{count(sum(map(len, places)), 'position')} in {count(len(places), 'lap')}, {count(lines + arcs, 'piece')}: "

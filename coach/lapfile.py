@@ -8,14 +8,24 @@ MOVE, LINE, ARC, BEZIER = range(4)
 MOST_LAPS, MOST_COMMANDS, MOST_BYTES, FARTHEST = 64, 800, 65536, 1_000_000
 
 
-def file_of(laps):
-    """The lap file of recorded laps: to each a Move, then Lines."""
-    table, bodies, at = b"", b"", 8 + 8 * len(laps)
-    for positions in laps:
-        table += struct.pack("<II", at + len(bodies), len(positions))
-        for i, position in enumerate(positions):
-            bodies += struct.pack("<B9d", LINE if i else MOVE, *position.place, *[0.0] * 6)
-    return b"LAPS" + struct.pack("<I", len(laps)) + table + bodies
+def body_of(positions, carries_on=False):
+    """The commands of a lap: a Move to its first position, then Lines; without the Move where it carries on from there."""
+    packed = [struct.pack("<B9d", LINE if i else MOVE, *position.place, *[0.0] * 6) for i, position in enumerate(positions)]
+    return b"".join(packed[carries_on:])
+
+
+def joined(bodies):
+    """The lap file of bodies."""
+    table, at = b"", 8 + 8 * len(bodies)
+    for body in bodies:
+        table += struct.pack("<II", at, len(body) // 73)
+        at += len(body)
+    return b"LAPS" + struct.pack("<I", len(bodies)) + table + b"".join(bodies)
+
+
+def file_of(laps, carry_on=False):
+    """The lap file of recorded laps; where they carry on, each behind the first lacks its Move."""
+    return joined([body_of(positions, carry_on and i > 0) for i, positions in enumerate(laps)])
 
 
 def bodies_of(file, name):
@@ -43,14 +53,15 @@ def fault(laps, refusal):
     """Where the first command stands that refusal 4 or 5 is about; nothing where there is none."""
     for lap, commands in enumerate(laps, 1):
         for i, (kind, *numbers) in enumerate(commands):
-            if misplaced(i, kind, numbers) if refusal == 4 else outside(kind, numbers):
+            if misplaced(lap, i, kind, numbers) if refusal == 4 else outside(kind, numbers):
                 return f", lap {lap}, command {i + 1}"
     return ""
 
 
-def misplaced(i, kind, numbers):
+def misplaced(lap, i, kind, numbers):
     used = {MOVE: 3, LINE: 3}.get(kind, 9)
-    return kind > BEZIER or (kind == MOVE) != (i == 0) or any(struct.pack("<9d", *numbers)[8 * used:])
+    wrong_move = i > 0 if kind == MOVE else lap == 1 and i == 0
+    return kind > BEZIER or wrong_move or any(struct.pack("<9d", *numbers)[8 * used:])
 
 
 def outside(kind, numbers):
@@ -66,3 +77,9 @@ def commands_of(file, name):
         if where:
             raise Refused(refusal, name + where)
     return laps
+
+
+def started(laps):
+    """Laps with a Move in front of each: where one lacks its own, a Move to the end of the lap before it."""
+    ends = [(0.0,) * 3, *(commands[-1][1:4] for commands in laps)]
+    return [commands if commands[0][0] == MOVE else [(MOVE, *end, *[0.0] * 6), *commands] for end, commands in zip(ends, laps)]

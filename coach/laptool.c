@@ -333,7 +333,7 @@ static uint32_t draw_command(struct grown *file, const char *name, double tolera
 static int lines(char **words, int force)
 {
     static struct grown drawn;
-    double tolerance = number(words[0]);
+    double tolerance = number(words[0]), end[3] = {0, 0, 0};
     size_t size = read_file(words[1], fitted), laps = size < 8 ? 0 : u32_at(fitted + 4), at = 8 + 8 * laps;
     if (size < 8 || memcmp(fitted, "LAPS", 4) || laps > PZ_MOST_LAPS || size < at || size > PZ_MOST_FILE_BYTES) {
         fail("is no lap file", words[1]);
@@ -342,7 +342,6 @@ static int lines(char **words, int force)
     drawn.size = at;
     for (size_t lap = 0; lap < laps; lap++) {
         size_t count = lap_commands(words[1], size, lap, at), before = drawn.commands;
-        double end[3] = {0, 0, 0};
         put_u32(drawn.bytes + 8 + 8 * lap, drawn.size);
         for (size_t i = 0; i < count; i++, at += PZ_COMMAND_BYTES) {
             uint32_t refused = draw_command(&drawn, words[1], tolerance, fitted + at, end);

@@ -2,7 +2,7 @@
 from course import HEAD, WIDTH, Frame, path_of, px
 from fitting import count
 from geometry import strokes_of
-from lapfile import MOST_COMMANDS
+from lapfile import MOST_COMMANDS, started
 
 ACROSS, KEY, DOT = 3, 30, 1.6
 STYLE = """
@@ -14,7 +14,7 @@ STYLE = """
 
 def pairs(laps, drawn):
     """To each stroke of each lap the Lines that draw it: an arc's run to its own end, a straight is its own."""
-    for lap, lines in zip(laps, drawn):
+    for lap, lines in zip(started(laps), started(drawn)):
         left, found = iter(strokes_of(lines)), []
         for stroke in strokes_of(lap):
             run = [next(left)]

@@ -5,7 +5,7 @@ REFUSALS = {
     1: "the file is shorter than 8 bytes, or not whole",
     2: "too many laps (64 at most), positions (800) or bytes (65,536)",
     3: "no lap file: its mark or its table is wrong, it has over 800 commands, or the two files differ in laps",
-    4: "a lap does not start with its Move, has a second one, or has a command of unknown kind",
+    4: "the first lap does not start with a Move, a lap has a Move elsewhere, or a command is of unknown kind",
     5: "a position is not a number, or is more than 1,000,000 m from zero",
     6: "the tolerance must be from 0.001 to 1,000 m",
     7: "there is no lap of that number",

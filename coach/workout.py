@@ -11,6 +11,7 @@ from table import Table
 from times import iso, seconds
 from trouble import Refused, Trouble
 
+CARRIES_ON = "laps carry on"  # a remark of the workout's own text
 SLOWEST = 0.01  # metres a second: whoever moves less has recorded degrees, where 0.01 is a kilometre
 TOO_MANY = "; --laps-at FROM..TO,.. takes the repetitions alone"
 
@@ -23,19 +24,34 @@ class Position:
 
 @dataclass
 class Workout:
-    """Laps of positions; where on the earth (0, 0) is, and the Unix time of second 0, where these are known."""
-    laps: list
+    """Recorded laps of positions; where on the earth (0, 0) is, and the Unix time of second 0, where these are known; and
+    whether each lap carries on from where the last one ended."""
+    recorded: list
     origin: tuple = None
     start: float = None
+    carries_on: bool = False
+
+    @property
+    def laps(self):
+        """The laps with the position from which each starts, which is the last lap's last one where they carry on."""
+        if not self.carries_on:
+            return self.recorded
+        return self.recorded[:1] + [starting_at(before[-1], lap) for before, lap in zip(self.recorded, self.recorded[1:])]
+
+
+def starting_at(last, lap):
+    """A lap from the place of the last position on. A receiver may give that place once more, as the lap's first."""
+    return lap if len(lap) > 1 and lap[0].place == last.place else [last, *lap]
 
 
 @dataclass
 class Choices:
     """What a reader of a recording may be told: the columns of a table, when laps start and end, whether to count laps
-    anew, whether it must be a single lap of any number, and the workout it belongs to."""
+    anew, whether laps carry on, whether it must be a single lap of any number, and the workout it belongs to."""
     columns: list = None
     laps_at: list = field(default_factory=list)
     renumber: bool = False
+    carry_on: bool = False
     alone: bool = False
     part_of: Workout = None
 
@@ -60,7 +76,12 @@ def read_workout(data, name, choices=Choices()):
     laps = laps_of(fixes, positions, start, choices)
     if table and not table.in_degrees and not table.stated and origin is None:
         stop_degrees(laps, name)
-    return Workout(laps, origin, start)
+    return Workout(laps, origin, start, choices.carry_on or carries_on(table))
+
+
+def carries_on(table):
+    """Whether the workout's own text says that its laps carry on."""
+    return bool(table) and any(words == CARRIES_ON.split() for _, words in table.remarks)
 
 
 def remark(table, word):
@@ -223,6 +244,8 @@ def workout_text(workout):
         lines.append("# origin " + " ".join(map(repr, workout.origin)))
     if workout.start is not None:
         lines.append(f"# start {iso(workout.start)}")
-    for number, positions in enumerate(workout.laps, 1):
+    if workout.carries_on:
+        lines.append(f"# {CARRIES_ON}")
+    for number, positions in enumerate(workout.recorded, 1):
         lines += (" ".join(map(str, (number, p.time, *p.place))) for p in positions)
     return "\n".join(lines) + "\n"
