@@ -24,7 +24,7 @@
    - a fit of n points: n - 1 commands, and as many worst steps (0 without points);
    - a fit of a course: one command for each Move, Line and Arc, and one for each step of a Bezier; above 800 refused;
    - a fit of a file: 8 + 8 * L + 73 * most bytes, most as for a course; at most 58,920 bytes in all (64 laps, 800 commands);
-   - a replacement: the same, with the new lap's most plus the fitted file's commands in all other laps;
+   - a replacement: the same, with the mosts of the laps that are fitted plus the fitted file's commands in all other laps;
    - an Arc drawn by Lines: 4,096 commands;
    - a curve as n steps: n times six numbers; as parts halved d times: 1 + 2^d points;
    - the fewest straights of n points: n - 1 points;
@@ -82,7 +82,7 @@ uint32_t pz_version(void);
 #define PZ_TOO_MANY 2u      /* more than 2,048 points, 800 commands, 64 laps, 65,536 bytes of a file or a text, 10 halvings or
                                2,048 steps; 0 steps */
 #define PZ_BAD_FILE 3u      /* wrong mark or table, over 800 commands in a table, lap counts that differ */
-#define PZ_BAD_COMMAND 4u   /* unknown kind, unused number not +0, or in a lap a Move missing or misplaced */
+#define PZ_BAD_COMMAND 4u   /* unknown kind, unused number not +0, a Move misplaced in a lap, or none in front of the first */
 #define PZ_BAD_NUMBER 5u    /* an end or control not finite or above 1,000,000; an offset or normal not finite; a centre above 1e12, a
                                radius not from 0 to 1e12, a parameter not from 0 to 1 */
 #define PZ_BAD_TOLERANCE 6u /* tolerance not from 0.001 to 1,000 metres; a squared one not from 1e-6 to 1,000,000 */
@@ -114,17 +114,19 @@ static inline size_t pz_file_bytes(size_t laps, size_t commands)
     return 8 + 8 * laps + PZ_COMMAND_BYTES * commands;
 }
 
-/* Fits each lap of a recorded file; *count is the fitted file's bytes. This call, the replacement of a lap and the fit of a
-   course measure from the segment between two points: the far turn of a run out and back stays. Every other call measures from
-   the endless line through them. Refusals: 1 to 6, 8, 9. */
+/* Fits each lap of a recorded file; *count is the fitted file's bytes. A lap after the first may lack its Move: it starts where
+   the last recorded command of the lap before it ends, and is fitted to commands without a Move. This call, the replacement of
+   a lap and the fit of a course measure from the segment between two points: the far turn of a run out and back stays. Every
+   other call measures from the endless line through them. Refusals: 1 to 6, 8, 9. */
 uint32_t pz_fit_file(
     const uint8_t *recorded, size_t recorded_bytes,
     double tolerance,
     uint8_t *out, size_t out_bytes, size_t *count);
 
 /* Replaces lap `lap`, from 1: `out` gets the fit of the new commands, and of the fitted file every other lap's body as it
-   stands. The recorded file is the one that was fitted; of the fitted one the mark, the table and the lap count alone are
-   checked. Distances are to the segment, as in pz_fit_file. Refusals: 1 to 9. */
+   stands; but for the next lap where that lacks its Move, which is fitted again, since it starts where the new commands end.
+   They may lack their Move where `lap` is above 1. The recorded file is the one that was fitted; of the fitted one the mark, the
+   table and the lap count alone are checked. Distances are to the segment, as in pz_fit_file. Refusals: 1 to 9. */
 uint32_t pz_replace_lap(
     const uint8_t *recorded, size_t recorded_bytes,
     const uint8_t *fitted, size_t fitted_bytes,

@@ -146,7 +146,7 @@ static void test_refusals(void)
     refused(PZ_BAD_FILE, file, size - 1, 0.5, room, "a file that ends early");
     memcpy(broken, file, size);
     broken[24] = PZ_LINE;
-    refused(PZ_BAD_COMMAND, broken, size, 0.5, room, "a lap without a Move");
+    refused(PZ_BAD_COMMAND, broken, size, 0.5, room, "a first lap without a Move");
     memcpy(broken, file, size);
     memset(broken + 25, 0xFF, 8);
     refused(PZ_BAD_NUMBER, broken, size, 0.5, room, "an end that is no number");
@@ -191,6 +191,24 @@ static void test_fresh(void)
     check(fresh_size == swapped_size && memcmp(fresh, swapped, fresh_size) == 0, "replacement and fresh fit agree");
 }
 
+/* Lap 2 lacks its Move and starts where lap 1 ends: with a new lap 1 it is fitted again, from the new end. */
+static void test_carried(void)
+{
+    unsigned char recorded[1024], alone[1024], fitted[1024], fresh[1024], swapped[1024];
+    size_t fit_size, fresh_size, swapped_size, lap = 3 * PZ_COMMAND_BYTES;
+    const double nums[27] = {3, 4, [9] = 4, 3, [18] = 5, 0};
+    size_t size = write_file(recorded, 2, corner_kinds, corner_nums, 3);
+    recorded[24 + lap] = PZ_LINE;
+    check(pz_fit_file(recorded, size, 0.3, fitted, sizeof fitted, &fit_size) == PZ_DONE, "a lap that carries on");
+    check(fitted[24 + lap] == PZ_LINE && fit_size == size, "has no Move in its fit");
+    check(pz_replace_lap(recorded, size, fitted, fit_size, 1, corner_kinds, 3, nums, 27, 0.3,
+        swapped, sizeof swapped, &swapped_size) == PZ_DONE, "the lap before it replaced");
+    write_file(alone, 1, corner_kinds, nums, 3);
+    memcpy(recorded + 24, alone + 16, lap);
+    pz_fit_file(recorded, size, 0.3, fresh, sizeof fresh, &fresh_size);
+    check(fresh_size == swapped_size && memcmp(fresh, swapped, fresh_size) == 0, "gives the fresh fit of both");
+}
+
 /* 64 laps of 12 commands, in exactly the bytes that document 01 asks for. */
 static void test_largest(void)
 {
@@ -221,6 +239,7 @@ int main(void)
     test_refusals();
     test_replacement();
     test_fresh();
+    test_carried();
     test_largest();
     printf("firmware: %d checks, %d wrong\n", checks, failures);
     return failures != 0;

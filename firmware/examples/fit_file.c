@@ -12,7 +12,7 @@ static uint32_t u32_at(const uint8_t *file, size_t at)
     return file[at] | (uint32_t)file[at + 1] << 8 | (uint32_t)file[at + 2] << 16 | (uint32_t)file[at + 3] << 24;
 }
 
-/* A fitted file needs no check: its laps stand where its table says, with a Move, Lines and Arcs. */
+/* A fitted file needs no check: its laps stand where its table says, with a Move where one was recorded, Lines and Arcs. */
 static void tell(void)
 {
     for (uint32_t lap = 0; lap < u32_at(fitted, 4); lap++) {

@@ -75,8 +75,8 @@ static void hold_marks(const uint8_t *out, size_t room, size_t used)
     hold(!memcmp(out + used, marks, room - used), "a byte behind what was written is changed");
 }
 
-/* Laps of a fitted file: as many as were recorded, from the recorded Move to the recorded end, and no more commands where there
-   are no curves, whose steps count. */
+/* Laps of a fitted file: as many as were recorded, from the recorded Move, or without one, to the recorded end, and no more
+   commands where there are no curves, whose steps count. */
 static void hold_fit(const uint8_t *file, const struct view *v, const uint8_t *fit, size_t size)
 {
     struct view f = look(fit, size);
@@ -84,7 +84,8 @@ static void hold_fit(const uint8_t *file, const struct view *v, const uint8_t *f
     for (uint32_t lap = 0; lap < v->laps; lap++) {
         const uint8_t *last = file + v->at[lap] + PZ_COMMAND_BYTES * (size_t)(v->count[lap] - 1);
         const uint8_t *fitted_last = fit + f.at[lap] + PZ_COMMAND_BYTES * (size_t)(f.count[lap] - 1);
-        hold(!memcmp(file + v->at[lap], fit + f.at[lap], PZ_COMMAND_BYTES), "a lap starts elsewhere");
+        const uint8_t *first = file + v->at[lap], *fitted_first = fit + f.at[lap];
+        hold(first[0] == PZ_MOVE ? !memcmp(first, fitted_first, PZ_COMMAND_BYTES) : fitted_first[0] != PZ_MOVE, "a lap starts elsewhere");
         hold(v->curves || !memcmp(last + 1, fitted_last + 1, 24), "a lap ends elsewhere");
         hold(v->curves || f.count[lap] <= v->count[lap], "a lap has more commands than were recorded");
     }
@@ -117,13 +118,13 @@ struct lap {
     size_t commands, numbers;
 };
 
-/* The first row that refuses the new commands alone, 0 for none: they are lent as kinds and numbers, and are a lap. */
-static uint32_t lap_row(const struct lap *l, bool *curves)
+/* The first row that refuses the new commands alone, 0 for none: they are lent as kinds and numbers, and are lap `lap`. */
+static uint32_t lap_row(const struct lap *l, size_t lap, bool *curves)
 {
     bool form = l->commands > 0, numbers = true;
     for (size_t i = 0; i < l->commands; i++) {
         const uint8_t *command = l->bytes + PZ_COMMAND_BYTES * i;
-        form = form && form_passes(command, i == 0);
+        form = form && form_passes(command, i == 0, lap <= 1);
         numbers = numbers && numbers_pass(command);
         *curves = *curves || command[0] == PZ_BEZIER;
     }
@@ -153,14 +154,14 @@ static void lend_lap(const struct lap *l, const uint8_t **kinds, const double **
     *nums = (const double *)(const void *)number;
 }
 
-/* All laps but the new one are those of the fitted file. */
-static void hold_replacement(const uint8_t *fit, const struct view *f, size_t lap, const uint8_t *out, size_t count)
+/* All laps but the new one, and the next where that is fitted again, are those of the fitted file. */
+static void hold_replacement(const uint8_t *fit, const struct view *f, size_t lap, bool next, const uint8_t *out, size_t count)
 {
     struct view r = look(out, count);
     hold(r.row == 0 || (f->row && r.row >= f->row), "the new file is refused for more than the fitted one");
     hold(r.laps == f->laps, "the new file has other laps");
     for (uint32_t i = 0; i < f->laps; i++) {
-        hold(i == lap - 1 || (r.count[i] == f->count[i] && !memcmp(out + r.at[i], fit + f->at[i], PZ_COMMAND_BYTES * (size_t)f->count[i])),
+        hold(i == lap - 1 || (next && i == lap) || (r.count[i] == f->count[i] && !memcmp(out + r.at[i], fit + f->at[i], PZ_COMMAND_BYTES * (size_t)f->count[i])),
             "another lap is changed");
     }
 }
@@ -172,10 +173,15 @@ static uint32_t try_replacement(const uint8_t *file, size_t size, const uint8_t 
 {
     struct view v = look(file, size), f = look(fit, fit_size);
     bool curves = false;
-    uint32_t row = first_of(first_of(v.row, f.row <= PZ_BAD_FILE ? f.row : 0), lap_row(l, &curves));
+    uint32_t row = first_of(first_of(v.row, f.row <= PZ_BAD_FILE ? f.row : 0), lap_row(l, lap, &curves));
     row = first_of(row, v.laps != f.laps ? PZ_BAD_FILE : 0);
     row = row ? row : !tolerance_passes(tolerance) ? PZ_BAD_TOLERANCE : lap < 1 || lap > v.laps ? PZ_NO_SUCH : 0;
+    bool next = !row && lap < v.laps && file[v.at[lap]] != PZ_MOVE;
     size_t most = row ? 0 : f.commands - f.count[lap - 1] + l->commands, count = UNTOUCHED;
+    if (next) {
+        most = most - f.count[lap] + v.count[lap];
+        curves = curves || v.curves;
+    }
     size_t room = row || curves || most > PZ_MOST_COMMANDS ? PZ_MOST_OUTPUT_BYTES : pz_file_bytes(f.laps, most) - less;
     bool by_steps = !row && curves;
     row = row ? row : most > PZ_MOST_COMMANDS ? PZ_TOO_MUCH : room < pz_file_bytes(f.laps, most) ? PZ_NO_ROOM : PZ_DONE;
@@ -188,7 +194,7 @@ static uint32_t try_replacement(const uint8_t *file, size_t size, const uint8_t 
     hold((answer == PZ_DONE) != (count == UNTOUCHED), "a count of a refusal, or none of an answer");
     hold_marks(out, room, answer == PZ_DONE ? count : 0);
     if (answer == PZ_DONE) {
-        hold_replacement(fit, &f, lap, out, count);
+        hold_replacement(fit, &f, lap, next, out, count);
     }
     return answer;
 }

@@ -62,7 +62,7 @@ static size_t draw_count(bool large, size_t left, size_t before)
     return !large ? 1 + below(12) : left > 1 ? 1 + below(PZ_MOST_COMMANDS / PZ_MOST_LAPS) : filled - before;
 }
 
-/* A file as document 01 says: mostly some short laps, now and then as many as it may have, or one more. */
+/* A file as the papers say: mostly some short laps, of which some carry on; now and then as many as it may have, or one more. */
 static void draw_file(void)
 {
     bool large = !below(2048), curves = !large || below(2);
@@ -73,11 +73,12 @@ static void draw_file(void)
     size = 8 + 8 * laps;
     for (size_t lap = 0; lap < laps; lap++) {
         size_t commands = draw_count(large, laps - lap, total);
+        bool carries_on = !below(3);
         put_u32(file + 8 + 8 * lap, (uint32_t)size);
         put_u32(file + 12 + 8 * lap, (uint32_t)commands);
         total += commands;
         for (size_t i = 0; i < commands; i++, size += PZ_COMMAND_BYTES) {
-            put_command(file + size, i == 0, curves, &x, &y);
+            put_command(file + size, i == 0 && !(lap && carries_on), curves, &x, &y);
         }
     }
 }

@@ -1,4 +1,4 @@
-/* Which refusal a lap file meets, read off document 01's words and apart from the proved code: rows 1 to 5 of its table. It is
+/* Which refusal a lap file meets, read off the papers' words and apart from the proved code: rows 1 to 5 of document 01's table. It is
    compiled with what the compiler can watch, so it also leads a guided fuzzer, which does not see into the archive. */
 #ifndef ROWS_H
 #define ROWS_H
@@ -47,12 +47,13 @@ static bool table_passes(const uint8_t *file, size_t size, struct view *v)
     return at == size;
 }
 
-/* "Unknown kind, unused number not +0, or in a lap a Move missing or misplaced." */
-static bool form_passes(const uint8_t *command, bool first)
+/* "Unknown kind, unused number not +0, or in a lap a Move missing or misplaced"; "a lap after the first may lack its Move". */
+static bool form_passes(const uint8_t *command, bool first, bool first_lap)
 {
     static const uint8_t zeros[48];
     uint8_t kind = command[0];
-    if (kind > PZ_BEZIER || (kind == PZ_MOVE) != first) {
+    bool misplaced = kind == PZ_MOVE ? !first : first && first_lap;
+    if (kind > PZ_BEZIER || misplaced) {
         return false;
     }
     return kind == PZ_ARC || kind == PZ_BEZIER || !memcmp(command + 25, zeros, 48);
@@ -90,7 +91,7 @@ static struct view look(const uint8_t *file, size_t size)
     for (uint32_t lap = 0; lap < v.laps; lap++) {
         for (uint32_t i = 0; i < v.count[lap]; i++) {
             const uint8_t *command = file + v.at[lap] + PZ_COMMAND_BYTES * (size_t)i;
-            form = form && form_passes(command, i == 0);
+            form = form && form_passes(command, i == 0, lap == 0);
             numbers = numbers && numbers_pass(command);
             v.curves = v.curves || command[0] == PZ_BEZIER;
         }
