@@ -27,7 +27,8 @@ again-suc false i new next x xs = refl
 
 again-is : (both : Bool) (k : ℕ) (new next : Lap) (fs : List Lap) → swapBoth both k new next fs ≡ cond both (set (set fs (k - 1) new) k next) (set fs (k - 1) new)
 unfolding swapBoth
-again-is both k new next fs = let z : k + 1 - 1 ≡ k = omega arith in rw z
+again-is both k new next fs =
+    let z : k + 1 - 1 ≡ k = omega arith in ap (λ (i : ℕ). cond both (set (set fs (k - 1) new) i next) (set fs (k - 1) new)) z
 
 -- ---- the fits: behind the next lap nothing depends on where that starts
 module _ (tol : Float) (new : Lap) where
