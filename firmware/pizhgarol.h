@@ -36,15 +36,15 @@
    n counts points; for thinning commands and for a path, commands; for a course, a file and a replacement it is the most of
    the course, of the longest lap, and of the new lap.
      pz_simplify_polyline             2048 + 112 * n   231424
-     pz_simplify_polyline_3d          2048 + 112 * n   231424
+     pz_simplify_polyline_3d          2048 + 144 * n   296960
      pz_simplify_data                 2048 + 144 * n   117248
-     pz_optimize_path_from_array     24320 + 112 * n   113920
+     pz_optimize_path_from_array     24320 + 144 * n   139520
      pz_fit_points_with_primitives    4992               4992
      pz_fit_points_recursive          4992               4992
-     pz_fit_arcs                     24448 + 112 * n   114048
-     pz_fit_file                    141312 + 112 * n   230912
-     pz_replace_lap                 141184 + 112 * n   230784
-     pz_fewest_straights              1152 + 160 * n    42112
+     pz_fit_arcs                     24448 + 144 * n   139648
+     pz_fit_file                    141952 + 144 * n   257152
+     pz_replace_lap                 199936 + 144 * n   315136
+     pz_fewest_straights              1280 + 160 * n    42240
      pz_flatten_arc                   4992               4992
      pz_read_course                    768                768
      pz_live_feed                     9856               9856

@@ -34,7 +34,7 @@ class CarryOn(Case):
     def test_a_lap_is_listed_from_the_last_ones_end(self):
         workout = self.put("workout.txt", ROAD)
         rows = self.written("list", workout, "0.5", "--carry-on", "--as", "csv").splitlines()
-        lengths = [row.split(",")[2] for row in rows[1:] if row.split(",")[1] == "whole"]
+        lengths = [row.split(",")[5] for row in rows[1:] if row.split(",")[1] == "whole"]
         self.assertEqual([float(length) for length in lengths], [20.0, 20.0, 20.0])
 
     def test_the_workouts_text_remembers_it(self):
