@@ -1,7 +1,7 @@
 -- `laps::lap_file::passes` meets its contract: by the case. Assumes nothing.
 use mathlib.Core.Path.{ap, _∙_}
 use Rattle.geo.specs.Domain.{commandIn}
-use Rattle.laps.specs.File.{domainOk, tested}
+use Rattle.laps.specs.File.{domainOk, finiteOk, tested}
 use borrow.Author.Needs.{needs}
 use Rattle.laps.proofs.lap_file.passes.Statement.{statement}
 use Rattle.laps.proofs.lap_file.passes.Tie as tie
@@ -24,6 +24,18 @@ command-in-requires c κs = search needs
 enum-told-3 : tie.Need-enum-told-3
 enum-told-3 c = search needs
 
+has-fitted-form-requires : tie.Need-has-fitted-form-requires
+has-fitted-form-requires c κs = search needs
+
+enum-told-4 : tie.Need-enum-told-4
+enum-told-4 c = search needs
+
+has-finite-numbers-requires : tie.Need-has-finite-numbers-requires
+has-finite-numbers-requires c κs = search needs
+
+enum-told-5 : tie.Need-enum-told-5
+enum-told-5 c = search needs
+
 has-both-requires : tie.Need-has-both-requires
 has-both-requires c κs = search needs
 
@@ -37,7 +49,15 @@ returns-2 c = rw (c .before .before .enum-told2 .given .1) (c .command-in .ensur
 
 returns-3 : tie.Need-returns-3
 unfolding tested
-returns-3 c = rw (c .before .enum-told3 .given .1) (c .has-both .ensures)
+returns-3 c = rw (c .before .enum-told3 .given .1) (c .has-fitted-form .ensures)
+
+returns-4 : tie.Need-returns-4
+unfolding tested finiteOk
+returns-4 c = rw (c .before .enum-told4 .given .1) (c .has-finite-numbers .ensures)
+
+returns-5 : tie.Need-returns-5
+unfolding tested
+returns-5 c = rw (c .before .enum-told5 .given .1) (c .has-both .ensures)
 
 pub passes-spec : {M : Type 1} → statement M
 passes-spec =
@@ -49,7 +69,13 @@ passes-spec =
     read-command-requires
     command-in-requires
     enum-told-3
+    has-fitted-form-requires
+    enum-told-4
+    has-finite-numbers-requires
+    enum-told-5
     has-both-requires
     returns
     returns-2
-    returns-3)
+    returns-3
+    returns-4
+    returns-5)
