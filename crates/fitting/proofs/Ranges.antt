@@ -20,11 +20,12 @@ use Rattle.trial.specs.Trial.{tryArcs}
 use Rattle.trial.proofs.Tried.{tried-worst}
 use Rattle.fitting.specs.declared.fitting.Rule.{Rule}
 use Rattle.fitting.specs.declared.fitting.Stand.{Stand}
+use Rattle.fitting.specs.declared.fitting.Tested.{Tested}
 use Rattle.fitting.specs.Pieces.{distance, lineDeviation, Shape, line, arc, Piece, Choice, whole, cutAt, counted, arcOrCut, chooseBy, choice, follow, piecesBy, piecesIn}
 use Rattle.fitting.specs.Commands.{shaped, pieceCommand, worstStep, pieceWorst}
 use Rattle.fitting.specs.Written.{Noted, noted, noteBy, pieceNoted, notedIn, NotedPlaced}
-use Rattle.fitting.specs.Ranges.{behind, leftIn, stepNoted, stepEnds, nextFrom, stepStand, Ascend, Stands, Looked}
-use Rattle.fitting.proofs.Recursion.{Inside, inside, pieces-follow}
+use Rattle.fitting.specs.Ranges.{lineTested, behind, leftIn, stepNoted, stepEnds, nextFrom, stepStand, Ascend, Stands, Looked}
+use Rattle.fitting.proofs.Recursion.{farthest-inside, Inside, inside, pieces-follow}
 use Rattle.fitting.proofs.Writing.{none-noted, Progress, progress-start, progress-step}
 
 -- ---- an end that waits behind n others leaves those as they are
@@ -144,20 +145,29 @@ unfolding nextFrom
 next-some ends hi place zero v h e = absurd (h refl)
 next-some ends hi place (suc n) v h e = let z : suc n - 1 ≡ n = omega arith in rw (e, z)
 
--- ---- the choice by the tests that the code makes: d is the Line's deviation
-module _ (r : Rule) (at : ℕ → Point3D) (lo hi : ℕ) (d : Deviation) (e : d ≡ lineDeviation (distance r) at lo hi) where
-  pub takes-line : lt (d .dist) (r .tolerance) ≡ true → choice r at lo hi ≡ whole line
+-- ---- the choice by the tests that the code makes: d is what the Line comes to
+module _ (r : Rule) (at : ℕ → Point3D) (lo hi : ℕ) (d : Tested) (e : d ≡ lineTested r at lo hi) where
+  passed : (b : Bool) → d .passes ≡ b → lt (lineDeviation (distance r) at lo hi .dist) (r .tolerance) ≡ b
+  unfolding lineTested
+  passed b h = sym (ap (λ (v : Tested). v .passes) e) ∙ h
+
+  first : d .index ≡ lineDeviation (distance r) at lo hi .index
+  unfolding lineTested
+  first = ap (λ (v : Tested). v .index) e
+
+  -- where it fails, the first farthest point lies strictly inside
+  pub fails-inside : (+0 ≺ r .tolerance) ≡ true → d .passes ≡ false → (lo < d .index) × (d .index < hi)
+  fails-inside pos h = rw first (farthest-inside r pos at lo hi (lineDeviation (distance r) at lo hi) refl (passed false h))
+
+  pub takes-line : d .passes ≡ true → choice r at lo hi ≡ whole line
   unfolding choice chooseBy
-  takes-line h =
-      let g : lt (lineDeviation (distance r) at lo hi .dist) (r .tolerance) ≡ true = subst (λ (v : Deviation). lt (v .dist) (r .tolerance) ≡ true) e h in rw g
+  takes-line h = rw (passed true h)
 
   -- t is the trial that the rule counts
-  module _ (t : Trial) (is : t ≡ counted r (tryArcs at lo hi (d .index) (r .tolerance))) (h : lt (d .dist) (r .tolerance) ≡ false) where
+  module _ (t : Trial) (is : t ≡ counted r (tryArcs at lo hi (d .index) (r .tolerance))) (h : d .passes ≡ false) where
     takes : choice r at lo hi ≡ arcOrCut t (d .index)
     unfolding choice chooseBy
-    takes =
-        let g : lt (lineDeviation (distance r) at lo hi .dist) (r .tolerance) ≡ false = subst (λ (v : Deviation). lt (v .dist) (r .tolerance) ≡ false) e h in
-        rw (g, ← e, ← is)
+    takes = rw (passed false h, ← first, ← is)
 
     pub takes-arc : (c : Point) (b : Bool) (k : ℕ) → t ≡ Arc c b k → choice r at lo hi ≡ whole (arc c b)
     unfolding arcOrCut

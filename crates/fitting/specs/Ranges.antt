@@ -5,11 +5,19 @@ use mathlib.Core.Path.{_≡_}
 use mathlib.Core.List.{List, [], _∷_, _++_, map}
 use lib.ListN.{length, getD, set}
 use lib.Ieee.{Float}
+use Rattle.floats.specs.Ops.{_≺_}
 use Rattle.geo.specs.declared.types.Point3D.{Point3D}
 use Rattle.fitting.specs.declared.fitting.Rule.{Rule}
 use Rattle.fitting.specs.declared.fitting.Stand.{Stand}
-use Rattle.fitting.specs.Pieces.{Piece, Choice, whole, cutAt, choice, piecesIn}
+use Rattle.fitting.specs.declared.fitting.Tested.{Tested}
+use Rattle.fitting.specs.Pieces.{distance, lineDeviation, Piece, Choice, whole, cutAt, choice, piecesIn}
 use Rattle.fitting.specs.Written.{Noted, pieceNoted, NotedPlaced}
+
+-- what the Line of a range comes to: whether its deviation is below the tolerance, and its first farthest point
+unfoldable pub lineTested : Rule → (ℕ → Point3D) → ℕ → ℕ → Tested
+lineTested r at lo hi =
+    let w = lineDeviation (distance r) at lo hi in
+    record { passes = w .dist ≺ r .tolerance; index = w .index }
 
 -- ---- the ranges behind the point hi: n of the ends wait, of which the last comes first
 abbrev pub behind : (ℕ → ℕ → List Piece) → List ℕ → ℕ → ℕ → List Piece

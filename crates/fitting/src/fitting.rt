@@ -1,6 +1,7 @@
 // src/geo/algo/fitting.rs: the line's deviation, the recursive fit and its entry points.
 use circle::circle::Deviation;
 use circle::circle::check_points;
+use floats::root::is_root_below;
 use floats::root::sqrt;
 use geo::domain::MOST_POINTS;
 use geo::domain::is_centre;
@@ -32,7 +33,7 @@ ghost use Rattle.simplify.specs.Measure.{measureOf};
 ghost use Rattle.fitting.specs.Pieces.{pointsRule, lapsRule, counted, lineDeviation, arc};
 ghost use Rattle.fitting.specs.Commands.{normalOf, shaped};
 ghost use Rattle.fitting.specs.Written.{noted, noteBy, notedIn, chainNoted, NotedPlaced};
-ghost use Rattle.fitting.specs.Ranges.{nextFrom, Looked};
+ghost use Rattle.fitting.specs.Ranges.{lineTested, nextFrom, Looked};
 ghost use Rattle.trial.specs.Trial.{tryArcs};
 ghost use Rattle.fitting.specs.Calls.{lineRows, lineCall, lineAnswer, arcRows, arcCall, arcAnswer, fitRows, fitCall, worstCall, primitivesCall, primitivesWorst, examined, primitivesAnswer};
 
@@ -104,6 +105,25 @@ fn line_deviation(ruler: Ruler, points: &[f64], start: usize, end: usize) -> Dev
     Deviation {
         dist: sqrt(w.square),
         index: w.index,
+    }
+}
+
+// What the Line of a range comes to: whether its deviation is below the rule's tolerance, and its first farthest point.
+struct Tested {
+    passes: bool,
+    index: usize,
+}
+
+// Most deviations are not near the tolerance, and need no root to be compared with it.
+fn test_line(rule: Rule, points: &[f64], start: usize, end: usize) -> Tested
+    requires { ⌜ (3 * start + 2 < length (now points)) × (3 * end + 2 < length (now points)) ⌝ }
+    ensures { λ r. ⌜ r ≡ lineTested rule (pointAt (now (points .entry))) start end ⌝ }
+{
+    let ruler = rule.ruler;
+    let far = farthest_between(ruler, points, start, end);
+    Tested {
+        passes: is_root_below(far.square, rule.tolerance),
+        index: far.index,
     }
 }
 
@@ -268,12 +288,11 @@ fn fit_next(
     requires { ⌜ ((+0 ≺ rule .tolerance) ≡ true) × ((w .lo < w .hi) × (w .hi < 2048) × (3 * w .hi + 2 < length (now points)) × (w .waiting < length (now ends)) × (w .place < length (now kinds)) × (9 * w .place + 8 < length (now nums))) ⌝ }
     ensures { λ r. ⌜ Looked rule (pointAt (now (points .entry))) w r (now (ends .entry)) (now (ends .exit)) (now (kinds .entry)) (now (kinds .exit)) (now (nums .entry)) (now (nums .exit)) (now (notes .entry)) (now (notes .exit)) ⌝ }
 {
-    let ruler = rule.ruler;
     let note = rule.note;
-    let d = line_deviation(ruler, points, w.lo, w.hi);
+    let d = test_line(rule, points, w.lo, w.hi);
     let b = point_at(points, w.hi);
     let covered = w.hi - w.lo;
-    if d.dist < rule.tolerance {
+    if d.passes {
         let n = note_of(note, covered, 0);
         return put_piece(Command::Line { end: b }, n, w, ends, kinds, nums, notes);
     }

@@ -32,7 +32,7 @@ plus-unsigned nan p = tt
 plus-unsigned (inf s) p = p
 plus-unsigned (fin s m e) p = p
 
-plus-number : (x : Float) → Plus x → isNan x ≡ false
+pub plus-number : (x : Float) → Plus x → isNan x ≡ false
 unfolding isNan
 plus-number nan p = absurd p
 plus-number (inf s) p = refl

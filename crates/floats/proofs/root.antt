@@ -8,3 +8,4 @@ pub mod Plain
 pub mod Nearest
 pub mod Monotone
 pub mod Compared
+pub mod Reaches

@@ -5,6 +5,7 @@ ghost use Prim.Native.Nat.{_+_, _*_, _/_, _%_, _^_, _≤_, _<_};
 ghost use mathlib.Core.Bool.{true, false};
 ghost use lib.Dec.{T};
 ghost use lib.Ieee.{binary64, ofBits};
+ghost use Rattle.floats.specs.Ops.{_≺_};
 ghost use Rattle.floats.specs.Wide.{Squared, NearRoot, Moved};
 ghost use Rattle.floats.specs.Root.{rootFrom, rootOf, plain, Rounded};
 
@@ -170,4 +171,19 @@ pub fn sqrt(x: f64) -> f64
         return x;
     }
     0.0 / 0.0
+}
+
+// Whether the root of x is below t. Above the square of t it is not, and that of a zero is: only what lies between needs its root.
+pub fn is_root_below(x: f64, t: f64) -> bool
+    ensures { λ r. ⌜ r ≡ (rootOf x ≺ t) ⌝ }
+{
+    if t > 0.0 {
+        if x > t * t {
+            return false;
+        }
+        if x == 0.0 {
+            return true;
+        }
+    }
+    sqrt(x) < t
 }

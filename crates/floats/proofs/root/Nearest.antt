@@ -323,7 +323,7 @@ module _ (N : ℕ) (r : Float) (c : Cut N r) where
     cut-even a e = ap (λ (z : ℕ). z % 2) cut-bits ∙ last-bit (c .k) count (taken-even N (c .q) (2 ^ c .k) (cut-tie a e))
 
 -- ---- the root of a plain x: +0 of a zero, and such a cut of any other
-squared-is : (x : Float) → squared x ≡ inUnits x * 2 ^ 1074
+pub squared-is : (x : Float) → squared x ≡ inUnits x * 2 ^ 1074
 unfolding squared
 squared-is x = refl
 
@@ -333,7 +333,7 @@ squared-le x y h = le-trans (le-of-eq (squared-is x)) (le-trans (mul-le-mul-righ
 pub root-of-squared : (x : Float) → T (plain x) → rootOf x ≡ rootFrom (squared x)
 root-of-squared x p = rootOf-is x p ∙ ap rootFrom (sym (squared-is x))
 
-in-units-most : (x : Float) → T (fits binary64 x) → T (plain x) → inUnits x < 2 ^ 2098
+pub in-units-most : (x : Float) → T (fits binary64 x) → T (plain x) → inUnits x < 2 ^ 2098
 unfolding plain inUnits
 in-units-most nan f p = absurd p
 in-units-most (inf s) f p = absurd p

@@ -7,9 +7,8 @@ use Rattle.geo.specs.declared.types.Command.the-variants.{Line}
 use Rattle.geo.specs.Lent.{pointAt}
 use Rattle.fitting.specs.Pieces.{Shape, line}
 use Rattle.fitting.specs.Commands.{shaped, worstStep}
-use Rattle.fitting.proofs.Recursion.{farthest-inside}
 use Rattle.fitting.proofs.WorstStep.{worst-step-few}
-use Rattle.fitting.proofs.Ranges.{takes-line, takes-arc, takes-worst, takes-cut, looked-whole, looked-cut}
+use Rattle.fitting.proofs.Ranges.{fails-inside, takes-line, takes-arc, takes-worst, takes-cut, looked-whole, looked-cut}
 use borrow.Author.Needs.{needs}
 use Rattle.fitting.proofs.fitting.fit_next.Statement.{statement}
 use Rattle.fitting.proofs.fitting.fit_next.Tie as tie
@@ -25,8 +24,8 @@ no-worst-step at lo hi = refl
 few-worst : (at : ℕ → Point3D) (lo hi : ℕ) → lo < hi → hi < 2048 → (s : Shape) (k : ℕ) → k ≡ worstStep at lo hi s → k < 2048
 few-worst at lo hi h l s k e = let f = worst-step-few at lo hi h s in omega arith
 
-line-deviation-requires : tie.Need-line-deviation-requires
-line-deviation-requires c κs = search needs
+test-line-requires : tie.Need-test-line-requires
+test-line-requires c κs = search needs
 
 point-at-requires : tie.Need-point-at-requires
 point-at-requires c κs = search needs
@@ -53,37 +52,37 @@ same-length-4 : tie.Need-same-length-4
 same-length-4 c = search needs
 
 returns : tie.Need-returns
-returns c = let a = c .before .before .before .before .before .before .before .before .before .before .before .before .before .before .before .before .before .before .before .before .before .before .before .args in
+returns c = let a = c .before .before .before .before .before .before .before .before .before .before .before .before .before .before .before .before .before .before .before .before .before .args in
     let w = a .w in
     let at = pointAt (a .points .now) in
     looked-whole (a .rule) at w _ (a .ends .now) _ (a .kinds .now) _ (a .nums .now) _ (a .notes .now) _ line _ _ 0
-    (takes-line (a .rule) at (w .lo) (w .hi) _ (c .before .before .before .before .before .before .before .before .before .before .before .before .before .before .before .before .before .line-deviation .ensures) (c .before .before .before .before .before .before .before .before .before .before .before .before .if1 .taken)) (line-command _ _ _ (c .before .before .before .before .before .before .before .before .before .before .before .before .before .before .before .before .point-at .ensures)) (c .before .before .before .before .before .before .before .before .before .before .before .note-of .ensures) (no-worst-step at (w .lo) (w .hi)) refl (c .before .before .before .before .before .before .put-piece .ensures .0) (c .before .before .before .before .before .before .put-piece .ensures .1)
+    (takes-line (a .rule) at (w .lo) (w .hi) _ (c .before .before .before .before .before .before .before .before .before .before .before .before .before .before .before .test-line .ensures) (c .before .before .before .before .before .before .before .before .before .before .before .before .if1 .taken)) (line-command _ _ _ (c .before .before .before .before .before .before .before .before .before .before .before .before .before .before .point-at .ensures)) (c .before .before .before .before .before .before .before .before .before .before .before .note-of .ensures) (no-worst-step at (w .lo) (w .hi)) refl (c .before .before .before .before .before .before .put-piece .ensures .0) (c .before .before .before .before .before .before .put-piece .ensures .1)
 
 try-rule-requires : tie.Need-try-rule-requires
-try-rule-requires c κs = let a = c .before .before .before .before .before .before .before .before .before .before .before .args in
-    let p = c .before .before .before .before .before .before .before .before .before .before .before .pre in
-    let i = farthest-inside (a .rule) (p .0) (pointAt (a .points .now)) (a .w .lo) (a .w .hi) _ (c .before .before .before .before .before .line-deviation .ensures) (c .if1 .left) in
+try-rule-requires c κs = let a = c .before .before .before .before .before .before .before .before .before .args in
+    let p = c .before .before .before .before .before .before .before .before .before .pre in
+    let i = fails-inside (a .rule) (pointAt (a .points .now)) (a .w .lo) (a .w .hi) _ (c .before .before .before .test-line .ensures) (p .0) (c .if1 .left) in
     (p .1 .0, p .1 .1, i .0, i .1, p .1 .2)
 
 enum-known-t : tie.Need-enum-known-t
 enum-known-t c = search needs
 
 point-at-requires-2 : tie.Need-point-at-requires-2
-point-at-requires-2 c κs = let p = c .before .before .before .before .before .before .before .before .before .before .before .before .before .before .before .pre .1 in omega (arith, p .0, p .2)
+point-at-requires-2 c κs = let p = c .before .before .before .before .before .before .before .before .before .before .before .before .before .pre .1 in omega (arith, p .0, p .2)
 
 arc-command-requires : tie.Need-arc-command-requires
 arc-command-requires c κs = search needs
 
 note-of-requires-2 : tie.Need-note-of-requires-2
-note-of-requires-2 c κs = let a = c .before .before .before .before .before .before .before .before .before .before .before .before .before .before .before .before .args in
-    let p = c .before .before .before .before .before .before .before .before .before .before .before .before .before .before .before .before .pre .1 in
+note-of-requires-2 c κs = let a = c .before .before .before .before .before .before .before .before .before .before .before .before .before .before .args in
+    let p = c .before .before .before .before .before .before .before .before .before .before .before .before .before .before .pre .1 in
     let w = a .w in
     let at = pointAt (a .points .now) in
-    let k = takes-worst (a .rule) at (w .lo) (w .hi) _ (c .before .before .before .before .before .before .before .before .before .before .line-deviation .ensures) _ (c .before .before .before .before .try-rule .ensures) (c .before .before .before .before .before .if1 .left) _ _ _ (c .before .before .t .given .1) in
+    let k = takes-worst (a .rule) at (w .lo) (w .hi) _ (c .before .before .before .before .before .before .before .before .test-line .ensures) _ (c .before .before .before .before .try-rule .ensures) (c .before .before .before .before .before .if1 .left) _ _ _ (c .before .before .t .given .1) in
     (omega (arith, p .1), few-worst at (w .lo) (w .hi) (p .0) (p .1) _ _ k)
 
 put-piece-requires-2 : tie.Need-put-piece-requires-2
-put-piece-requires-2 c κs = let p = c .before .before .before .before .before .before .before .before .before .before .before .before .before .before .before .before .before .before .before .before .before .before .pre .1 in (omega (arith, p .3), p .4, p .5)
+put-piece-requires-2 c κs = let p = c .before .before .before .before .before .before .before .before .before .before .before .before .before .before .before .before .before .before .before .before .pre .1 in (omega (arith, p .3), p .4, p .5)
 
 enum-told : tie.Need-enum-told
 enum-told c = search needs
@@ -104,29 +103,29 @@ same-length-8 : tie.Need-same-length-8
 same-length-8 c = search needs
 
 returns-2 : tie.Need-returns-2
-returns-2 c = let a = c .before .before .before .before .before .before .before .before .before .before .before .before .before .before .before .before .before .before .before .before .before .before .before .before .before .before .before .before .before .args in
+returns-2 c = let a = c .before .before .before .before .before .before .before .before .before .before .before .before .before .before .before .before .before .before .before .before .before .before .before .before .before .before .before .args in
     let w = a .w in
     let at = pointAt (a .points .now) in
     looked-whole (a .rule) at w _ (a .ends .now) _ (a .kinds .now) _ (a .nums .now) _ (a .notes .now) _ _ _ _ _
-    (takes-arc (a .rule) at (w .lo) (w .hi) _ (c .before .before .before .before .before .before .before .before .before .before .before .before .before .before .before .before .before .before .before .before .before .before .before .line-deviation .ensures) _ (c .before .before .before .before .before .before .before .before .before .before .before .before .before .before .before .before .before .try-rule .ensures) (c .before .before .before .before .before .before .before .before .before .before .before .before .before .before .before .before .before .before .if1 .left) _ _ _ (c .before .before .before .before .before .before .before .before .before .before .before .before .before .before .before .t .given .1))
-    (c .before .before .before .before .before .before .before .before .before .before .before .arc-command .ensures ∙ rw (c .before .before .before .before .before .before .before .before .before .before .before .before .before .point-at2 .ensures, c .before .before .before .before .before .before .before .before .before .before .before .before .before .before .before .before .before .before .before .before .before .before .point-at .ensures)) (c .before .before .before .before .before .before .before .before .before .before .before .before .note-of2 .ensures)
-    (takes-worst (a .rule) at (w .lo) (w .hi) _ (c .before .before .before .before .before .before .before .before .before .before .before .before .before .before .before .before .before .before .before .before .before .before .before .line-deviation .ensures) _ (c .before .before .before .before .before .before .before .before .before .before .before .before .before .before .before .before .before .try-rule .ensures) (c .before .before .before .before .before .before .before .before .before .before .before .before .before .before .before .before .before .before .if1 .left) _ _ _ (c .before .before .before .before .before .before .before .before .before .before .before .before .before .before .before .t .given .1)) refl (c .before .before .before .before .before .before .put-piece2 .ensures .0) (c .before .before .before .before .before .before .put-piece2 .ensures .1)
+    (takes-arc (a .rule) at (w .lo) (w .hi) _ (c .before .before .before .before .before .before .before .before .before .before .before .before .before .before .before .before .before .before .before .before .before .test-line .ensures) _ (c .before .before .before .before .before .before .before .before .before .before .before .before .before .before .before .before .before .try-rule .ensures) (c .before .before .before .before .before .before .before .before .before .before .before .before .before .before .before .before .before .before .if1 .left) _ _ _ (c .before .before .before .before .before .before .before .before .before .before .before .before .before .before .before .t .given .1))
+    (c .before .before .before .before .before .before .before .before .before .before .before .arc-command .ensures ∙ rw (c .before .before .before .before .before .before .before .before .before .before .before .before .before .point-at2 .ensures, c .before .before .before .before .before .before .before .before .before .before .before .before .before .before .before .before .before .before .before .before .point-at .ensures)) (c .before .before .before .before .before .before .before .before .before .before .before .before .note-of2 .ensures)
+    (takes-worst (a .rule) at (w .lo) (w .hi) _ (c .before .before .before .before .before .before .before .before .before .before .before .before .before .before .before .before .before .before .before .before .before .test-line .ensures) _ (c .before .before .before .before .before .before .before .before .before .before .before .before .before .before .before .before .before .try-rule .ensures) (c .before .before .before .before .before .before .before .before .before .before .before .before .before .before .before .before .before .before .if1 .left) _ _ _ (c .before .before .before .before .before .before .before .before .before .before .before .before .before .before .before .t .given .1)) refl (c .before .before .before .before .before .before .put-piece2 .ensures .0) (c .before .before .before .before .before .before .put-piece2 .ensures .1)
 
 same-length-9 : tie.Need-same-length-9
 same-length-9 c = search needs
 
 returns-3 : tie.Need-returns-3
-returns-3 c = let a = c .before .before .before .before .before .before .before .before .before .before .before .before .before .before .before .before .before .before .args in
+returns-3 c = let a = c .before .before .before .before .before .before .before .before .before .before .before .before .before .before .before .before .args in
     let w = a .w in
     let at = pointAt (a .points .now) in
     looked-cut (a .rule) at w _ (a .ends .now) _ (a .kinds .now) _ (a .nums .now) _ (a .notes .now) _ _
-    (takes-cut (a .rule) at (w .lo) (w .hi) _ (c .before .before .before .before .before .before .before .before .before .before .before .before .line-deviation .ensures) _ (c .before .before .before .before .before .before .try-rule .ensures) (c .before .before .before .before .before .before .before .if1 .left) (c .before .before .before .before .enum-told .given .1)) (c .before .before .cut .ensures .1) (c .before .before .cut .ensures .0) refl refl refl
+    (takes-cut (a .rule) at (w .lo) (w .hi) _ (c .before .before .before .before .before .before .before .before .before .before .test-line .ensures) _ (c .before .before .before .before .before .before .try-rule .ensures) (c .before .before .before .before .before .before .before .if1 .left) (c .before .before .before .before .enum-told .given .1)) (c .before .before .cut .ensures .1) (c .before .before .cut .ensures .0) refl refl refl
 
 pub fit-next-spec : {M : Type 1} → statement M
 fit-next-spec =
     tie.close
     (tie.spec
-    line-deviation-requires
+    test-line-requires
     point-at-requires
     sub-covered
     note-of-requires
