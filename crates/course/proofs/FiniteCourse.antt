@@ -31,7 +31,7 @@ use Rattle.fitting.proofs.Own.{unless-given}
 use Rattle.fitting.proofs.Accepted.{fit-accepted}
 use Rattle.course.specs.Parts.{Join, adds, ends, closed, carried, partsFrom, partFit, partMost, mostOf, fitOf}
 use Rattle.floats.specs.Limits.{quarter}
-use Rattle.course.specs.Course.{joined, partsOn, fitOn, mostOn, courseFit, lentCourse, inputRows, arcsRows, arcsCall, linesJoined, optimizedChain, optimized, optimizeCall}
+use Rattle.course.specs.Course.{joined, partsOn, fitOn, mostOn, courseFit, lentCourse, arcsRows, arcsCall, linesJoined, optimizedChain, optimized, optimizeCall}
 use Rattle.course.specs.Walks.{pathFlush, joinsBeziers, joinedBy, partsBy}
 use Rattle.course.specs.Finite.{AllFinite, FiniteNumbers, CommandsIn}
 use Rattle.course.proofs.Parts.{chain-counts}
@@ -164,7 +164,7 @@ primitives-finite s tol kinds numbers places xs e = fit-points-finite s tol 0 (l
 
 -- Every number that `fit_arcs` gives is finite.
 pub arcs-finite : (ks : List ℕ) (ns : List Float) (tol : Float) (kinds numbers : ℕ) (xs : List Command) → arcsCall ks ns tol kinds numbers ≡ gives xs → FiniteNumbers xs
-unfolding arcsCall arcsRows inputRows
+unfolding arcsCall arcsRows
 arcs-finite ks ns tol kinds numbers xs e =
     let g = unless-given (refusal (arcsRows ks ns tol kinds numbers)) (courseFit (lapsRule tol) (lentCourse ks ns)) xs e in
     let acc = arcs-accepted ks ns tol kinds numbers 0 (g .0) refl in
