@@ -17,7 +17,7 @@ use Rattle.geo.proofs.Every.{every-at}
 use Rattle.geo.specs.Domain.{coordinate, isFinite, numbersIn, point3In, finite3, commandIn, commandsIn}
 use Rattle.geo.specs.Walk.{listFrom}
 use Rattle.geo.specs.Outcome.{refusal, gives}
-use Rattle.geo.proofs.Rows.{row-passed}
+use Rattle.geo.proofs.Rows.{row-passed, unless-given}
 use Rattle.geo.proofs.Walk.{list-length}
 use Rattle.geo.proofs.Flat.{flat-length}
 use Rattle.bezier.specs.Linearize.{stepEnd, stepAt, steps, firstThird, lastThird, stepsNeeded, paramSteps}
@@ -27,7 +27,6 @@ use Rattle.fitting.specs.declared.fitting.Rule.{Rule}
 use Rattle.fitting.specs.Pieces.{pointsRule, lapsRule}
 use Rattle.fitting.specs.Commands.{fitIn, keptOf, chainFit}
 use Rattle.fitting.specs.Calls.{fitRows, fitCall, primitivesCall}
-use Rattle.fitting.proofs.Own.{unless-given}
 use Rattle.fitting.proofs.Accepted.{fit-accepted}
 use Rattle.course.specs.Parts.{Join, adds, ends, closed, carried, partsFrom, partFit, partMost, mostOf, fitOf}
 use Rattle.floats.specs.Limits.{quarter}

@@ -14,13 +14,13 @@ use Rattle.geo.specs.declared.types.Answer.{Answer}
 use Rattle.geo.specs.declared.types.Answer.the-variants as counted
 use Rattle.geo.specs.Lent.{pointAt}
 use Rattle.geo.specs.Outcome.{Outcome, refused, gives, refusal, unless, answer}
+use Rattle.geo.proofs.Rows.{unless-given}
 use Rattle.fitting.specs.declared.fitting.Primitives.{Primitives}
 use Rattle.fitting.specs.declared.fitting.Primitives.the-variants.{Fitted, Refused}
 use Rattle.fitting.specs.Pieces.{pointsRule, piecesBy, piecesIn, rangesBy, rangesIn}
 use Rattle.fitting.specs.Commands.{pieceCommand, fitIn}
 use Rattle.fitting.specs.Calls.{fitRows, fitCall, primitivesCall, examined, primitivesAnswer}
 use Rattle.fitting.specs.Examined.{piecesOf, RangesOf, RangesExamined}
-use Rattle.fitting.proofs.Own.{unless-given}
 use Rattle.fitting.proofs.Recursion.{pieces-length}
 use Rattle.fitting.proofs.Pieces.{ranges-examined}
 use Rattle.fitting.proofs.Accepted.{fit-accepted}

@@ -14,6 +14,7 @@ use Rattle.geo.specs.declared.types.Point3D.{Point3D}
 use Rattle.geo.specs.declared.types.Command as command
 use Rattle.geo.specs.Lent.{pointAt}
 use Rattle.geo.specs.Outcome.{refusal}
+use Rattle.geo.proofs.Rows.{unless-given}
 use Rattle.circle.specs.declared.circle.Deviation.{Deviation}
 use Rattle.circle.specs.Worst.{worse, worst}
 use Rattle.circle.specs.Three.{radiusFrom}
@@ -27,7 +28,7 @@ use Rattle.fitting.specs.Commands.{shaped, pieceCommand, fitIn, worstSte
 use Rattle.fitting.specs.Laws.{Covers}
 use Rattle.fitting.specs.Calls.{arcRows, arcCall, fitRows, fitCall, worstCall}
 use Rattle.fitting.specs.WorstStep.{stepOff, FirstWorst, WorstOf, no-worst, first-worst, ArcWorst, Beside, beside-line, beside-arc, AllBeside, FitWorst}
-use Rattle.fitting.proofs.Own.{unless-given, arc-answered}
+use Rattle.fitting.proofs.Own.{arc-answered}
 use Rattle.fitting.proofs.Pieces.{pieces-cover}
 use Rattle.fitting.proofs.Accepted.{fit-accepted}
 

@@ -13,7 +13,7 @@ use Rattle.flatten.specs.Parts.{mostHalvings, quarterTurn, cosineBetween
 use Rattle.flatten.specs.declared.flatten.Ray.{Ray}
 use Rattle.flatten.specs.Written.{rayOf, bulgeOf, lowLine, lowLines}
 use Rattle.flatten.proofs.Parts.{halved-flat, halved-cut}
-use Rattle.flatten.proofs.Placing.{both-placed}
+use Rattle.fitting.proofs.Writing.{both-placed}
 
 -- what a count that is not 0 is the next of
 next : (n : ℕ) → (n ≡ 0 → ⊥) → n ≡ suc (n - 1)

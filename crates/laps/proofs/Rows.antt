@@ -22,10 +22,6 @@ nines n k h = either (eqb (n / 9) k) refl
     either true e = let q = eqb-true (n / 9) k e in e ∙ sym (eq-eqb n (9 * k) (omega arith))
     either false e = let q = eqb-false (n / 9) k e in e ∙ sym (ne-eqb n (9 * k) (λ z. q (omega arith)))
 
-pub or-false : (a b : Bool) → a || b ≡ false → (a ≡ false) × (b ≡ false)
-or-false true b e = absurd (subst T e tt)
-or-false false b e = (refl, e)
-
 -- a row that decides whatever rows come later
 pub refused-front : (rs ts : List Row) (r : ℕ) → r ≡ refusal rs → (r ≡ 0 → ⊥) → r ≡ refusal (rs ++ ts)
 refused-front rs ts r e h = e ∙ refusal-front rs ts (subst (λ (k : ℕ). 0 < k) e (omega (arith, h)))

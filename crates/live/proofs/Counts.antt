@@ -9,15 +9,11 @@ use borrow.Author.Tests.{ltb-true, lt-ltb}
 use lib.ListN.{length, length-append}
 use lib.Dec.{ltb}
 use lib.Ieee.{Float}
-use Rattle.floats.proofs.Order.{either, clash, and-left}
+use Rattle.floats.proofs.Order.{either, clash, and-left, or-right}
 use Rattle.geo.specs.declared.types.Point3D.{Point3D}
 use Rattle.live.specs.declared.live.Live.{Live}
 use Rattle.live.specs.Thinner.{slotCount, slot, behind, cutting, goesOn, push, feedAgain, anchored, forgotten, retuned}
 use Rattle.live.specs.Calls.{mostEnds}
-
-pub or-right : (a b : Bool) → (a || b) ≡ true → a ≡ false → b ≡ true
-or-right true b h e = clash (sym e)
-or-right false b h e = h
 
 -- the line goes on only where a slot is free
 pub goes-room : (s : Live) (p : Point3D) → goesOn s p ≡ true → s .count < slotCount
