@@ -1,13 +1,11 @@
 """The picture of a course that was drawn: what was read as a thin line, and the fit over it as straights and bends."""
-from course import BORDER, HEAD, START, WIDTH, Frame, arrow, path_of, px, tick, titled
+from course import BORDER, START, Frame, arrow, path_of, px, tick, titled
 from fitting import count
 from geometry import strokes_of
-from lapfile import started
-from lapfile import ARC, BEZIER
-from picture import STYLE
+from lapfile import ARC, BEZIER, started
+from picture import framed
 
-FOOT = 24
-OWN_STYLE = STYLE + "  .given { fill: none; stroke: #9aa3b2; stroke-width: 3.2 }\n"
+GIVEN = "  .given { fill: none; stroke: #9aa3b2; stroke-width: 3.2 }\n"
 
 
 def mirrored(commands):
@@ -62,20 +60,10 @@ def drawing_of(recorded, fitted, tolerance):
     places = [place for commands in laps for place in places_of(commands)]
     frame = Frame.of(places or [(0.0, 0.0)])
     centre = [(min(axis) + max(axis)) / 2 for axis in zip(*places)] if places else [0.0, 0.0]
-    height = HEAD + frame.height + FOOT
     title = f"{count(len(laps), 'lap')}, fitted at a tolerance of {tolerance:g} m"
-    lines = [
-        f'<svg xmlns="http://www.w3.org/2000/svg" role="img" aria-labelledby="title" width="{WIDTH}" height="{height:.0f}" '
-        f'viewBox="0 0 {WIDTH} {height:.0f}">',
-        f'<title id="title">{title}</title>',
-        f"<style>{OWN_STYLE}</style>",
-        '<rect width="100%" height="100%" fill="#fff"/>',
-        f'<text class="name" x="12" y="18">{title}</text>',
-        f'<text class="small" x="12" y="33">{course_line(recorded, fitted)}</text>',
-    ]
-    for number, (commands, own) in enumerate(zip(laps, strokes), 1):
-        lines += lap_lines(number, commands, own, centre, frame)
-    return "\n".join(lines + ["</svg>", ""])
+    numbered = enumerate(zip(laps, strokes), 1)
+    lines = [line for number, (commands, own) in numbered for line in lap_lines(number, commands, own, centre, frame)]
+    return framed(title, course_line(recorded, fitted), frame, GIVEN, lines)
 
 
 def course_line(recorded, fitted):

@@ -5,7 +5,7 @@ import strip
 from course import HEAD, WIDTH, Frame, lap_drawing
 from rows import part_rows
 
-ACROSS, KEY_HEIGHT, BAR = 3, 58, 110
+ACROSS, KEY_HEIGHT, BAR, FOOT = 3, 58, 110, 24
 STYLE = """
   text { font: 12px sans-serif; fill: #1f2430 }
   .name { font-weight: bold } .small { font-size: 11px; fill: #4a5160 }
@@ -114,4 +114,20 @@ def svg_of(drawn):
     for i, lap in enumerate(drawn.laps):
         lines.append(lap.svg(f'x="{i % across * WIDTH}" y="{KEY_HEIGHT + i // across * high:.0f}" '))
     lines.append(drawn.strip.svg(f'y="{height - drawn.strip.height:.0f}" '))
+    return "\n".join(lines + ["</svg>", ""])
+
+
+def framed(title, line, frame, style, inner):
+    """A picture of one drawing as an SVG of its own: a title, a line about it, and what is drawn in the frame."""
+    height = HEAD + frame.height + FOOT
+    lines = [
+        f'<svg xmlns="http://www.w3.org/2000/svg" role="img" aria-labelledby="title" width="{WIDTH}" height="{height:.0f}" '
+        f'viewBox="0 0 {WIDTH} {height:.0f}">',
+        f'<title id="title">{title}</title>',
+        f"<style>{STYLE}{style}</style>",
+        '<rect width="100%" height="100%" fill="#fff"/>',
+        f'<text class="name" x="12" y="18">{title}</text>',
+        f'<text class="small" x="12" y="33">{line}</text>',
+        *inner,
+    ]
     return "\n".join(lines + ["</svg>", ""])

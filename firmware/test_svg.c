@@ -1,56 +1,37 @@
-/* Calls pz_read_course through pizhgarol.h: files, refusals in their order, and that only lent memory is touched. What is lent
-   is allocated to the byte, so that valgrind sees a read or a write past it; outputs hold a mark in each byte, and guard bytes
-   stand behind them. */
-#include <stdlib.h>
-#include <string.h>
-#include "checks.h"
+/* Calls pz_read_course through pizhgarol.h: files, refusals in their order, and that only lent memory is touched (lent.h). */
+#include "lent.h"
 #include "pizhgarol.h"
 
-#define MARK 0xA5
-#define GUARD 64
 #define UNTOUCHED 12345u
 
 struct read {
     uint32_t answer;
-    size_t count;
+    size_t count, room;
     uint8_t *out;
 };
-
-static uint8_t *lend(size_t size)
-{
-    uint8_t *lent = malloc(size + GUARD);
-    if (!lent) {
-        perror("malloc");
-        exit(2);
-    }
-    memset(lent, MARK, size + GUARD);
-    return lent;
-}
 
 /* Reads a text of so many bytes into an output of `room` bytes, and checks what the call left alone. */
 static struct read read_bytes(const char *text, size_t size, size_t room, const char *what)
 {
-    uint8_t *copy = malloc(size ? size : 1);
-    struct read r = { 0, UNTOUCHED, lend(room) };
-    memcpy(copy, text, size);
-    r.answer = pz_read_course(copy, size, r.out, room, &r.count);
-    check(!memcmp(copy, text, size), what);
+    uint8_t *input = lend_input(text, size);
+    struct read r = { 0, UNTOUCHED, room, lend(room) };
+    r.answer = pz_read_course(input, size, r.out, room, &r.count);
     check((r.answer == PZ_DONE) != (r.count == UNTOUCHED), what);
-    for (size_t i = r.answer == PZ_DONE ? r.count : 0; i < room + GUARD; i++) {
-        if (r.out[i] != MARK) {
-            check(0, what);
-            break;
-        }
-    }
-    free(copy);
+    check(kept(r.out, room, r.answer == PZ_DONE ? r.count : 0), what);
+    give_back(input, size);
     return r;
+}
+
+static void done_with(struct read r)
+{
+    give_back(r.out, r.room);
 }
 
 static void refuses(const char *text, size_t room, uint32_t number)
 {
     struct read r = read_bytes(text, strlen(text), room, text);
     check(r.answer == number, text);
-    free(r.out);
+    done_with(r);
 }
 
 /* `count` times an item, with single spaces between. */
@@ -98,14 +79,14 @@ static void reads_two_laps(void)
     put_command(expected + 24 + 3 * 73, PZ_BEZIER, curve);
     check(r.answer == PZ_DONE && r.count == sizeof expected, "two laps");
     check(!memcmp(r.out, expected, sizeof expected), "the bytes of two laps");
-    free(r.out);
+    done_with(r);
 }
 
 static void reads_nothing(void)
 {
     struct read r = read_bytes("", 0, 8, "no text");
     check(r.answer == PZ_DONE && r.count == 8 && !memcmp(r.out, "LAPS\0\0\0\0", 8), "no text");
-    free(r.out);
+    done_with(r);
     refuses("", 7, PZ_NO_ROOM);
 }
 
@@ -140,10 +121,10 @@ static void refuses_in_order(void)
     refuses(full, pz_file_bytes(1, PZ_MOST_COMMANDS) - 1, PZ_NO_ROOM);
     r = read_bytes(full, strlen(full), pz_file_bytes(1, PZ_MOST_COMMANDS), "800 commands");
     check(r.answer == PZ_DONE && r.count == pz_file_bytes(1, PZ_MOST_COMMANDS), "800 commands");
-    free(r.out);
+    done_with(r);
     r = read_bytes(laps, strlen(laps), pz_file_bytes(PZ_MOST_LAPS, PZ_MOST_LAPS), "64 laps");
     check(r.answer == PZ_DONE && r.count == pz_file_bytes(PZ_MOST_LAPS, PZ_MOST_LAPS), "64 laps");
-    free(r.out);
+    done_with(r);
     free(long_text);
     free(full);
     free(many);
@@ -160,8 +141,8 @@ static void fits_what_was_read(void)
     size_t count = 0;
     check(pz_fit_file(r.out, r.count, 0.5, fitted, PZ_MOST_OUTPUT_BYTES, &count) == PZ_DONE, "the fit of a course that was read");
     check(count == pz_file_bytes(1, fitted[12]) && !memcmp(fitted, "LAPS\1\0\0\0\20\0\0\0", 12), "its bytes");
-    free(r.out);
-    free(fitted);
+    done_with(r);
+    give_back(fitted, PZ_MOST_OUTPUT_BYTES);
 }
 
 int main(void)

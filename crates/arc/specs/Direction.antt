@@ -10,7 +10,7 @@ use Rattle.geo.specs.declared.types.Point.{Point}
 use Rattle.geo.specs.Vector.{perpDot}
 use Rattle.geo.specs.Walk.{fold}
 use Rattle.geo.specs.Lent.{pairAt}
-use Rattle.geo.specs.Domain.{coordinate, centre, numbersIn, whole}
+use Rattle.geo.specs.Domain.{mostPoints, coordinate, centre, numbersIn, whole}
 use Rattle.geo.specs.Outcome.{Row, row, refusal, Outcome, refused, gives, unless}
 use Rattle.arc.specs.declared.arc.Direction.{Direction}
 use Rattle.arc.specs.declared.arc.Direction.the-variants.{Clockwise, Refused}
@@ -33,7 +33,7 @@ clockwise at lo hi m = crossSum at lo hi m ≺ +0
 unfoldable pub directionRows : List Float → Point → List Row
 directionRows s m =
     row 1 (not (whole 2 (length s)))
-    ∷ row 2 (ltb 2048 (length s / 2))
+    ∷ row 2 (ltb mostPoints (length s / 2))
     ∷ row 5 (not (numbersIn coordinate s && centre (m .x) && centre (m .y)))
     ∷ row 7 (eqb (length s / 2) 0)
     ∷ []

@@ -1,13 +1,13 @@
 -- The rows of each call, by the tests that its check makes, in their order. Assumes nothing.
 use Prim.Native.Nat.{ℕ, _*_, _≤_, _<_}
 use mathlib.Core.Path.{_≡_, sym, ap, _∙_, subst}
-use mathlib.Core.Bool.{Bool, true, false, not, _||_}
-use native.Mathlib.Omega.{arith}
+use mathlib.Core.Bool.{true, false, not, _||_}
 use borrow.Author.Tests.{lt-ltb, le-ltb, eq-eqb, ne-eqb, ltb-false}
 use lib.Dec.{ltb, eqb}
 use Rattle.geo.specs.declared.types.Point3D.{Point3D}
 use lib.ListN.{length}
 use lib.Ieee.{Float, le, toUnsigned}
+use Rattle.floats.proofs.Order.{or-false}
 use Rattle.geo.specs.Outcome.{refusal}
 use Rattle.geo.proofs.Walk.{list-length}
 use Rattle.geo.proofs.Rows.{row-fails, row-passes, row-passed, refusal-front, done}
@@ -25,11 +25,7 @@ pub count-passes : (n most : ℕ) → (n ≡ 0 → ⊥) → n ≤ most → (eqb 
 count-passes n most h g = rw (ne-eqb n 0 h, le-ltb most n g)
 
 pub count-passed : (n most : ℕ) → (eqb n 0 || ltb most n) ≡ false → n ≤ most
-count-passed n most h = ltb-false most n (second (eqb n 0) (ltb most n) h)
-  where
-    second : (a b : Bool) → (a || b) ≡ false → b ≡ false
-    second true b h = absurd (let z : _≡_ {A = ℕ} 0 1 = cc in omega arith)
-    second false b h = h
+count-passed n most h = ltb-false most n (or-false (eqb n 0) (ltb most n) h .1)
 
 -- ---- what an accepted call knows
 pub linearize-passed : (p0 c1 c2 p1 : Point3D) (n room : ℕ) → 0 ≡ refusal (linearizeRows p0 c1 c2 p1 n room) → (n ≤ mostAsked) × (6 * n ≤ room)

@@ -10,7 +10,7 @@ use Rattle.floats.specs.Ops.{if_then_else_}
 use Rattle.geo.specs.declared.types.Point.{Point}
 use Rattle.geo.specs.declared.types.Point3D.{Point3D}
 use Rattle.geo.specs.Lent.{pointAt}
-use Rattle.geo.specs.Domain.{point3In, tolerance, coordinate, centre, numbersIn, whole}
+use Rattle.geo.specs.Domain.{mostPoints, point3In, tolerance, coordinate, centre, numbersIn, whole}
 use Rattle.geo.specs.Outcome.{Row, row, refusal, Outcome, refused, gives, unless}
 use Rattle.circle.specs.declared.circle.Collinear as answer
 use Rattle.circle.specs.declared.circle.CircleThrough as through
@@ -25,7 +25,7 @@ use Rattle.circle.specs.Bisector.{projected}
 unfoldable pub pointsRows : List Float → List Row
 pointsRows s =
     row 1 (not (whole 3 (length s)))
-    ∷ row 2 (ltb 2048 (length s / 3))
+    ∷ row 2 (ltb mostPoints (length s / 3))
     ∷ row 5 (not (numbersIn coordinate s))
     ∷ []
 
@@ -33,7 +33,7 @@ pointsRows s =
 unfoldable pub collinearRows : List Float → Float → List Row
 collinearRows s tol =
     row 1 (not (whole 3 (length s)))
-    ∷ row 2 (ltb 2048 (length s / 3))
+    ∷ row 2 (ltb mostPoints (length s / 3))
     ∷ row 5 (not (numbersIn coordinate s))
     ∷ row 6 (not (tolerance tol))
     ∷ []

@@ -13,6 +13,7 @@ use Rattle.geo.specs.declared.types.Point3D.{Point3D}
 use Rattle.geo.specs.declared.types.Point.{Point}
 use Rattle.circle.specs.declared.circle.Deviation.{Deviation}
 use Rattle.geo.specs.Walk.{fold}
+use Rattle.geo.specs.Vector.{dot3, cross3}
 use Rattle.circle.specs.Worst.{worst}
 use Rattle.circle.specs.declared.circle.Sums.{Sums}
 use Rattle.circle.specs.declared.circle.Axes.{Axes}
@@ -66,18 +67,6 @@ rowOf m i = record { x = at2 m i 0; y = at2 m i 1; z = at2 m i 2 }
 
 unfoldable pub axesOf : List (List Float) → Axes
 axesOf m = record { x = rowOf m 0; y = rowOf m 1; z = rowOf m 2 }
-
--- glam's forms
-unfoldable pub cross3 : Point3D → Point3D → Point3D
-cross3 u v =
-    record {
-      x = u .y ⊗ v .z ⊖ v .y ⊗ u .z;
-      y = u .z ⊗ v .x ⊖ v .z ⊗ u .x;
-      z = u .x ⊗ v .y ⊖ v .x ⊗ u .y;
-    }
-
-unfoldable pub dot3 : Point3D → Point3D → Float
-dot3 u v = u .x ⊗ v .x ⊕ u .y ⊗ v .y ⊕ u .z ⊗ v .z
 
 unfoldable pub scaled : Point3D → Float → Point3D
 scaled u k = record { x = u .x ⊗ k; y = u .y ⊗ k; z = u .z ⊗ k }

@@ -2,6 +2,7 @@
 // of lent triples, from start to end.
 use floats::float::abs;
 use floats::root::sqrt;
+use geo::domain::MOST_POINTS;
 use geo::domain::all_coordinates;
 use geo::domain::is_centre;
 use geo::domain::is_tolerance;
@@ -13,12 +14,14 @@ use geo::types::Point3D;
 ghost use mathlib.Core.Path.{_≡_};
 ghost use Prim.Native.Nat.{_+_, _*_, _<_, _≤_};
 ghost use lib.ListN.{length};
+ghost use Rattle.geo.specs.Domain.{mostPoints};
+ghost use Rattle.geo.specs.Vector.{cross3, dot3};
 ghost use Rattle.geo.specs.Lent.{pointAt};
 ghost use Rattle.geo.specs.Outcome.{refusal, gives};
 ghost use Rattle.circle.specs.Worst.{worse};
 ghost use Rattle.circle.specs.Collinear.{endsChord, nearTo, besideOf, allNear, allBeside, collinear};
 ghost use Rattle.circle.specs.Three.{areaOf, turnOf, center3, radiusFrom, centerThree, throughThree};
-ghost use Rattle.circle.specs.Kasa.{noSums, plus, sumsOf, axesOf, cross3, dot3, scaled, detOf, solved, kasaCenter, errorOf, worstError, kasaCircle};
+ghost use Rattle.circle.specs.Kasa.{noSums, plus, sumsOf, axesOf, scaled, detOf, solved, kasaCenter, errorOf, worstError, kasaCircle};
 ghost use Rattle.circle.specs.Bisector.{projected};
 ghost use Rattle.circle.specs.Calls.{pointsRows, collinearCall, collinearAnswer, throughCall, throughAnswer, fittedCall, fittedAnswer, projectedCall, projectedAnswer};
 
@@ -377,7 +380,7 @@ impl Center {
 
     // By Kasa's normal equations.
     pub fn of(points: &[f64], start: usize, end: usize) -> Self
-        requires { ⌜ (start ≤ end) × (end < 2048) × (3 * end + 2 < length (now points)) ⌝ }
+        requires { ⌜ (start ≤ end) × (end < mostPoints) × (3 * end + 2 < length (now points)) ⌝ }
         ensures { λ r. ⌜ r ≡ kasaCenter (pointAt (now (points .entry))) start end ⌝ }
     {
         if is_collinear(points, start, end, Center::COLLINEAR) {
@@ -443,7 +446,7 @@ pub enum FittedCircle {
 
 impl FittedCircle {
     fn of(points: &[f64], start: usize, end: usize) -> Self
-        requires { ⌜ (start ≤ end) × (end < 2048) × (3 * end + 2 < length (now points)) ⌝ }
+        requires { ⌜ (start ≤ end) × (end < mostPoints) × (3 * end + 2 < length (now points)) ⌝ }
         ensures { λ r. ⌜ r ≡ fittedAnswer (gives (kasaCircle (pointAt (now (points .entry))) start end)) ⌝ }
     {
         let t = Center::of(points, start, end);
@@ -498,7 +501,7 @@ pub fn check_points(points: &[f64]) -> u32
     if points.len() % 3 != 0 {
         return 1;
     }
-    if 2048 < points.len() / 3 {
+    if MOST_POINTS < points.len() / 3 {
         return 2;
     }
     if !all_coordinates(points) {

@@ -1,21 +1,20 @@
 -- The rows of a course: what passed, and what an accepted call answers and leaves. Assumes nothing.
 use Prim.Native.Nat.{ℕ, _+_, _*_, _/_, _≤_, _<_}
-use mathlib.Core.Path.{_≡_, sym, ap, _∙_, subst}
+use mathlib.Core.Path.{_≡_, sym, ap, _∙_}
 use mathlib.Core.Bool.{true}
-use mathlib.Core.List.{List, _∷_, _++_}
+use mathlib.Core.List.{List}
 use native.Mathlib.Omega.{arith}
 use borrow.Author.Tests.{ltb-false, eqb-true, not-false, lt-ltb, le-ltb}
-use lib.ListN.{length, length-append}
+use lib.ListN.{length}
 use lib.Ieee.{Float}
 use Rattle.floats.specs.Ops.{_≺_, +0}
 use Rattle.geo.specs.declared.types.Point3D.{Point3D}
 use Rattle.geo.specs.declared.types.Command.{Command}
-use Rattle.geo.specs.declared.types.Command.the-variants.{Move}
 use Rattle.geo.specs.declared.types.Answer.the-variants.{Written}
-use Rattle.geo.specs.Outcome.{Row, refusal}
+use Rattle.geo.specs.Outcome.{refusal}
 use Rattle.geo.specs.Commands.{WroteCommands}
-use Rattle.geo.specs.Lent.{flat, origin, numbersOf}
-use Rattle.geo.proofs.Rows.{row-passes, row-passed, refusal-front}
+use Rattle.geo.specs.Lent.{origin, numbersOf}
+use Rattle.geo.proofs.Rows.{row-passed}
 use Rattle.geo.proofs.Tolerance.{tolerance-positive}
 use Rattle.geo.proofs.Outcomes.{commands-given, nine}
 use Rattle.geo.proofs.Flat.{flat-length}
@@ -25,8 +24,7 @@ use Rattle.fitting.specs.Commands.{chainFit}
 use Rattle.fitting.specs.Written.{FitPlaced, commandsOf, chainNoted}
 use Rattle.fitting.proofs.Writing.{commands-length}
 use Rattle.fitting.proofs.Chain.{chain-noted}
-use Rattle.course.specs.Parts.{closed, partsFrom, partFit, fitOf}
-use Rattle.course.specs.Course.{joined, partsOn, fitOn, mostOn, courseFit, courseMost, lentCourse, inputRows, roomRows, arcsRows, arcsCall}
+use Rattle.course.specs.Course.{partsOn, fitOn, mostOn, courseFit, courseMost, lentCourse, roomRows, arcsRows, arcsCall}
 use Rattle.course.specs.Walks.{cap, notedOn}
 use Rattle.course.proofs.Count.{cap-passed, cap-over}
 use Rattle.course.proofs.Parts.{noted-few, parts-commands}
@@ -44,42 +42,6 @@ noted-course-few r pos p cs = noted-few (chainNoted r) (chain-few r pos) (partsO
 
 pub course-few : (r : Rule) → (+0 ≺ r .tolerance) ≡ true → (p : Point3D) (cs : List Command) → length (fitOn r p cs) ≤ mostOn (r .tolerance) p cs
 course-few r pos p cs = let a = noted-course-few r pos p cs in let l = commands-length (notedOn r p cs) in let e = ap length (course-commands r p cs) in omega arith
-
--- of a course that starts with a Move something is written
-pub course-some : (r : Rule) (p : Point3D) (cs : List Command) → 1 ≤ length (courseFit r (Move p ∷ cs))
-unfolding fitOn fitOf partsOn partsFrom joined closed flat partFit
-course-some r p cs = some (chainFit r _) _
-  where
-    some : (xs ys : List Command) → 1 ≤ length (xs ++ (Move p ∷ ys))
-    some xs ys = let c = length-append xs (Move p ∷ ys) in omega arith
-
--- ---- r is what the check of rows 1 to 6 found
-module _ (ks : List ℕ) (ns : List Float) (tol : Float) (numbers r : ℕ) (e : r ≡ refusal (inputRows ks ns tol numbers)) where
-  pub input-refused : (ts : List Row) → (r ≡ 0 → ⊥) → r ≡ refusal (inputRows ks ns tol numbers ++ ts)
-  input-refused ts h = e ∙ refusal-front (inputRows ks ns tol numbers) ts (subst (λ (k : ℕ). 0 < k) e (omega (arith, h)))
-
-  module _ (z : r ≡ 0) where
-    pub input-passed : (ts : List Row) → refusal (inputRows ks ns tol numbers ++ ts) ≡ refusal ts
-    unfolding inputRows
-    input-passed ts =
-        let a = row-passed 0 _ _ (sym z ∙ e) in
-        let b = row-passed 0 _ _ (a .1) in
-        let c = row-passed 1 _ _ (b .1) in
-        let d = row-passed 3 _ _ (c .1) in
-        let f = row-passed 4 _ _ (d .1) in
-        let g = row-passed 5 _ _ (f .1) in
-        row-passes _ _ _ (a .0) ∙ row-passes _ _ _ (b .0) ∙ row-passes _ _ _ (c .0) ∙ row-passes _ _ _ (d .0) ∙ row-passes _ _ _ (f .0) ∙ row-passes _ _ _ (g .0)
-
-    pub input-accepted : (length ns ≡ 9 * length ks) × (length ks ≤ 800) × ((+0 ≺ tol) ≡ true)
-    unfolding inputRows
-    input-accepted =
-        let a = row-passed 0 _ _ (sym z ∙ e) in
-        let b = row-passed 0 _ _ (a .1) in
-        let c = row-passed 1 _ _ (b .1) in
-        let d = row-passed 3 _ _ (c .1) in
-        let f = row-passed 4 _ _ (d .1) in
-        let g = row-passed 5 _ _ (f .1) in
-        (eqb-true _ _ (not-false _ (a .0)), ltb-false _ _ (c .0), tolerance-positive tol (not-false _ (g .0)))
 
 -- ---- rows 8 and 9, m being the most as it was counted
 module _ (most kinds numbers m : ℕ) (e : m ≡ cap most) where
@@ -113,7 +75,7 @@ module _ (ks : List ℕ) (ns : List Float) (tol : Float) (kinds numbers r : ℕ)
     pub room-numbers : courseMost tol (lentCourse ks ns) ≤ numbers / 9
 
   pub arcs-accepted : Accepted
-  unfolding arcsRows inputRows roomRows
+  unfolding arcsRows roomRows
   arcs-accepted =
       let a = row-passed 0 _ _ (sym z ∙ e) in
       let b = row-passed 0 _ _ (a .1) in

@@ -16,7 +16,8 @@ use Rattle.course.specs.declared.course.Walk.{Walk}
 use Rattle.course.specs.declared.course.Flush.{Flush}
 use Rattle.course.specs.Parts.{mostOf}
 use Rattle.course.specs.Course.{lentCourse}
-use Rattle.course.specs.Walks.{mostCommands, chainPoints, chainNumbers, joinedBy, flushedBy, partsBy, fitBy, underWay, Room, Stepped}
+use Rattle.geo.specs.Domain.{mostCommands}
+use Rattle.course.specs.Walks.{chainPoints, chainNumbers, joinedBy, flushedBy, partsBy, fitBy, underWay, Room, Stepped}
 use Rattle.course.proofs.Chains.{flushed-few}
 use Rattle.course.proofs.Walking.{Going, going-start, going-kinds, going-numbers, going-room, going-step, going-done, commands-step, commands-done, length-front}
 use Rattle.course.proofs.Parts.{chain-counts}

@@ -18,7 +18,7 @@ use Rattle.floats.proofs.Bounds.{Within, Below, AtLeast, round-within, add-with
 use Rattle.floats.proofs.root.Plain.{square-plain, add-plain}
 use Rattle.geo.specs.declared.types.Point.{Point}
 use Rattle.geo.specs.declared.types.Point3D.{Point3D}
-use Rattle.geo.specs.Vector.{dot}
+use Rattle.geo.specs.Vector.{dot, cross3, dot3}
 use Rattle.geo.specs.Walk.{fold}
 use mathlib.Core.Option.{Option, none, some}
 use Rattle.circle.specs.declared.circle.Center as center
@@ -28,7 +28,7 @@ use Rattle.circle.specs.declared.circle.Axes.{Axes}
 use Rattle.floats.specs.Limits.{hundredth, nano, tenthNano, pico, femto}
 use Rattle.circle.specs.Collinear.{collinear}
 use Rattle.circle.specs.Three.{areaOf, squareOf, turnOf, center3, centerBy, centerThree, Circle, circleRound, throughThree}
-use Rattle.circle.specs.Kasa.{noSums, plus, sumsOf, axesOf, cross3, dot3, scaled, detOf, inverseTimes, solved, matrixOf, sidesOf, squaredRadius, centered, kasaCenter}
+use Rattle.circle.specs.Kasa.{noSums, plus, sumsOf, axesOf, scaled, detOf, inverseTimes, solved, matrixOf, sidesOf, squaredRadius, centered, kasaCenter}
 use Rattle.circle.specs.Bisector.{movedBy, projected}
 
 -- x, y and z at most 2 ^ k in size

@@ -17,7 +17,7 @@ use Rattle.geo.proofs.Every.{every-at}
 use Rattle.geo.specs.Domain.{coordinate, isFinite, numbersIn, point3In, finite3, commandIn, commandsIn}
 use Rattle.geo.specs.Walk.{listFrom}
 use Rattle.geo.specs.Outcome.{refusal, gives}
-use Rattle.geo.proofs.Rows.{row-passed}
+use Rattle.geo.proofs.Rows.{row-passed, unless-given}
 use Rattle.geo.proofs.Walk.{list-length}
 use Rattle.geo.proofs.Flat.{flat-length}
 use Rattle.bezier.specs.Linearize.{stepEnd, stepAt, steps, firstThird, lastThird, stepsNeeded, paramSteps}
@@ -27,11 +27,10 @@ use Rattle.fitting.specs.declared.fitting.Rule.{Rule}
 use Rattle.fitting.specs.Pieces.{pointsRule, lapsRule}
 use Rattle.fitting.specs.Commands.{fitIn, keptOf, chainFit}
 use Rattle.fitting.specs.Calls.{fitRows, fitCall, primitivesCall}
-use Rattle.fitting.proofs.Own.{unless-given}
 use Rattle.fitting.proofs.Accepted.{fit-accepted}
 use Rattle.course.specs.Parts.{Join, adds, ends, closed, carried, partsFrom, partFit, partMost, mostOf, fitOf}
 use Rattle.floats.specs.Limits.{quarter}
-use Rattle.course.specs.Course.{joined, partsOn, fitOn, mostOn, courseFit, lentCourse, inputRows, arcsRows, arcsCall, linesJoined, optimizedChain, optimized, optimizeCall}
+use Rattle.course.specs.Course.{joined, partsOn, fitOn, mostOn, courseFit, lentCourse, arcsRows, arcsCall, linesJoined, optimizedChain, optimized, optimizeCall}
 use Rattle.course.specs.Walks.{pathFlush, joinsBeziers, joinedBy, partsBy}
 use Rattle.course.specs.Finite.{AllFinite, FiniteNumbers, CommandsIn}
 use Rattle.course.proofs.Parts.{chain-counts}
@@ -164,7 +163,7 @@ primitives-finite s tol kinds numbers places xs e = fit-points-finite s tol 0 (l
 
 -- Every number that `fit_arcs` gives is finite.
 pub arcs-finite : (ks : List ℕ) (ns : List Float) (tol : Float) (kinds numbers : ℕ) (xs : List Command) → arcsCall ks ns tol kinds numbers ≡ gives xs → FiniteNumbers xs
-unfolding arcsCall arcsRows inputRows
+unfolding arcsCall arcsRows
 arcs-finite ks ns tol kinds numbers xs e =
     let g = unless-given (refusal (arcsRows ks ns tol kinds numbers)) (courseFit (lapsRule tol) (lentCourse ks ns)) xs e in
     let acc = arcs-accepted ks ns tol kinds numbers 0 (g .0) refl in

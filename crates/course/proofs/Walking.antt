@@ -15,7 +15,8 @@ use Rattle.fitting.specs.Written.{Noted, noted, NotedPlaced}
 use Rattle.fitting.proofs.Writing.{none-noted, both-noted, count-noted, placed-kinds, placed-numbers, Progress, progress-start, progress-step, progress-done}
 use Rattle.course.specs.declared.course.Walk.{Walk}
 use Rattle.course.specs.Parts.{Part, Join, adds, ends, closed, carried, partsFrom, mostOf}
-use Rattle.course.specs.Walks.{mostCommands, chainNumbers, partNoted, notedOf, underWay, Room, Stepped}
+use Rattle.geo.specs.Domain.{mostCommands}
+use Rattle.course.specs.Walks.{chainNumbers, partNoted, notedOf, underWay, Room, Stepped}
 use Rattle.course.proofs.Parts.{most-append, noted-append, noted-few, noted-chain, parts-step, parts-end, chain-counts}
 
 -- ---- a buffer's front

@@ -1,9 +1,9 @@
 -- The courses of `fit_arcs` and of `optimize_path_from_array`. Definitions only.
-use Prim.Native.Nat.{ℕ, _-_, _*_, _/_}
-use mathlib.Core.Bool.{Bool, true, false, not}
+use Prim.Native.Nat.{ℕ, _-_, _/_}
+use mathlib.Core.Bool.{Bool, true, false}
 use mathlib.Core.List.{List, [], _∷_, _++_, map}
 use lib.ListN.{length, drop}
-use lib.Dec.{ltb, eqb}
+use lib.Dec.{ltb}
 use lib.Ieee.{Float}
 use Rattle.floats.specs.Limits.{quarter}
 use Rattle.floats.specs.Ops.{_⊗_}
@@ -11,7 +11,8 @@ use Rattle.geo.specs.declared.types.Point3D.{Point3D}
 use Rattle.geo.specs.declared.types.Command.{Command}
 use Rattle.geo.specs.declared.types.Command.the-variants.{Move, Line, Arc, Bezier}
 use Rattle.geo.specs.Lent.{pointAt, triple, flat, origin, endOf, commandsFrom}
-use Rattle.geo.specs.Domain.{whole, tolerance, commandsFormed, commandsIn}
+use Rattle.geo.specs.Domain.{mostCommands}
+use Rattle.geo.specs.Commands.{inputRows}
 use Rattle.geo.specs.Outcome.{Row, row, refusal, Outcome, unless}
 use Rattle.simplify.specs.Simplify.{commandRows}
 use Rattle.bezier.specs.Linearize.{stepEnd, paramSteps}
@@ -46,9 +47,6 @@ endOn p [] = p
 endOn p (c ∷ cs) = endOn (endOf c) cs
 
 -- ---- a course of `fit_arcs`, "which needs no Move": the Rust starts it at the origin
-abbrev pub courseParts : Float → List Command → List Part
-courseParts tol cs = partsOn tol origin cs
-
 abbrev pub courseFit : Rule → List Command → List Command
 courseFit r cs = fitOn r origin cs
 
@@ -59,20 +57,9 @@ courseMost tol cs = mostOn tol origin cs
 abbrev pub lentCourse : List ℕ → List Float → List Command
 lentCourse ks ns = commandsFrom ks ns (length ks) 0
 
--- rows 1 to 6, of the kinds ks, the numbers ns, the tolerance and an output of `numbers` numbers
-unfoldable pub inputRows : List ℕ → List Float → Float → ℕ → List Row
-inputRows ks ns tol numbers =
-    row 1 (not (eqb (length ns) (9 * length ks)))
-    ∷ row 1 (not (whole 9 numbers))
-    ∷ row 2 (ltb 800 (length ks))
-    ∷ row 4 (not (commandsFormed ks ns))
-    ∷ row 5 (not (commandsIn ks ns))
-    ∷ row 6 (not (tolerance tol))
-    ∷ []
-
 -- rows 8 and 9, of the most and outputs of `kinds` kinds and `numbers` numbers
 unfoldable pub roomRows : ℕ → ℕ → ℕ → List Row
-roomRows most kinds numbers = row 8 (ltb 800 most) ∷ row 9 (ltb kinds most) ∷ row 9 (ltb (numbers / 9) most) ∷ []
+roomRows most kinds numbers = row 8 (ltb mostCommands most) ∷ row 9 (ltb kinds most) ∷ row 9 (ltb (numbers / 9) most) ∷ []
 
 unfoldable pub arcsRows : List ℕ → List Float → Float → ℕ → ℕ → List Row
 arcsRows ks ns tol kinds numbers = inputRows ks ns tol numbers ++ roomRows (courseMost tol (lentCourse ks ns)) kinds numbers

@@ -10,6 +10,7 @@ use Rattle.floats.specs.Ops.{if_then_else_}
 use Rattle.geo.specs.declared.types.Point3D.{Point3D}
 use Rattle.geo.specs.declared.types.Command.{Command}
 use Rattle.geo.specs.declared.types.Command.the-variants.{Line}
+use Rattle.geo.specs.Domain.{mostCommands}
 use Rattle.geo.specs.Lent.{pointAt, triple, flat, endOf}
 use Rattle.fitting.specs.declared.fitting.Rule.{Rule}
 use Rattle.fitting.specs.Commands.{keptOf}
@@ -22,9 +23,6 @@ use Rattle.course.specs.Course.{joined, linesJoined, partsOn}
 
 -- ---- counts
 -- "The most of a course ... above 800" is refused; so a chain has at most one point more, its first included, of three numbers each
-abbrev pub mostCommands : ℕ
-mostCommands = 800
-
 abbrev pub chainPoints : ℕ
 chainPoints = 801
 

@@ -6,9 +6,7 @@ use fitting::fitting::Rule;
 use fitting::fitting::fit_range;
 use fitting::fitting::flush_chain;
 use fitting::fitting::put_noted;
-use geo::domain::commands_formed;
-use geo::domain::commands_in;
-use geo::domain::is_tolerance;
+use geo::domain::check_input;
 use geo::lent::command_at;
 use geo::lent::point_at;
 use geo::lent::put_point;
@@ -33,8 +31,9 @@ ghost use Rattle.fitting.specs.Written.{FitPlaced, NotedPlaced};
 ghost use Rattle.course.specs.Parts.{ends, mostOf};
 ghost use Rattle.floats.specs.Limits.{quarter};
 ghost use Rattle.course.specs.declared.course.Flush.the-variants.{AsItStands, Lines};
-ghost use Rattle.course.specs.Course.{joined, fitOn, mostOn, endOn, lentCourse, inputRows, arcsRows, arcsCall, optimizeCall};
-ghost use Rattle.course.specs.Walks.{mostCommands, chainPoints, chainNumbers, cap, weightOf, pathFlush, joinsBeziers, joinedBy, lineNoted, flushedBy, partsBy, fitBy, notedOn, Room, Stepped};
+ghost use Rattle.course.specs.Course.{joined, fitOn, mostOn, endOn, lentCourse, arcsRows, arcsCall, optimizeCall};
+ghost use Rattle.geo.specs.Domain.{mostCommands};
+ghost use Rattle.course.specs.Walks.{chainPoints, chainNumbers, cap, weightOf, pathFlush, joinsBeziers, joinedBy, lineNoted, flushedBy, partsBy, fitBy, notedOn, Room, Stepped};
 
 // Where a walk along a course stands.
 pub struct Walk {
@@ -439,36 +438,6 @@ pub fn fit_course(
         out_nums,
         &mut [],
     )
-}
-
-// Why the commands of a course are refused, or 0: rows 1 to 6.
-fn check_input(kinds: &[u8], nums: &[f64], tolerance: f64, out_nums: usize) -> u32
-    ensures { λ r. ⌜ r ≡ refusal (inputRows (now (kinds .entry)) (now (nums .entry)) tolerance «out_nums») ⌝ }
-{
-    let n = kinds.len();
-    let size = nums.len();
-    if size % 9 != 0 {
-        return 1;
-    }
-    if size / 9 != n {
-        return 1;
-    }
-    if out_nums % 9 != 0 {
-        return 1;
-    }
-    if n > Walk::MOST {
-        return 2;
-    }
-    if !commands_formed(kinds, nums) {
-        return 4;
-    }
-    if !commands_in(kinds, nums) {
-        return 5;
-    }
-    if !is_tolerance(tolerance) {
-        return 6;
-    }
-    0
 }
 
 // Why a course is refused, or 0. An output's room is that of the smaller of its two slices.

@@ -7,7 +7,7 @@ use lib.Dec.{ltb}
 use lib.Ieee.{Float}
 use Rattle.geo.specs.Outcome.{Row, row, refusal, Outcome, refused, gives, unless}
 use Rattle.geo.specs.Lent.{pairAt}
-use Rattle.geo.specs.Domain.{coordinate, numbersIn, whole}
+use Rattle.geo.specs.Domain.{mostPoints, coordinate, numbersIn, whole}
 use Rattle.fit_cubic.specs.declared.fit_cubic.FittedCubic.{FittedCubic}
 use Rattle.fit_cubic.specs.declared.fit_cubic.FittedCubic.the-variants as Fit·
 use Rattle.fit_cubic.specs.FitCubic.{cubicFitted}
@@ -16,7 +16,7 @@ use Rattle.fit_cubic.specs.FitCubic.{cubicFitted}
 unfoldable pub cubicRows : List Float → List Row
 cubicRows s =
     row 1 (not (whole 2 (length s)))
-    ∷ row 2 (ltb 2048 (length s / 2))
+    ∷ row 2 (ltb mostPoints (length s / 2))
     ∷ row 5 (not (numbersIn coordinate s))
     ∷ []
 

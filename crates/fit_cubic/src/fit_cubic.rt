@@ -1,5 +1,6 @@
 // src/geo/shape/bezier.rs, last part: the curve fitted to points.
 use floats::float::abs;
+use geo::domain::MOST_POINTS;
 use geo::domain::all_coordinates;
 use geo::lent::pair_at;
 use geo::point::get_distance;
@@ -11,6 +12,7 @@ ghost use Prim.Native.Nat.{_*_, _≤_};
 ghost use lib.Ieee.{nan};
 ghost use lib.ListN.{length, getD};
 ghost use Rattle.floats.specs.Ops.{+0};
+ghost use Rattle.geo.specs.Domain.{mostPoints};
 ghost use Rattle.geo.specs.Lent.{pairAt};
 ghost use Rattle.fit_cubic.specs.FitCubic.{Chords, noCubicSums, addPoint, cubicSums, cubicSolved, cubicFitted};
 ghost use Rattle.fit_cubic.specs.Calls.{cubicCall, cubicAnswer};
@@ -33,9 +35,6 @@ pub struct Sums {
 }
 
 impl Sums {
-    // How many points are summed up: "Points lists: 0 to 2,048".
-    const MOST_POINTS: usize = 2048;
-
     // A polyline shorter than this gives no parameters.
     const NO_LENGTH: f64 = 1e-12;
 
@@ -131,7 +130,7 @@ fn sum_up(points: &[f64], n: usize, chords: &[f64]) -> Sums
 
 // The curve of n points; none below 2.
 fn curve_of(points: &[f64], n: usize) -> FittedCubic
-    requires { ⌜ (n ≤ 2048) × (2 * n ≤ length (now points)) ⌝ }
+    requires { ⌜ (n ≤ mostPoints) × (2 * n ≤ length (now points)) ⌝ }
     ensures { λ r. ⌜ r ≡ cubicFitted (pairAt (now (points .entry))) n ⌝ }
 {
     if n < 2 {
@@ -142,7 +141,7 @@ fn curve_of(points: &[f64], n: usize) -> FittedCubic
     if n == 2 {
         return FittedCubic::Curve(CubicBezier::new(p0, p0, p3, p3));
     }
-    let mut chords = [0.0; Sums::MOST_POINTS];
+    let mut chords = [0.0; MOST_POINTS];
     sum_chords(points, n, &mut chords);
     if chords[n - 1] < Sums::NO_LENGTH {
         return FittedCubic::Curve(CubicBezier::new(p0, p0, p3, p3));
@@ -159,7 +158,7 @@ pub fn fit_cubic_bezier(points: &[f64]) -> FittedCubic
         return FittedCubic::Refused(1);
     }
     let n = points.len() / 2;
-    if Sums::MOST_POINTS < n {
+    if MOST_POINTS < n {
         return FittedCubic::Refused(2);
     }
     if !all_coordinates(points) {

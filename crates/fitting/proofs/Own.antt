@@ -4,21 +4,21 @@ use Prim.Native.Nat.{ℕ, zero, suc, _+_, _-_, _*_, _/_, _≤_, _<_}
 use mathlib.Core.Path.{_≡_, refl, sym, ap, _∙_, subst}
 use mathlib.Core.Logic.{_⊎_, inl, inr, ⊎-elim}
 use mathlib.Core.Bool.{Bool, true}
-use mathlib.Core.List.{List, [], _∷_}
+use mathlib.Core.List.{List, _∷_}
 use native.Mathlib.Omega.{arith}
 use lib.ListN.{length}
 use lib.Ieee.{Float, lt, ofBits}
 use Rattle.floats.specs.Ops.{_⊕_, _≺_, +0}
-use Rattle.floats.specs.Root.{rootOf}
 use Rattle.floats.proofs.Order.{either, lt-trans}
 use Rattle.geo.specs.declared.types.Point.{Point}
 use Rattle.geo.specs.declared.types.Point3D.{Point3D}
 use Rattle.geo.specs.Vector.{flatten}
 use Rattle.geo.specs.Lent.{pair, triple, flat, pairAt, pointAt}
 use Rattle.geo.specs.Walk.{fold, listFrom}
-use Rattle.geo.specs.Outcome.{gives, unless, refusal}
+use Rattle.geo.specs.Outcome.{gives, refusal}
 use Rattle.geo.proofs.Walk.{list-length}
 use Rattle.geo.proofs.Flat.{flat-length}
+use Rattle.geo.proofs.Rows.{unless-given}
 use Rattle.arc.specs.Direction.{turnAt, crossSum, clockwise, directionRows, directionCall}
 use Rattle.circle.specs.declared.circle.Deviation.{Deviation}
 use Rattle.circle.specs.Worst.{worse, worst}
@@ -69,12 +69,6 @@ listed-pair at (suc n) lo (suc i) h =
     let a : suc i ≡ i + 1 = omega arith in
     let e : lo + suc i ≡ lo + 1 + i = omega arith in
     ap (pairAt (flat pair (at lo ∷ listFrom at n (lo + 1)))) a ∙ pair-later (at lo) (listFrom at n (lo + 1)) i ∙ listed-pair at n (lo + 1) i (omega arith) ∙ ap at (sym e)
-
--- ---- what gives a value was refused by no row
-pub unless-given : {A : Type 0} (n : ℕ) (a b : A) → unless n a ≡ gives b → (0 ≡ n) × (a ≡ b)
-unfolding unless
-unless-given zero a b e = (refl, cc)
-unless-given (suc n) a b e = let z : _≡_ {A = ℕ} 0 1 = cc in absurd (omega arith)
 
 -- ---- two walks whose steps keep a relation
 fold-alike : {A B : Type 0} (R : A → B → Type 0) (f : ℕ → A → A) (g : ℕ → B → B) (n i j : ℕ) (a : A) (b : B)

@@ -30,18 +30,23 @@ pub notes-append : (xs ys : List Noted) → notesOf (xs ++ ys) ≡ notesOf xs ++
 unfolding notesOf
 notes-append xs ys = map-append (λ (x : Noted). x .note) xs ys
 
--- ---- commands alone
-both-placed : (xs ys : List Command) (at n m : ℕ) (ks ks₁ ks₂ : List ℕ) (ns ns₁ ns₂ : List Float)
-    → FitPlaced xs at n ks ks₁ ns ns₁ → FitPlaced ys (at + n) m ks₁ ks₂ ns₁ ns₂ → FitPlaced (xs ++ ys) at (n + m) ks ks₂ ns ns₂
-both-placed xs ys at n m ks ks₁ ks₂ ns ns₁ ns₂ a b =
+-- ---- commands alone: one, and a run with another behind it
+pub one-placed : (c : Command) (at : ℕ) (ks ks′ : List ℕ) (ns ns′ : List Float) → ks′ ≡ set ks at (kindOf c) → ns′ ≡ sets ns (9 * at) (numbersOf c)
+    → FitPlaced (c ∷ []) at 1 ks ks′ ns ns′
+one-placed c at ks ks′ ns ns′ e q = record { count = refl; kinds = e; numbers = q ∙ ap (sets ns (9 * at)) (sym (flat-one numbersOf c)) }
+
+pub both-placed : (xs ys zs : List Command) (at n m : ℕ) (ks ks₁ ks₂ : List ℕ) (ns ns₁ ns₂ : List Float) → zs ≡ xs ++ ys
+    → FitPlaced xs at n ks ks₁ ns ns₁ → FitPlaced ys (at + n) m ks₁ ks₂ ns₁ ns₂ → FitPlaced zs at (n + m) ks ks₂ ns ns₂
+both-placed xs ys zs at n m ks ks₁ ks₂ ns ns₁ ns₂ z a b =
     let p = a .count in
     let q = b .count in
     let l = length-append xs ys in
+    let d = ap length z in
     let r : at + n ≡ at + length (map kindOf xs) = omega (arith, length-map xs kindOf) in
     record {
       count = omega arith;
-      kinds = b .kinds ∙ rw (r, a .kinds) (sym (ap (sets ks at) (map-append kindOf xs ys) ∙ sets-append (map kindOf xs) (map kindOf ys) ks at));
-      numbers = b .numbers ∙ rw (p, a .numbers) (sym (sets-flat numbersOf 9 nine xs ys ns at));
+      kinds = b .kinds ∙ rw (r, a .kinds) (sym (ap (λ (l : List Command). sets ks at (map kindOf l)) z ∙ ap (sets ks at) (map-append kindOf xs ys) ∙ sets-append (map kindOf xs) (map kindOf ys) ks at));
+      numbers = b .numbers ∙ rw (p, a .numbers) (sym (ap (λ (l : List Command). sets ns (9 * at) (flat numbersOf l)) z ∙ sets-flat numbersOf 9 nine xs ys ns at));
     }
 
 -- ---- with their notes
@@ -50,7 +55,7 @@ pub one-noted : (c : Command) (n at : ℕ) (ks ks′ : List ℕ) (ns ns′ : Lis
     → ss′ ≡ set ss at n → NotedPlaced (noted c n ∷ []) at 1 ks ks′ ns ns′ ss ss′
 unfolding commandsOf notesOf
 one-noted c n at ks ks′ ns ns′ ss ss′ e q h =
-    record { commands = record { count = refl; kinds = e; numbers = q ∙ ap (sets ns (9 * at)) (sym (flat-one numbersOf c)) }; notes = h }
+    record { commands = one-placed c at ks ks′ ns ns′ e q; notes = h }
 
 -- none
 pub none-noted : (xs : List Noted) → xs ≡ [] → (at : ℕ) (ks : List ℕ) (ns : List Float) (ss : List ℕ) → NotedPlaced xs at 0 ks ks ns ns ss ss
@@ -74,8 +79,7 @@ both-noted xs ys at mid n m ks ks₁ ks₂ ns ns₁ ns₂ ss ss₁ ss₂ e a b =
     let r : mid ≡ at + length (notesOf xs) = omega (arith, notes-length xs) in
     record {
       commands =
-          subst (λ (cs : List Command). FitPlaced cs at (n + m) ks ks₂ ns ns₂) (sym (commands-append xs ys))
-          (both-placed (commandsOf xs) (commandsOf ys) at n m ks ks₁ ks₂ ns ns₁ ns₂ (a .commands) (rw (← e) (b .commands)));
+          both-placed (commandsOf xs) (commandsOf ys) (commandsOf (xs ++ ys)) at n m ks ks₁ ks₂ ns ns₁ ns₂ (commands-append xs ys) (a .commands) (rw (← e) (b .commands));
       notes = b .notes ∙ rw (r, a .notes) (sym (ap (sets ss at) (notes-append xs ys) ∙ sets-append (notesOf xs) (notesOf ys) ss at));
     }
 

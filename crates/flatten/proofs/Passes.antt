@@ -1,5 +1,5 @@
 -- What the first pass writes, by the tests that the code makes: one Line where a part stays whole, else those of its two halves. Assumes nothing.
-use Prim.Native.Nat.{ℕ, suc, _+_, _-_, _*_, _^_, _≤_}
+use Prim.Native.Nat.{ℕ, suc, _+_, _-_, _*_, _^_}
 use mathlib.Core.Path.{_≡_, sym, ap, _∙_, subst}
 use mathlib.Core.Bool.{Bool, true, false}
 use mathlib.Core.List.{List, [], _∷_, _++_, map-append}
@@ -13,7 +13,7 @@ use Rattle.flatten.specs.Parts.{mostHalvings, quarterTurn, cosineBetween
 use Rattle.flatten.specs.declared.flatten.Ray.{Ray}
 use Rattle.flatten.specs.Written.{rayOf, bulgeOf, lowLine, lowLines}
 use Rattle.flatten.proofs.Parts.{halved-flat, halved-cut}
-use Rattle.flatten.proofs.Placing.{both-placed}
+use Rattle.fitting.proofs.Writing.{both-placed}
 
 -- what a count that is not 0 is the next of
 next : (n : ℕ) → (n ≡ 0 → ⊥) → n ≡ suc (n - 1)

@@ -145,6 +145,19 @@ pub and-right : (p q : Bool) → (p && q) ≡ true → q ≡ true
 and-right true q h = h
 and-right false q h = clash h
 
+-- and of "or"
+pub or-false : (p q : Bool) → (p || q) ≡ false → (p ≡ false) × (q ≡ false)
+or-false true q h = clash (sym h)
+or-false false q h = (refl, h)
+
+pub or-right : (p q : Bool) → (p || q) ≡ true → p ≡ false → q ≡ true
+or-right true q h e = clash (sym e)
+or-right false q h e = h
+
+pub or-true : (p : Bool) → (p || true) ≡ true
+or-true true = refl
+or-true false = refl
+
 -- ---- `le`: what is at most another is not above it, and neither is a NaN
 level-below : (s t : Bool) (a b : ℕ) → level s a t b ≡ true → below t b s a ≡ false
 level-below false false a b e = let q = eqb-true a b (and-left (eqb a b) _ e) in le-ltb b a (omega arith)

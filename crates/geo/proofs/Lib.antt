@@ -5,6 +5,7 @@ pub mod Every
 pub mod Stores
 pub mod Flat
 pub mod Formed
+pub mod Input
 pub mod Placed
 pub mod Rows
 pub mod Sides

@@ -14,6 +14,13 @@ use Rattle.geo.specs.declared.types.Command.{Command}
 use Rattle.geo.specs.declared.types.Command.the-variants.{Move, Line, Arc, Bezier}
 use Rattle.geo.specs.Lent.{pointAt, commandAt}
 
+-- ---- how many points, and how many commands, are lent at most
+abbrev pub mostPoints : ℕ
+mostPoints = 2048
+
+abbrev pub mostCommands : ℕ
+mostCommands = 800
+
 -- ---- single numbers: each test fails on a NaN
 
 -- ends and controls: at most 1,000,000 from zero

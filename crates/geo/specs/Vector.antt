@@ -46,5 +46,16 @@ lengthSq3 x y z = x ⊗ x ⊕ y ⊗ y ⊕ z ⊗ z
 unfoldable pub distance3 : Point3D → Point3D → Float
 distance3 p q = rootOf (lengthSq3 (p .x ⊖ q .x) (p .y ⊖ q .y) (p .z ⊖ q .z))
 
+unfoldable pub dot3 : Point3D → Point3D → Float
+dot3 u v = u .x ⊗ v .x ⊕ u .y ⊗ v .y ⊕ u .z ⊗ v .z
+
+unfoldable pub cross3 : Point3D → Point3D → Point3D
+cross3 u v =
+    record {
+      x = u .y ⊗ v .z ⊖ v .y ⊗ u .z;
+      y = u .z ⊗ v .x ⊖ v .z ⊗ u .x;
+      z = u .x ⊗ v .y ⊖ v .x ⊗ u .y;
+    }
+
 unfoldable pub midpoint : Point3D → Point3D → Point3D
 midpoint a b = record { x = (a .x ⊕ b .x) ⊘ two; y = (a .y ⊕ b .y) ⊘ two; z = (a .z ⊕ b .z) ⊘ two }

@@ -8,6 +8,8 @@ use floats::float::abs;
 ghost use mathlib.Core.Path.{_≡_};
 ghost use Prim.Native.Nat.{_*_, _≤_};
 ghost use lib.ListN.{length};
+ghost use Rattle.geo.specs.Outcome.{refusal};
+ghost use Rattle.geo.specs.Commands.{inputRows};
 ghost use Rattle.geo.specs.Domain.{coordinate, isFinite, centre, within, radius, parameter, tolerance, toleranceSq, isPlusZero, pointIn, point3In, numbersIn, zero3, finite3, formed, commandsFormed, commandIn, commandsIn};
 
 // A points list holds 0 to 2,048, a command list 0 to 800.
@@ -239,4 +241,34 @@ pub fn commands_in(kinds: &[u8], nums: &[f64]) -> bool
         return true;
     }
     each_in(kinds, nums)
+}
+
+// Why lent commands, a tolerance and an output of so many numbers are refused, or 0: rows 1 to 6.
+pub fn check_input(kinds: &[u8], nums: &[f64], tolerance: f64, out_nums: usize) -> u32
+    ensures { λ r. ⌜ r ≡ refusal (inputRows (now (kinds .entry)) (now (nums .entry)) tolerance «out_nums») ⌝ }
+{
+    let n = kinds.len();
+    let size = nums.len();
+    if size % 9 != 0 {
+        return 1;
+    }
+    if size / 9 != n {
+        return 1;
+    }
+    if out_nums % 9 != 0 {
+        return 1;
+    }
+    if n > MOST_COMMANDS {
+        return 2;
+    }
+    if !commands_formed(kinds, nums) {
+        return 4;
+    }
+    if !commands_in(kinds, nums) {
+        return 5;
+    }
+    if !is_tolerance(tolerance) {
+        return 6;
+    }
+    0
 }

@@ -11,7 +11,7 @@ use Rattle.geo.specs.Lent.{origin}
 use Rattle.geo.specs.Outcome.{gives, refusal}
 use Rattle.geo.proofs.Tolerance.{tolerance-positive}
 use Rattle.fitting.specs.declared.fitting.Rule.{Rule}
-use Rattle.fitting.proofs.Own.{unless-given}
+use Rattle.geo.proofs.Rows.{unless-given}
 use Rattle.laps.specs.File.{Lap, lapCount, lapsOf, encode, tableOk, AllFull}
 use Rattle.laps.proofs.Laps.{somes-of}
 use Rattle.laps.proofs.ReadBack.{lap-count-encode, laps-encode, table-encode, Somes}

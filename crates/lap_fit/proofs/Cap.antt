@@ -1,11 +1,11 @@
 -- Counts of which all above 800 are told as 801. Assumes nothing.
 use Prim.Native.Nat.{ℕ, _+_, _≤_, _<_}
-use mathlib.Core.Path.{_≡_, ap, _∙_}
+use mathlib.Core.Path.{_≡_, _∙_}
 use mathlib.Core.Logic.{⊎-elim}
 use native.Mathlib.Omega.{arith}
 use Rattle.floats.proofs.Order.{lt-or-ge}
 use Rattle.course.specs.Walks.{cap}
-use Rattle.course.proofs.Count.{cap-few, cap-many, cap-most, cap-left, cap-passed, cap-over}
+use Rattle.course.proofs.Count.{cap-few, cap-many, cap-most, cap-next, cap-passed, cap-over}
 
 pub cap-small : (r n : ℕ) → r ≡ cap n → r ≤ 801
 cap-small r n e = omega (arith, cap-most n)
@@ -22,10 +22,7 @@ told-more r n e = ⊎-elim (λ l. omega (arith, cap-many n l)) (λ l. omega (ari
 
 -- counts added one by one
 pub cap-step : (a m r b k g : ℕ) → k ≡ cap m → b ≡ cap (a + k) → cap (a + (m + r)) ≡ g → cap (b + r) ≡ g
-cap-step a m r b k g p q e =
-    let u : a + k + r ≡ k + (a + r) = omega arith in
-    let v : m + (a + r) ≡ a + (m + r) = omega arith in
-    rw q (cap-left (a + k) r ∙ ap cap u ∙ ap (λ (x : ℕ). cap (x + (a + r))) p ∙ cap-left m (a + r) ∙ ap cap v ∙ e)
+cap-step a m r b k g p q e = cap-next a m k b r p q ∙ e
 
 pub cap-done : (a r g : ℕ) → r ≡ 0 → a ≤ 801 → cap (a + r) ≡ g → a ≡ g
 cap-done a r g z h e =

@@ -9,14 +9,14 @@ use borrow.Author.Tests.{eqb-true, eqb-false, not-false, ltb-false}
 use lib.Dec.{eqb}
 use lib.ListN.{length}
 use lib.Ieee.{Float}
-use Rattle.floats.proofs.Order.{lt-or-ge}
+use Rattle.floats.proofs.Order.{lt-or-ge, or-false}
 use Rattle.geo.specs.Outcome.{Row, refusal}
 use Rattle.geo.specs.Domain.{tolerance}
 use Rattle.geo.proofs.Rows.{row-passes, row-passed}
 use Rattle.course.specs.Walks.{cap}
 use Rattle.laps.specs.File.{lapCount, lapsOf, commandCount, short, big, tableOk}
 use Rattle.laps.specs.Rows.{fileSize, sizeRows}
-use Rattle.laps.proofs.Rows.{or-false, refused-front, sized, size-8}
+use Rattle.laps.proofs.Rows.{refused-front, sized, size-8}
 use Rattle.laps.proofs.Walks.{not-short, not-big}
 use Rattle.lap_fit.proofs.Cap.{told-more, told-below}
 use Rattle.lap_replace.specs.Replace.{swapBoth, nextLacks, NewLap, lentWhole, row1, row2, row3, row4, row5, row7, newRows, mostWith, replaceRows}

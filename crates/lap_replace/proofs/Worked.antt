@@ -8,7 +8,7 @@ use Rattle.floats.specs.Root.{better, rootIn, wholeRoot, rootFrom, inUnits, roo
 use Rattle.geo.specs.Domain.{coordinate, centre, within, isFinite, isPlusZero, pointIn, point3In, everyFrom, numbersIn, whole, zero3, finite3, formed, commandsFormed, commandIn, commandsIn}
 use Rattle.geo.specs.Lent.{pointAt, flat, endOf, kindOf, numbersOf, commandOf, commandAt, commandsFrom}
 use Rattle.geo.specs.Outcome.{refusal, unless}
-use Rattle.geo.specs.Vector.{lengthOf, distanceSq, distance}
+use Rattle.geo.specs.Vector.{lengthOf, distanceSq, distance, cross3, dot3}
 use Rattle.geo.specs.Walk.{fold, listFrom}
 use Rattle.arc.specs.Direction.{turnAt, crossSum, clockwise}
 use Rattle.segment.specs.Segment.{parameterOf, offFoot, segmentOn, segmentSq}
@@ -19,7 +19,7 @@ use Rattle.simplify.specs.Thin.{keptBy, thinned, thinnedPoints}
 use Rattle.circle.specs.Bisector.{movedBy, projected}
 use Rattle.circle.specs.Calls.{pointsRows}
 use Rattle.circle.specs.Collinear.{nearTo, besideOf, allNear, allBeside, collinearBy, collinear}
-use Rattle.circle.specs.Kasa.{plus, sumsOf, axesOf, cross3, dot3, scaled, detOf, inverseTimes, solved, matrixOf, sidesOf, centered, kasaCenter}
+use Rattle.circle.specs.Kasa.{plus, sumsOf, axesOf, scaled, detOf, inverseTimes, solved, matrixOf, sidesOf, centered, kasaCenter}
 use Rattle.circle.specs.Three.{areaOf, turnOf, center3, radiusFrom, centerBy, centerThree, circleRound, throughThree}
 use Rattle.circle.specs.Worst.{worse, worst}
 use Rattle.trial.specs.Deviation.{spokeOf, cosine, sagittaOf, endsOf, stepOf, stepBetween, arcDeviation}
@@ -34,7 +34,7 @@ use Rattle.file.specs.Bytes.{halfAt, wordAt, u32Bytes, f64Bytes, numberAt}
 use Rattle.file.specs.Command.{pointFrom, decoded, wellFormed, commandsAt, laid, enc}
 use Rattle.course.specs.Parts as parts
 use Rattle.course.specs.Parts.{closed, carried, partsFrom, partFit, partMost, fitOf}
-use Rattle.course.specs.Course.{joined, partsOn, fitOn, mostOn, endOn, inputRows, roomRows, arcsRows, arcsCall}
+use Rattle.course.specs.Course.{joined, partsOn, fitOn, mostOn, endOn, roomRows, arcsRows, arcsCall}
 use Rattle.laps.specs.File.{lapCount, offsetAt, countAt, lapsAt, lapsOf, body, bodies, table, encode, commandCount, short, big, hasMark, walk, tableOk, lacks, placed, formOk, domainOk, lapOk, lapTested, lapsOk}
 use Rattle.laps.specs.Rows.{fileRows, sizeRows}
 use Rattle.lap_fit.specs.Fit.{lapEnd, startFrom, startOf, fitLap, fitLaps, mostLap, lapsMost, fitNew, fileFitRows, fitFileBy}
@@ -67,5 +67,5 @@ worked-laps =
 
 -- The out-and-back as a lap keeps its far turn.
 pub out-and-back : OutAndBack
-unfolding span climb size odd units round neg sum add sub mul div lt eq le isNan ofInt ofFields ofBits toBits absOf maxOf clampOf better rootIn wholeRoot rootFrom inUnits rootOf plain coordinate centre within isFinite isPlusZero pointIn point3In everyFrom numbersIn whole zero3 finite3 formed commandsFormed commandIn commandsIn pointAt flat endOf kindOf numbersOf commandOf commandAt commandsFrom refusal unless lengthOf distanceSq distance fold listFrom turnAt crossSum clockwise farther farthestOf farthestIn parameterOf offFoot segmentOn segmentSq keptBy thinned thinnedPoints movedBy projected nearTo besideOf allNear allBeside collinearBy collinear plus sumsOf axesOf cross3 dot3 scaled detOf inverseTimes solved matrixOf sidesOf centered kasaCenter areaOf turnOf center3 radiusFrom centerBy centerThree circleRound throughThree worse worst spokeOf cosine sagittaOf endsOf stepOf stepBetween arcDeviation offsetOf cross2 dot2 atCentre halfOf turned turnsOf justBehind justAhead passesBy awayFrom traverses sharpTurn sharpAt closedRange trialRound trialOf ofCircle ofCenter trialThree trialLeast orElse tryArcs normalOf shaped pieceCommand fitIn chainFit rooted lineDeviation arcOrCut chooseBy choice follow piecesBy line.chordOf collin.endsChord ceilOf toUnsigned vector.distance3 halfAt wordAt u32Bytes f64Bytes numberAt pointFrom decoded wellFormed commandsAt laid enc parts.mostOf closed carried partsFrom partFit partMost fitOf joined partsOn fitOn mostOn endOn inputRows roomRows arcsRows arcsCall lapCount offsetAt countAt lapsAt lapsOf body bodies table encode commandCount short big hasMark walk tableOk placed lacks formOk domainOk lapOk lapTested lapsOk fileRows sizeRows fitLap mostLap lapsMost lapEnd startFrom startOf fitLaps fitNew fileFitRows fitFileBy lentWhole movePlaced lentFormed row1 row2 row3 row4 row5 row7 newRows mostWith swapBoth nextLacks nextLap mostBoth replacedLaps replaceRows replaceLap
+unfolding span climb size odd units round neg sum add sub mul div lt eq le isNan ofInt ofFields ofBits toBits absOf maxOf clampOf better rootIn wholeRoot rootFrom inUnits rootOf plain coordinate centre within isFinite isPlusZero pointIn point3In everyFrom numbersIn whole zero3 finite3 formed commandsFormed commandIn commandsIn pointAt flat endOf kindOf numbersOf commandOf commandAt commandsFrom refusal unless lengthOf distanceSq distance fold listFrom turnAt crossSum clockwise farther farthestOf farthestIn parameterOf offFoot segmentOn segmentSq keptBy thinned thinnedPoints movedBy projected nearTo besideOf allNear allBeside collinearBy collinear plus sumsOf axesOf cross3 dot3 scaled detOf inverseTimes solved matrixOf sidesOf centered kasaCenter areaOf turnOf center3 radiusFrom centerBy centerThree circleRound throughThree worse worst spokeOf cosine sagittaOf endsOf stepOf stepBetween arcDeviation offsetOf cross2 dot2 atCentre halfOf turned turnsOf justBehind justAhead passesBy awayFrom traverses sharpTurn sharpAt closedRange trialRound trialOf ofCircle ofCenter trialThree trialLeast orElse tryArcs normalOf shaped pieceCommand fitIn chainFit rooted lineDeviation arcOrCut chooseBy choice follow piecesBy line.chordOf collin.endsChord ceilOf toUnsigned vector.distance3 halfAt wordAt u32Bytes f64Bytes numberAt pointFrom decoded wellFormed commandsAt laid enc parts.mostOf closed carried partsFrom partFit partMost fitOf joined partsOn fitOn mostOn endOn roomRows arcsRows arcsCall lapCount offsetAt countAt lapsAt lapsOf body bodies table encode commandCount short big hasMark walk tableOk placed lacks formOk domainOk lapOk lapTested lapsOk fileRows sizeRows fitLap mostLap lapsMost lapEnd startFrom startOf fitLaps fitNew fileFitRows fitFileBy lentWhole movePlaced lentFormed row1 row2 row3 row4 row5 row7 newRows mostWith swapBoth nextLacks nextLap mostBoth replacedLaps replaceRows replaceLap
 out-and-back = record { fitted = refl; replaced = refl; by-fit-arcs = refl }

@@ -11,10 +11,10 @@ use Rattle.floats.specs.Ops.{_≺_, +0}
 use Rattle.floats.proofs.Order.{lt-or-ge}
 use Rattle.geo.specs.declared.types.Command.{Command}
 use Rattle.geo.specs.Domain.{tolerance}
-use Rattle.geo.specs.Outcome.{refusal, Outcome, refused, gives, unless}
+use Rattle.geo.specs.Outcome.{refusal, gives}
 use Rattle.geo.specs.declared.types.Point3D.{Point3D}
-use Rattle.geo.specs.Lent.{origin, kindOf, flat}
-use Rattle.geo.proofs.Rows.{refusal-front, unless-gives}
+use Rattle.geo.specs.Lent.{origin, kindOf}
+use Rattle.geo.proofs.Rows.{refusal-front, unless-gives, unless-given}
 use Rattle.geo.proofs.Tolerance.{tolerance-positive}
 use Rattle.file.specs.Command.{decoded, enc}
 use Rattle.fitting.specs.Pieces.{lapsRule}
@@ -151,15 +151,10 @@ steps-of-the-chains s f tol room e k a b = course-steps (lapsRule tol) (toleranc
 
 -- ---- the sum under the listing
 -- a file that is listed passes the rows, and the text is its listing
-given-text : (k : ℕ) (xs text : List ℕ) → unless k xs ≡ gives text → (0 ≡ k) × (xs ≡ text)
-unfolding unless
-given-text zero xs text e = (refl, cc)
-given-text (suc k) xs text e = let z : _≡_ {A = ℕ} 0 1 = cc in absurd (omega arith)
-
 pub listed-passes : (s text : List ℕ) (tol : Float) (room : ℕ) → listFile s tol room ≡ gives text → TextPassed s tol room × (listText tol (lapsOf s) ≡ text)
 unfolding listFile
 listed-passes s text tol room e =
-    let g = given-text (refusal (textRows s tol room)) (listText tol (lapsOf s)) text e in (text-passed s tol room (g .0), g .1)
+    let g = unless-given (refusal (textRows s tol room)) (listText tol (lapsOf s)) text e in (text-passed s tol room (g .0), g .1)
 
 laps-sum : (tol : Float) → (+0 ≺ tol) ≡ true → (p : Point3D) (ls : List Lap) → lapsSteps tol p ls ≡ sumOf (stepsIn (allRows tol p ls))
 unfolding lapsSteps allRows

@@ -1,12 +1,12 @@
 -- The rows of the public calls: what each test of the code tells of a row, and what a call has that passes them. Assumes nothing.
 use Prim.Native.Nat.{ℕ, _*_, _/_, _%_, _≤_, _<_}
 use mathlib.Core.Path.{_≡_, refl, sym, ap, _∙_, subst}
-use mathlib.Core.Bool.{Bool, true, false, not, _||_}
+use mathlib.Core.Bool.{Bool, true, false, not}
 use mathlib.Core.List.{List, [], _++_}
 use native.Mathlib.Omega.{arith}
 use borrow.Author.Tests.{eq-eqb, ne-eqb, eqb-true, eqb-false, not-false, lt-ltb, le-ltb, ltb-false}
 use lib.ListN.{length, drop}
-use lib.Dec.{T, eqb, ltb}
+use lib.Dec.{eqb, ltb}
 use Rattle.geo.specs.declared.types.Answer.the-variants.{Written}
 use Rattle.geo.specs.Outcome.{Row, refusal, unless, answer, left, Wrote}
 use Rattle.geo.proofs.Rows.{row-fails, row-passes, row-passed, refusal-front, done, unless-gives}
@@ -21,10 +21,6 @@ nines n k h = either (eqb (n / 9) k) refl
     either : (t : Bool) → eqb (n / 9) k ≡ t → eqb (n / 9) k ≡ eqb n (9 * k)
     either true e = let q = eqb-true (n / 9) k e in e ∙ sym (eq-eqb n (9 * k) (omega arith))
     either false e = let q = eqb-false (n / 9) k e in e ∙ sym (ne-eqb n (9 * k) (λ z. q (omega arith)))
-
-pub or-false : (a b : Bool) → a || b ≡ false → (a ≡ false) × (b ≡ false)
-or-false true b e = absurd (subst T e tt)
-or-false false b e = (refl, e)
 
 -- a row that decides whatever rows come later
 pub refused-front : (rs ts : List Row) (r : ℕ) → r ≡ refusal rs → (r ≡ 0 → ⊥) → r ≡ refusal (rs ++ ts)

@@ -1,13 +1,14 @@
 -- One turn of each walk over a file: a lap's commands, the laps, the table. Assumes nothing.
 use Prim.Native.Nat.{ℕ, zero, suc, _+_, _-_, _*_, _≤_, _<_}
-use mathlib.Core.Path.{_≡_, refl, sym, ap, _∙_, subst}
+use mathlib.Core.Path.{_≡_, refl, sym, ap, _∙_}
 use mathlib.Core.Bool.{Bool, true, false, cond, not, _||_}
 use mathlib.Core.List.{List}
 use native.Mathlib.Omega.{arith}
 use borrow.Author.Tests.{eq-eqb, ne-eqb, lt-ltb, le-ltb, ltb-false}
 use lib.ListN.{length, getD, take, drop}
 use lib.Seq.{drop-cons}
-use lib.Dec.{T, eqb, ltb}
+use lib.Dec.{eqb, ltb}
+use Rattle.floats.proofs.Order.{or-false}
 use Rattle.file.specs.Command.{commandsAt}
 use Rattle.laps.specs.File.{lapCount, offsetAt, countAt, lapsAt, hasMark, walk, tableOk, lacks, lapOk, lapTested, lapsOk, short, big}
 
@@ -113,10 +114,6 @@ pub not-short : (s : List ℕ) → short s ≡ false → 8 ≤ length s
 unfolding short
 not-short s e = ltb-false (length s) 8 e
 
-big-cases : (a b : Bool) → a || b ≡ false → (a ≡ false) × (b ≡ false)
-big-cases true b e = absurd (subst T e tt)
-big-cases false b e = (refl, e)
-
 pub not-big : (s : List ℕ) → big s ≡ false → (length s ≤ 65536) × (lapCount s ≤ 64)
 unfolding big
-not-big s e = let w = big-cases (ltb 65536 (length s)) (ltb 64 (lapCount s)) e in (ltb-false 65536 (length s) (w .0), ltb-false 64 (lapCount s) (w .1))
+not-big s e = let w = or-false (ltb 65536 (length s)) (ltb 64 (lapCount s)) e in (ltb-false 65536 (length s) (w .0), ltb-false 64 (lapCount s) (w .1))

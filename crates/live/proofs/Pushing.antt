@@ -7,7 +7,7 @@ use native.Mathlib.Omega.{arith}
 use borrow.Author.Tests.{ltb-false, lt-ltb, le-ltb}
 use lib.Dec.{ltb}
 use Rattle.floats.specs.Ops.{_≺_}
-use Rattle.floats.proofs.Order.{lt-or-ge, clash}
+use Rattle.floats.proofs.Order.{lt-or-ge, or-false}
 use Rattle.geo.specs.declared.types.Point3D.{Point3D}
 use Rattle.simplify.specs.Measure.{lineSq}
 use Rattle.fitting.specs.Pieces.{lineDeviation}
@@ -20,10 +20,6 @@ use Rattle.live.specs.Calls.{endFor, given}
 one-more : (n : ℕ) → ltb (n + 1) 3 ≡ ltb n 2
 one-more n =
     ⊎-elim (λ l. lt-ltb (n + 1) 3 (omega arith) ∙ sym (lt-ltb n 2 l)) (λ l. le-ltb (n + 1) 3 (omega arith) ∙ sym (le-ltb n 2 l)) (lt-or-ge n 2)
-
-first-no : (a b : Bool) → (a || b) ≡ false → a ≡ false
-first-no true b h = clash (sym h)
-first-no false b h = refl
 
 module _ (s : Live) (p : Point3D) where
   abbrev Cut : Fed → Type 0
@@ -56,7 +52,7 @@ module _ (s : Live) (p : Point3D) where
     push-longer h = rw (sym test ∙ h, e)
 
     pub longer-two : b ≡ false → 1 ≤ s .count
-    longer-two h = let z = ltb-false (s .count) 2 (first-no (ltb (s .count) 2) (goesOn s p) (sym test ∙ h)) in omega arith
+    longer-two h = let z = ltb-false (s .count) 2 (or-false (ltb (s .count) 2) (goesOn s p) (sym test ∙ h) .0) in omega arith
 
     pub push-cut-off : b ≡ false → (r : Fed) → Cut r → r ≡ given (push s p)
     push-cut-off h r c = cut-is r (sym test ∙ h) c

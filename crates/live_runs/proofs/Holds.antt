@@ -13,7 +13,7 @@ use lib.Dec.{ltb}
 use lib.Ieee.{Float}
 use Rattle.floats.specs.Ops.{_≺_}
 use Rattle.floats.specs.Root.{rootOf}
-use Rattle.floats.proofs.Order.{either, clash, and-right}
+use Rattle.floats.proofs.Order.{either, and-right, or-false, or-right}
 use Rattle.geo.specs.declared.types.Point3D.{Point3D}
 use Rattle.geo.specs.Lent.{pointAt}
 use Rattle.geo.specs.Domain.{point3In}
@@ -23,7 +23,7 @@ use Rattle.live.specs.declared.live.Live.{Live}
 use Rattle.live.specs.Thinner.{Next, slotCount, slot, put, behind, cutting, goesOn, push, feedAgain, anchored, forgotten, retuned}
 use Rattle.live_runs.specs.Run.{LineEnd, endUnder}
 use Rattle.live_runs.specs.Drawn.{Gap}
-use Rattle.live.proofs.Counts.{goes-room, or-right}
+use Rattle.live.proofs.Counts.{goes-room}
 use Rattle.live_runs.proofs.Near.{each-below}
 use Rattle.live_runs.proofs.Slots.{put-length, put-same, put-other}
 use Rattle.live_runs.proofs.Places.{Chain, chain-none, chain-one, chain-append}
@@ -54,10 +54,6 @@ push-held s p h = rw h
 pub push-cut : (s : Live) (p : Point3D) → (ltb (s .count) 2 || goesOn s p) ≡ false → push s p ≡ record { state = cutting s p; ends = slot s (s .count - 1) ∷ [] }
 unfolding push
 push-cut s p h = rw h
-
-or-false : (a b : Bool) → (a || b) ≡ false → a ≡ false
-or-false true b h = clash (sym h)
-or-false false b h = refl
 
 -- the last point as an end
 module _ (at : ℕ → Point3D) (n : ℕ) (s : Live) (a : ℕ) (i : Holds at n s a) where
@@ -151,7 +147,7 @@ module _ (at : ℕ → Point3D) (n : ℕ) (s : Live) (a : ℕ) (i : Holds at n s
   pushed t z =
       ⊎-elim
       (λ h. rw (push-held s p h) (record { reach = a; chain = chain-none at a; holds = kept-on h; under = z; shut = refl }))
-      (λ h. let l = ltb-false (s .count) 2 (or-false (ltb (s .count) 2) (goesOn s p) h) in
+      (λ h. let l = ltb-false (s .count) 2 (or-false (ltb (s .count) 2) (goesOn s p) h .0) in
       rw (push-cut s p h) (record { reach = n - 1; chain = chain-one at a (n - 1) _ (last-gap at n s a i t z l); holds = cut-on l; under = z; shut = refl }))
       (either (ltb (s .count) 2 || goesOn s p))
 

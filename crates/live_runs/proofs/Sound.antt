@@ -2,7 +2,7 @@
 use Prim.Native.Nat.{ℕ, zero, suc, _+_, _-_, _*_, _≤_, _<_}
 use mathlib.Core.Path.{_≡_, refl, sym, ap, _∙_, subst}
 use mathlib.Core.Logic.{⊎-elim}
-use mathlib.Core.Bool.{Bool, true, false, _||_}
+use mathlib.Core.Bool.{true, _||_}
 use mathlib.Core.List.{List}
 use native.Mathlib.Omega.{arith}
 use native.Mathlib.Nat.{eq-or-lt-of-le}
@@ -13,7 +13,7 @@ use lib.Dec.{ltb, eqb}
 use lib.Ieee.{Float, nan, ofBits, le}
 use Rattle.floats.specs.Ops.{_≺_, +0}
 use Rattle.floats.specs.Float.{absOf}
-use Rattle.floats.proofs.Order.{either, clash, and-right}
+use Rattle.floats.proofs.Order.{either, and-right, or-false, or-right}
 use Rattle.geo.specs.declared.types.Point3D.{Point3D}
 use Rattle.geo.specs.Lent.{pointAt}
 use Rattle.geo.specs.Domain.{coordinate, everyFrom, numbersIn, point3In}
@@ -24,7 +24,7 @@ use Rattle.simplify.specs.Farthest.{farther, farthestOf, farthestIn, onChord}
 use Rattle.fitting.specs.Pieces.{rooted, lineDeviation}
 use Rattle.live.specs.declared.live.Live.{Live}
 use Rattle.live.specs.Thinner.{slotCount, slot, put, started, behind, cutting, goesOn, push, shut, feedAgain, forgotten, retuned}
-use Rattle.live.proofs.Counts.{goes-room, or-right, anchored-few}
+use Rattle.live.proofs.Counts.{goes-room, anchored-few}
 use Rattle.live_runs.proofs.Near.{and3}
 use Rattle.live_runs.proofs.Slots.{put-length, put-other}
 
@@ -128,12 +128,8 @@ module _ (s : Live) (h : Sound s) (p : Point3D) (ok : point3In p ≡ true) where
       (λ q. let l = ltb-true (s .count) 2 q in behind-sound (omega arith) (λ z. absurd (omega arith)))
       (λ q. let g = or-right (ltb (s .count) 2) (goesOn s p) e q in behind-sound (goes-room s p g) (λ z. and-right (ltb (s .count) slotCount) _ g))
       (either (ltb (s .count) 2))))
-      (λ e. rw e (cut-sound (ltb-false (s .count) 2 (first-no (ltb (s .count) 2) (goesOn s p) e))))
+      (λ e. rw e (cut-sound (ltb-false (s .count) 2 (or-false (ltb (s .count) 2) (goesOn s p) e .0))))
       (either (ltb (s .count) 2 || goesOn s p))
-    where
-      first-no : (a b : Bool) → (a || b) ≡ false → a ≡ false
-      first-no true b h = clash (sym h)
-      first-no false b h = refl
 
 -- ---- a new tolerance
 again-sound : (at : ℕ → Point3D) (n i : ℕ) (s : Live) → Sound s → ((j : ℕ) → i ≤ j → j < i + n → point3In (at j) ≡ true) → Sound (feedAgain at n i s .state)

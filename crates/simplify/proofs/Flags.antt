@@ -13,7 +13,7 @@ use lib.Arith.{lt-of-le-ne}
 use lib.Dec.{eqb}
 use lib.Ieee.{Float}
 use Rattle.floats.specs.Ops.{_≺_, +0}
-use Rattle.floats.proofs.Order.{either}
+use Rattle.floats.proofs.Order.{either, or-true}
 use Rattle.geo.specs.declared.types.Command.{Command}
 use Rattle.geo.specs.Lent.{flat}
 use Rattle.simplify.specs.declared.simplify.Farthest.{Farthest}
@@ -57,9 +57,9 @@ or-swap true false c = refl
 or-swap false true c = refl
 or-swap false false c = refl
 
-or-false : (a : Bool) → (a || false) ≡ a
-or-false true = refl
-or-false false = refl
+or-none : (a : Bool) → (a || false) ≡ a
+or-none true = refl
+or-none false = refl
 
 marked-flag : (ks : List ℕ) (l : List Bool) (i e j : ℕ) → Ascending i e ks → e ≤ length l → getD (marked ks l) j false ≡ (among j ks || getD l j false)
 unfolding marked among
@@ -73,10 +73,6 @@ pub select-same : (p q : ℕ → Bool) (n i e : ℕ) → e ≡ i + n → ((j : �
 unfolding select
 select-same p q zero i e h f = refl
 select-same p q (suc n) i e h f = rw (f i (omega arith), select-same p q n (i + 1) e (omega arith) f)
-
-or-true : (b : Bool) → (b || true) ≡ true
-or-true true = refl
-or-true false = refl
 
 -- what is selected is among the selected
 pub select-has : (p : ℕ → Bool) (n i j : ℕ) → i ≤ j → j < i + n → p j ≡ true → among j (select p n i) ≡ true
@@ -129,7 +125,7 @@ module _ {P : Type 0} (m : Measure P) (limit : Float) (pos : (limit ≺ +0) ≡ 
   flag-kept j h =
       ap (λ (k : List Bool). getD (set k (n - 1) true) j false) e ∙ ap (λ (k : List Bool). getD k j false) (all-marked n refl)
       ∙ marked-flag (thinned m limit at n) (replicate size false) 0 n j (thinned-ascending m limit pos at n) (rw length-replicate room)
-      ∙ rw (getD-replicate size j false false (omega arith)) (or-false (among j (thinned m limit at n)))
+      ∙ rw (getD-replicate size j false false (omega arith)) (or-none (among j (thinned m limit at n)))
 
   -- and so the flags give the kept indices back
   pub flags-kept : select (λ j. getD (set l (n - 1) true) j false) n 0 ≡ thinned m limit at n

@@ -1,9 +1,9 @@
 -- The three public calls: what each refuses, and what it writes. Definitions only.
-use Prim.Native.Nat.{ℕ, _*_, _/_}
+use Prim.Native.Nat.{ℕ, _/_}
 use mathlib.Core.Bool.{not}
-use mathlib.Core.List.{List, [], _∷_}
+use mathlib.Core.List.{List, [], _∷_, _++_}
 use lib.ListN.{length}
-use lib.Dec.{ltb, eqb}
+use lib.Dec.{ltb}
 use lib.Ieee.{Float}
 use Rattle.floats.specs.Ops.{_⊗_}
 use Rattle.geo.specs.declared.types.Point.{Point}
@@ -11,7 +11,8 @@ use Rattle.geo.specs.declared.types.Point3D.{Point3D}
 use Rattle.geo.specs.declared.types.Command.{Command}
 use Rattle.geo.specs.Outcome.{Row, row, refusal, Outcome, unless}
 use Rattle.geo.specs.Lent.{pair, triple, pairAt, pointAt, commandAt}
-use Rattle.geo.specs.Domain.{whole, coordinate, numbersIn, tolerance, commandsFormed, commandsIn}
+use Rattle.geo.specs.Domain.{mostPoints, whole, coordinate, numbersIn, tolerance}
+use Rattle.geo.specs.Commands.{inputRows}
 use Rattle.simplify.specs.Measure.{Measure, planeSq, lineSq}
 use Rattle.simplify.specs.Thin.{thinnedPoints}
 use Rattle.simplify.specs.Data.{thinnedCommands}
@@ -21,7 +22,7 @@ abbrev pub pointRows : ℕ → List Float → Float → ℕ → List Row
 pointRows width s t room =
     row 1 (not (whole width (length s)))
     ∷ row 1 (not (whole width room))
-    ∷ row 2 (ltb 2048 (length s / width))
+    ∷ row 2 (ltb mostPoints (length s / width))
     ∷ row 5 (not (numbersIn coordinate s))
     ∷ row 6 (not (tolerance t))
     ∷ row 9 (ltb (room / width) (length s / width))
@@ -58,15 +59,7 @@ simplifyPolyline3d s t room = simplifyForm triples s t room
 -- ---- commands: what is refused of the kinds ks, the numbers ns, the tolerance t and outputs of `kinds` kinds and `numbers` numbers
 abbrev pub commandRows : List ℕ → List Float → Float → ℕ → ℕ → List Row
 commandRows ks ns t kinds numbers =
-    row 1 (not (eqb (length ns) (9 * length ks)))
-    ∷ row 1 (not (whole 9 numbers))
-    ∷ row 2 (ltb 800 (length ks))
-    ∷ row 4 (not (commandsFormed ks ns))
-    ∷ row 5 (not (commandsIn ks ns))
-    ∷ row 6 (not (tolerance t))
-    ∷ row 9 (ltb kinds (length ks))
-    ∷ row 9 (ltb (numbers / 9) (length ks))
-    ∷ []
+    inputRows ks ns t numbers ++ (row 9 (ltb kinds (length ks)) ∷ row 9 (ltb (numbers / 9) (length ks)) ∷ [])
 
 -- simplify_data
 unfoldable pub simplifyData : List ℕ → List Float → Float → ℕ → ℕ → Outcome (List Command)

@@ -1,9 +1,7 @@
 // src/geo/algo/simplify.rs. The Rust's explicit stack of ranges is a recursion here, which marks left, cut, right.
-use geo::domain::MOST_COMMANDS;
 use geo::domain::MOST_POINTS;
 use geo::domain::all_coordinates;
-use geo::domain::commands_formed;
-use geo::domain::commands_in;
+use geo::domain::check_input;
 use geo::domain::is_tolerance;
 use geo::lent::command_at;
 use geo::lent::pair_at;
@@ -21,6 +19,7 @@ ghost use mathlib.Core.Bool.{false, _||_};
 ghost use Prim.Native.Nat.{_+_, _*_, _<_, _≤_};
 ghost use lib.ListN.{length};
 ghost use Rattle.floats.specs.Ops.{_≺_, +0};
+ghost use Rattle.geo.specs.Domain.{mostPoints};
 ghost use Rattle.geo.specs.Outcome.{Wrote, refusal};
 ghost use Rattle.geo.specs.Commands.{WroteCommands};
 ghost use Rattle.geo.specs.Lent.{pair, triple, flat, pairAt, pointAt, commandAt, endOf};
@@ -401,7 +400,7 @@ fn copy_commands(
 
 // Thins the first n pairs to the front of out, and answers how many are kept. Both ends are kept, and so fewer than 3 are copied.
 fn thin_pairs(points: &[f64], n: usize, limit: f64, out: &mut [f64]) -> usize
-    requires { ⌜ ((limit ≺ +0) ≡ false) × ((n ≤ 2048) × (2 * n ≤ length (now points)) × (2 * n ≤ length (now out))) ⌝ }
+    requires { ⌜ ((limit ≺ +0) ≡ false) × ((n ≤ mostPoints) × (2 * n ≤ length (now points)) × (2 * n ≤ length (now out))) ⌝ }
     ensures { λ r. ⌜ Copied pair (thinnedPoints planeSq limit (pairAt (now (points .entry))) n) (now (out .entry)) (now (out .exit)) r ⌝ }
 {
     if n == 0 {
@@ -416,7 +415,7 @@ fn thin_pairs(points: &[f64], n: usize, limit: f64, out: &mut [f64]) -> usize
 
 // The same of triples.
 fn thin_points(points: &[f64], n: usize, limit: f64, out: &mut [f64]) -> usize
-    requires { ⌜ ((limit ≺ +0) ≡ false) × ((n ≤ 2048) × (3 * n ≤ length (now points)) × (3 * n ≤ length (now out))) ⌝ }
+    requires { ⌜ ((limit ≺ +0) ≡ false) × ((n ≤ mostPoints) × (3 * n ≤ length (now points)) × (3 * n ≤ length (now out))) ⌝ }
     ensures { λ r. ⌜ Copied triple (thinnedPoints lineSq limit (pointAt (now (points .entry))) n) (now (out .entry)) (now (out .exit)) r ⌝ }
 {
     if n == 0 {
@@ -431,7 +430,7 @@ fn thin_points(points: &[f64], n: usize, limit: f64, out: &mut [f64]) -> usize
 
 // The same in place.
 pub fn thin_in_place(ruler: Ruler, points: &mut [f64], n: usize, limit: f64) -> usize
-    requires { ⌜ ((limit ≺ +0) ≡ false) × ((n ≤ 2048) × (3 * n ≤ length (now points))) ⌝ }
+    requires { ⌜ ((limit ≺ +0) ≡ false) × ((n ≤ mostPoints) × (3 * n ≤ length (now points))) ⌝ }
     ensures { λ r. ⌜ Copied triple (thinnedPoints (measureOf ruler) limit (pointAt (now (points .entry))) n) (now (points .entry)) (now (points .exit)) r ⌝ }
 {
     if n == 0 {
@@ -452,7 +451,7 @@ fn thin_commands(
     out_kinds: &mut [u8],
     out_nums: &mut [f64],
 ) -> usize
-    requires { ⌜ ((limit ≺ +0) ≡ false) × ((length (now kinds) ≤ 2048) × (9 * length (now kinds) ≤ length (now nums)) × (length (now kinds) ≤ length (now «out_kinds»)) × (9 * length (now kinds) ≤ length (now «out_nums»))) ⌝ }
+    requires { ⌜ ((limit ≺ +0) ≡ false) × ((length (now kinds) ≤ mostPoints) × (9 * length (now kinds) ≤ length (now nums)) × (length (now kinds) ≤ length (now «out_kinds»)) × (9 * length (now kinds) ≤ length (now «out_nums»))) ⌝ }
     ensures { λ r. ⌜ CopiedCommands (thinnedCommands limit (commandAt (now (kinds .entry)) (now (nums .entry))) (length (now (kinds .entry)))) (now («out_kinds» .entry)) (now («out_kinds» .exit)) (now («out_nums» .entry)) (now («out_nums» .exit)) r ⌝ }
 {
     let n = kinds.len();
@@ -503,29 +502,11 @@ pub fn refuse_commands(
 ) -> u32
     ensures { λ r. ⌜ r ≡ refusal (commandRows (now (kinds .entry)) (now (nums .entry)) tolerance «out_kinds» «out_nums») ⌝ }
 {
+    let refused = check_input(kinds, nums, tolerance, out_nums);
+    if refused != 0 {
+        return refused;
+    }
     let n = kinds.len();
-    let size = nums.len();
-    if size % 9 != 0 {
-        return 1;
-    }
-    if size / 9 != n {
-        return 1;
-    }
-    if out_nums % 9 != 0 {
-        return 1;
-    }
-    if n > MOST_COMMANDS {
-        return 2;
-    }
-    if !commands_formed(kinds, nums) {
-        return 4;
-    }
-    if !commands_in(kinds, nums) {
-        return 5;
-    }
-    if !is_tolerance(tolerance) {
-        return 6;
-    }
     if out_kinds < n {
         return 9;
     }

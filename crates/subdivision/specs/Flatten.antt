@@ -3,13 +3,13 @@ use Prim.Native.Nat.{ℕ, zero, suc}
 use mathlib.Core.Bool.{Bool, _&&_}
 use mathlib.Core.List.{List, [], _∷_, _++_}
 use lib.Ieee.{Float}
-use Rattle.floats.specs.Ops.{_⊖_, _⊗_, _⊘_, _≺_, _≼_, if_then_else_, half}
+use Rattle.floats.specs.Ops.{_⊖_, _⊘_, _≺_, _≼_, if_then_else_, half}
 use Rattle.floats.specs.Limits.{nano}
 use Rattle.floats.specs.Float.{maxOf}
 use Rattle.geo.specs.declared.types.Point.{Point}
 use Rattle.geo.specs.declared.types.Point3D.{Point3D}
 use Rattle.geo.specs.declared.types.CubicBezier.{CubicBezier}
-use Rattle.geo.specs.Vector.{lengthSq, perpDot, distanceSq, lengthSq3, midpoint}
+use Rattle.geo.specs.Vector.{lengthSq, perpDot, distanceSq, lengthSq3, cross3, midpoint}
 use Rattle.subdivision.specs.declared.subdivision.Chord.{Chord}
 use Rattle.bezier.specs.Curve.{square, leftPart, rightPart}
 
@@ -52,12 +52,9 @@ minus p q = record { x = p .x ⊖ q .x; y = p .y ⊖ q .y; z = p .z ⊖ q .z }
 unfoldable pub normSq : Point3D → Float
 normSq p = lengthSq3 (p .x) (p .y) (p .z)
 
-unfoldable pub crossOf : Point3D → Point3D → Point3D
-crossOf a b = record { x = a .y ⊗ b .z ⊖ b .y ⊗ a .z; y = a .z ⊗ b .x ⊖ b .z ⊗ a .x; z = a .x ⊗ b .y ⊖ b .x ⊗ a .y }
-
 -- the squared distance of p to the endless line from o along v, whose square is n
 unfoldable pub perpendicularSq : Point3D → Point3D → Point3D → Float → Float
-perpendicularSq p o v n = normSq (crossOf (minus p o) v) ⊘ n
+perpendicularSq p o v n = normSq (cross3 (minus p o) v) ⊘ n
 
 -- the greater of the controls' two
 unfoldable pub flatnessSq : Point3D → Point3D → Point3D → Point3D → Float

@@ -8,12 +8,13 @@ use borrow.Author.Tests.{lt-ltb, le-ltb, ltb-false, not-false}
 use lib.ListN.{length}
 use lib.Dec.{ltb, eqb}
 use Rattle.floats.specs.Ops.{if_then_else_}
+use Rattle.floats.proofs.Order.{or-false}
 use Rattle.geo.specs.declared.types.Answer.the-variants.{Refused, Written}
 use Rattle.geo.specs.Outcome.{Outcome, refused, gives, refusal, unless, answer, left, Wrote}
 use Rattle.geo.proofs.Rows.{row-fails, row-passes, row-passed, done}
 use Rattle.geo.proofs.Outcomes.{wrote-same, wrote-refused}
 use Rattle.laps.specs.Rows.{fileSize}
-use Rattle.laps.proofs.Rows.{or-false, wrote-bytes}
+use Rattle.laps.proofs.Rows.{wrote-bytes}
 use Rattle.svg.specs.declared.tally.Tally.the-variants.{Course, Bad}
 use Rattle.svg_text.specs.Path.{Drawn, Reading, broken, read, letterM, space, command, bad, inFront, thenRest, more, others, named}
 use Rattle.svg.specs.Course.{lapsDrawn, allIn, courseFile, readRows, made, readCourse}

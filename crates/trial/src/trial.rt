@@ -19,6 +19,7 @@ ghost use lib.ListN.{length};
 ghost use lib.Signed.{mag};
 ghost use Rattle.floats.specs.Ops.{_⊖_};
 ghost use Rattle.floats.specs.Root.{rootOf};
+ghost use Rattle.geo.specs.Domain.{mostPoints};
 ghost use Rattle.geo.specs.Vector.{flatten, lengthOf};
 ghost use Rattle.geo.specs.Lent.{pointAt};
 ghost use Rattle.arc.specs.Direction.{clockwise};
@@ -210,7 +211,7 @@ fn half(q0: Point, q: Point) -> bool
 
 // W after one step more, of cross c, from half h to half k; true is half 0.
 fn turn_by(w: i64, h: bool, k: bool, c: f64) -> i64
-    requires { ⌜ mag w < 2048 ⌝ }
+    requires { ⌜ mag w < mostPoints ⌝ }
     ensures { λ r. ⌜ r ≡ turned h k c w ⌝ }
 {
     if h {
@@ -277,7 +278,7 @@ fn at_centre(q: Point) -> bool
 
 // Whether the points go round m by less than a whole turn.
 fn traversal_passes(points: &[f64], start: usize, end: usize, m: Point) -> bool
-    requires { ⌜ (start ≤ end) × (end < 2048) × (3 * end + 2 < length (now points)) ⌝ }
+    requires { ⌜ (start ≤ end) × (end < mostPoints) × (3 * end + 2 < length (now points)) ⌝ }
     ensures { λ r. ⌜ r ≡ traverses m (pointAt (now (points .entry))) start end ⌝ }
 {
     let q0 = offset(m, point_at(points, start));
@@ -374,7 +375,7 @@ impl Trial {
 
     // The arc round a centre from which every step is within the tolerance: it passes where it goes less than a whole turn.
     fn going(points: &[f64], start: usize, end: usize, center: Point, worst: usize) -> Self
-        requires { ⌜ (start ≤ end) × (end < 2048) × (3 * end + 2 < length (now points)) ⌝ }
+        requires { ⌜ (start ≤ end) × (end < mostPoints) × (3 * end + 2 < length (now points)) ⌝ }
         ensures { λ r. ⌜ r ≡ goingRound (pointAt (now (points .entry))) start end center worst ⌝ }
     {
         if !traversal_passes(points, start, end, center) {
@@ -390,7 +391,7 @@ impl Trial {
 
     // The arc round a fitted centre, moved to the bisector of the range's ends. Its radius is measured again from there.
     fn round(points: &[f64], start: usize, end: usize, tolerance: f64, fitted: Point) -> Self
-        requires { ⌜ (start ≤ end) × (end < 2048) × (3 * end + 2 < length (now points)) ⌝ }
+        requires { ⌜ (start ≤ end) × (end < mostPoints) × (3 * end + 2 < length (now points)) ⌝ }
         ensures { λ r. ⌜ r ≡ trialOf (pointAt (now (points .entry))) start end tolerance fitted ⌝ }
     {
         let a = point_at(points, start);
@@ -405,7 +406,7 @@ impl Trial {
 
     // By the circle through the range's first, second and last point.
     fn of_three(points: &[f64], start: usize, end: usize, tolerance: f64) -> Self
-        requires { ⌜ (start < end) × (end < 2048) × (3 * end + 2 < length (now points)) ⌝ }
+        requires { ⌜ (start < end) × (end < mostPoints) × (3 * end + 2 < length (now points)) ⌝ }
         ensures { λ r. ⌜ r ≡ trialThree (pointAt (now (points .entry))) start end tolerance ⌝ }
     {
         let a = point_at(points, start);
@@ -420,7 +421,7 @@ impl Trial {
 
     // By the circle of least squares.
     fn of_least_squares(points: &[f64], start: usize, end: usize, tolerance: f64) -> Self
-        requires { ⌜ (start ≤ end) × (end < 2048) × (3 * end + 2 < length (now points)) ⌝ }
+        requires { ⌜ (start ≤ end) × (end < mostPoints) × (3 * end + 2 < length (now points)) ⌝ }
         ensures { λ r. ⌜ r ≡ trialLeast (pointAt (now (points .entry))) start end tolerance ⌝ }
     {
         let t = Center::of(points, start, end);
@@ -434,7 +435,7 @@ impl Trial {
 
     // By the first of the two that passes.
     fn of_either(points: &[f64], start: usize, end: usize, tolerance: f64) -> Self
-        requires { ⌜ (start < end) × (end < 2048) × (3 * end + 2 < length (now points)) ⌝ }
+        requires { ⌜ (start < end) × (end < mostPoints) × (3 * end + 2 < length (now points)) ⌝ }
         ensures { λ r. ⌜ r ≡ orElse (trialThree (pointAt (now (points .entry))) start end tolerance) (trialLeast (pointAt (now (points .entry))) start end tolerance) ⌝ }
     {
         let t = Trial::of_three(points, start, end, tolerance);
@@ -468,7 +469,7 @@ fn is_closed_range(a: Point3D, b: Point3D) -> bool
 
 // The arc of the first trial that passes. A sharp turn at the split point or a closed range blocks both trials.
 pub fn try_arcs(points: &[f64], start: usize, end: usize, split: usize, tolerance: f64) -> Trial
-    requires { ⌜ (start ≤ end) × (end < 2048) × (3 * end + 2 < length (now points)) ⌝ }
+    requires { ⌜ (start ≤ end) × (end < mostPoints) × (3 * end + 2 < length (now points)) ⌝ }
     ensures { λ r. ⌜ r ≡ tryArcs (pointAt (now (points .entry))) start end split tolerance ⌝ }
 {
     if is_sharp(points, start, end, split) {

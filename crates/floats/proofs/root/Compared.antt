@@ -2,7 +2,7 @@
 -- smaller one is not above twice that of a larger one, since rounding keeps the order and gives back a number that the format holds. Assumes nothing.
 use mathlib.Core.Path.{_≡_, refl, sym, _∙_, subst}
 use mathlib.Core.Logic.{⊎-elim}
-use mathlib.Core.Bool.{Bool, true, false, _&&_, _||_}
+use mathlib.Core.Bool.{true, false, _&&_, _||_}
 use Prim.Native.Nat.{ℕ, _*_, _^_, _≤_, _<_}
 use native.Mathlib.Nat.{one-mul, two-mul, add-mul, eq-or-lt-of-le}
 use native.Mathlib.Omega.{arith}
@@ -16,7 +16,7 @@ use lib.Ieee.Exact.{HasValue, round-exact}
 use lib.Ieee.Order.{le-of-values, round-mono}
 use Rattle.floats.specs.Ops.{_⊗_, _≺_, +0, two}
 use Rattle.floats.specs.Root.{rootOf, inUnits, plain}
-use Rattle.floats.proofs.Order.{clash, lt-gap, le-below, le-right, le-under, lt-under}
+use Rattle.floats.proofs.Order.{clash, lt-gap, le-below, le-right, le-under, lt-under, or-true}
 use Rattle.floats.proofs.Unsigned.{Unsigned}
 use Rattle.floats.proofs.root.Read.{units-of-value, in-range}
 use Rattle.floats.proofs.root.Nearest.{digits, root-fits}
@@ -95,10 +95,6 @@ pub record Square (x : Float) : Type 0 where
 
 level-up : (A B : ℕ) → A ≤ B → (ltb A B || (eqb A B && true)) ≡ true
 level-up A B h = ⊎-elim (λ e. rw (eq-eqb A B e) (or-true (ltb A B))) (λ l. rw (lt-ltb A B l)) (eq-or-lt-of-le h)
-  where
-    or-true : (b : Bool) → (b || true) ≡ true
-    or-true true = refl
-    or-true false = refl
 
 -- of two such the one that is not above the other is at most it
 not-above-le : (x y : Float) → Square x → Square y → (y ≺ x) ≡ false → le x y ≡ true

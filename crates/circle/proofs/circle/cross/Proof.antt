@@ -1,6 +1,6 @@
 -- `circle::circle::cross` meets its contract: the definition's operations in the same order. Assumes nothing.
 use mathlib.Core.Path.{refl}
-use Rattle.circle.specs.Kasa.{cross3}
+use Rattle.geo.specs.Vector.{cross3}
 use Rattle.circle.proofs.circle.cross.Statement.{statement}
 use Rattle.circle.proofs.circle.cross.Tie as tie
 

@@ -1,6 +1,6 @@
 -- `circle::circle::dot` meets its contract: the definition's operations in the same order. Assumes nothing.
 use mathlib.Core.Path.{refl}
-use Rattle.circle.specs.Kasa.{dot3}
+use Rattle.geo.specs.Vector.{dot3}
 use Rattle.circle.proofs.circle.dot.Statement.{statement}
 use Rattle.circle.proofs.circle.dot.Tie as tie
 

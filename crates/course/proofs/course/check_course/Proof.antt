@@ -2,7 +2,8 @@
 use native.Mathlib.Omega.{arith}
 use mathlib.Core.Path.{sym, _∙_}
 use Rattle.course.specs.Course.{arcsRows}
-use Rattle.course.proofs.Accepted.{input-refused, input-passed, input-accepted, many-refused, kinds-refused, numbers-refused, room-passed}
+use Rattle.geo.proofs.Input.{input-refused, input-passed, input-accepted}
+use Rattle.course.proofs.Accepted.{many-refused, kinds-refused, numbers-refused, room-passed}
 use borrow.Author.Needs.{needs}
 use Rattle.course.proofs.course.check_course.Statement.{statement}
 use Rattle.course.proofs.course.check_course.Tie as tie

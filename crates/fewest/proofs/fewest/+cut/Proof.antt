@@ -2,8 +2,6 @@
 use Prim.Native.Nat.{_<_, _-_, ℕ}
 use mathlib.Core.Path.{refl, _∙_}
 use native.Mathlib.Omega.{arith}
-use borrow.Author.Needs.{needs}
-use lib.Seq.{length-sets}
 use Rattle.geo.proofs.Placed.{placed-one, placed-both}
 use Rattle.fewest.specs.Straights.{numbersAt}
 use Rattle.fewest.proofs.Cut.{passing-inside, cut-most, cut-none, cut-two}
@@ -12,7 +10,7 @@ use borrow.Fn.PlainCycle.{Measures, is, falls, and}
 use Rattle.fewest.proofs.fewest.cut.Reads as cut
 use Rattle.fewest.proofs.fewest.cut.Kinds as cut-kinds
 use Rattle.fewest.proofs.fewest.+cut.Lts-cut as cut-lts
-use Rattle.fewest.proofs.fewest.line_deviation.Reads as line-deviation-reads
+use Rattle.fitting.proofs.fitting.line_deviation.Reads as line-deviation-reads
 use Rattle.geo.proofs.lent.point_at.Reads as point-at-reads
 use Rattle.geo.proofs.lent.put_point.Reads as put-point-reads
 use Rattle.fewest.proofs.fewest.+cut.{statement}

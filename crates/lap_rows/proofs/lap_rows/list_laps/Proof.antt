@@ -7,7 +7,8 @@ use lib.ListN.{length}
 use Rattle.geo.specs.Lent.{origin}
 use Rattle.geo.specs.Walk.{listFrom}
 use Rattle.laps.specs.File.{lapsOf}
-use Rattle.course.specs.Walks.{mostCommands, chainNumbers}
+use Rattle.geo.specs.Domain.{mostCommands}
+use Rattle.course.specs.Walks.{chainNumbers}
 use Rattle.lap_rows.specs.Listing.{ascii}
 use Rattle.lap_rows.proofs.Laps.{Listing, laps-start, turn, turn-sum, laps-step, laps-added, total-room, laps-done}
 use Rattle.lap_rows.proofs.Counts.{laps-few}

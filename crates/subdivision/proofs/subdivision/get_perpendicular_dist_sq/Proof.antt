@@ -2,7 +2,8 @@
 use mathlib.Core.Path.{ap, _∙_}
 use lib.Ieee.{Float, binary64, div}
 use Rattle.geo.specs.declared.types.Point3D.{Point3D}
-use Rattle.subdivision.specs.Flatten.{normSq, crossOf}
+use Rattle.geo.specs.Vector.{cross3}
+use Rattle.subdivision.specs.Flatten.{normSq}
 use Rattle.subdivision.specs.Flatten.{perpendicularSq}
 use borrow.Author.Needs.{needs}
 use Rattle.subdivision.proofs.subdivision.get_perpendicular_dist_sq.Statement.{statement}
@@ -15,9 +16,9 @@ norm-squared-requires : tie.Need-norm-squared-requires
 norm-squared-requires c κs = search needs
 
 returns : tie.Need-returns
-unfolding perpendicularSq crossOf
+unfolding perpendicularSq cross3
 returns c = let a = c .before .before .before .before .before .before .before .before .before .before .before .before .before .before .args in
-    ap (λ (x : Float). div binary64 x (a .norm-sq)) (c .norm-squared .ensures ∙ ap (λ (p : Point3D). normSq (crossOf p (a .v))) (c .before .before .before .before .before .before .before .before .before .before .before .before .before .minus-3d .ensures))
+    ap (λ (x : Float). div binary64 x (a .norm-sq)) (c .norm-squared .ensures ∙ ap (λ (p : Point3D). normSq (cross3 p (a .v))) (c .before .before .before .before .before .before .before .before .before .before .before .before .before .minus-3d .ensures))
 
 pub get-perpendicular-dist-sq-spec : {M : Type 1} → statement M
 get-perpendicular-dist-sq-spec =
