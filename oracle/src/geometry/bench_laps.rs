@@ -3,7 +3,7 @@
 //!
 //! Beside the proved functions on files stands that Rust's `fit_arcs` of each lap, with the reading of the file into
 //! its commands and the writing of the fitted file: once with document 01's rows, as the proved functions have them, and
-//! once with no check but of mark and table.
+//! once with no check but of mark and table; and of whole files that `fit_arcs` alone, of laps that are commands already.
 use super::bench::{Output, Row, table};
 use super::bezier::steps_needed;
 use super::calls::{pz_fit_arcs, pz_fit_file, pz_replace_lap};
@@ -169,6 +169,13 @@ fn whole(name: String, bytes: Vec<u8>, tolerance: f64, checked: bool) -> Row<'st
     }
 }
 
+/// Beside that Rust's `fit_arcs` alone: the laps are read before, nothing is checked, and no byte is written.
+fn bare(name: String, bytes: Vec<u8>, tolerance: f64) -> Row<'static> {
+    let laps = read_all(&bodies(&bytes).expect("a right table"));
+    let size = move |lap: &Lap| 8 + 73 * (fitting::fit_arcs(black_box(&lap.commands), black_box(tolerance)).len() - lap.put_in as usize);
+    Row { given: Box::new(move || 8 + laps.iter().map(size).sum::<usize>()), ..whole(name, bytes, tolerance, true) }
+}
+
 fn replaced(name: String, recorded: Vec<u8>, lap: usize, new: Commands, tolerance: f64, checked: bool) -> Row<'static> {
     let fitted = given_fit(&recorded, tolerance, true);
     let (r, f, n, mut out) = (recorded.clone(), fitted.clone(), body(&new), vec![0; 58_920]);
@@ -251,6 +258,13 @@ fn rows() -> Vec<Row<'static>> {
             rows.push(replaced(name, bytes.clone(), 3, new.clone(), tolerance, checked));
         }
         rows.push(whole(format!("file of 64 laps, 768 commands, 2{how}"), recording(&short), 2.0, checked));
+    }
+    let one = recording(&[lines(&track(&mut draw, 800, 4.0, 1.0))]);
+    for tolerance in [0.1, 0.5, 2.0, 5.0] {
+        for (name, file) in [("six laps, 800", &bytes), ("64 laps, 768", &recording(&short)), ("one lap, 800", &one)] {
+            rows.push(whole(format!("file of {name} commands, {tolerance}, all"), file.clone(), tolerance, true));
+            rows.push(bare(format!("file of {name} commands, {tolerance}, beside fit_arcs alone"), file.clone(), tolerance));
+        }
     }
     rows
 }
