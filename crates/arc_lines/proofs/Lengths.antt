@@ -1,4 +1,5 @@
--- How a vector's numbers lie to its length as it comes out: each is at most twice the length, where one of them is large enough to be squared; and the length has a bound. Assumes nothing.
+-- A vector's numbers and its length, as it comes out: each number is at most twice the length, where one of them is large enough to be squared; and the length has a bound.
+-- The length is a root of a rounded sum of rounded squares, so all this is said in the format's smallest values, in which the root's own law stands. Assumes nothing.
 use Prim.Native.Nat.{ℕ, zero, suc, _+_, _*_, _/_, _%_, _^_, _≤_, _<_, compare}
 use mathlib.Core.Path.{_≡_, refl, sym, ap, _∙_, subst}
 use mathlib.Core.Logic.{⊎-elim}
@@ -123,7 +124,7 @@ sum-units b (fin false m e) (fin false n d) f p q w =
     (le-of-eq (sym (units-of-value (round binary64 false k c) (grid binary64 k c) r))))
 
 -- ---- roots
--- where D is three quarters of the square of A or more, and R is as near to the root of D * U as A is
+-- where N is three quarters of the square of A or more, and R is as near to the root of N as A is
 root-reaches : (A R N : ℕ) → 3 * (A * A) ≤ 4 * N → (R < A → 4 * N ≤ (R + A) * (R + A)) → A ≤ 2 * R
 root-reaches A R N h near =
     ⊎-elim
@@ -164,7 +165,7 @@ square-units b l (fin s m e) o f h w = go s w
     go true v = unfold inUnits in there v
     go false v = unfold inUnits in there v
 
--- of any finite x no nearer one than the root of s is
+-- no finite x lies nearer to the exact root of s than `rootOf s` does
 root-near : (b : ℕ) (x s : Float) → T (fits binary64 x) → Within b x → T (fits binary64 s) → T (plain s) → inUnits (rootOf s) < inUnits x
     → 4 * (inUnits s * 2 ^ 1074) ≤ (inUnits (rootOf s) + inUnits x) * (inUnits (rootOf s) + inUnits x)
 unfolding squared
@@ -233,14 +234,14 @@ unfolding lengthOf
 length-turned x y = ap rootOf (add-turned (y ⊗ y) (x ⊗ x))
 
 module _ (k : ℕ) (o : k ≤ 400) (x y : Float) (X : Below k x) (Y : Below k y) where
-  squares-below : Below (k + k + 1) (x ⊗ x ⊕ y ⊗ y)
-  squares-below = add-below (omega arith) (mul-below (omega arith) X X) (mul-below (omega arith) Y Y)
-
   first-square : Below (k + k) (x ⊗ x)
   first-square = mul-below (omega arith) X X
 
   second-square : Below (k + k) (y ⊗ y)
   second-square = mul-below (omega arith) Y Y
+
+  squares-below : Below (k + k + 1) (x ⊗ x ⊕ y ⊗ y)
+  squares-below = add-below (omega arith) first-square second-square
 
   squares-plain : T (plain (x ⊗ x ⊕ y ⊗ y))
   squares-plain =
@@ -258,7 +259,7 @@ module _ (k : ℕ) (o : k ≤ 400) (x y : Float) (X : Below k x) (Y : Below k y)
   unfolding lengthOf
   vector-length-below = root-at-most (k + 1) (x ⊗ x ⊕ y ⊗ y) (omega arith) (add-fits binary64 (x ⊗ x) (y ⊗ y)) squares-plain (below-more (k + 1 + (k + 1)) (omega arith) squares-below)
 
-  -- the number that is large
+  -- the first number, where it is large
   large-under : (l : ℕ) → l + l ≤ 1072 → T (fits binary64 x) → AtLeast l x → inUnits x ≤ 2 * inUnits (lengthOf x y)
   unfolding lengthOf
   large-under l h f a =
@@ -280,7 +281,8 @@ both-under k l o h x y X Y f g a =
           (least-or-small l (2 ^ k) y (Y .within)),
     )
 
--- ---- as numbers: x is at most twice y in size
+-- ---- as fractions
+-- x is at most twice y in size
 abbrev pub Twice : Float → Float → Type 0
 Twice nan y = ⊥
 Twice (inf s) y = ⊥

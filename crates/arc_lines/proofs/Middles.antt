@@ -1,5 +1,5 @@
--- The vector that halves a part. In x or in y the two vectors' numbers have one sign, and one of them has a size: so the sum does not vanish, the middle has bounds, and each
--- half is such a part again, with a size that is 2 ^ 56 times smaller at worst. Ten halvings from 2 ^ -32 on never come to a square that is too small. Assumes nothing.
+-- The vector that halves a part. In x or in y the two vectors' numbers have one sign, and one of them is 2 ^ -l or more: so the sum does not vanish, the middle has bounds, and
+-- each half is such a part again, with l + 56 for l. The tenth halving from 2 ^ -32 on has 32 + 9 * 56 = 536, and 2 ^ -536 is just large enough to be squared. Assumes nothing.
 use Prim.Native.Nat.{ℕ, _+_, _*_, _^_, _≤_}
 use mathlib.Core.Path.{sym, subst}
 use mathlib.Core.Logic.{_⊎_, inl, inr, ⊎-elim}
@@ -29,6 +29,7 @@ pub record OneSign (l : ℕ) (p q : Float) : Type 0 where
   pub second : SignIs sign q
   pub large : AtLeast l p ⊎ AtLeast l q
 
+-- in x or in y
 abbrev pub Agree : ℕ → Point → Point → Type 0
 Agree l u w = OneSign l (u .x) (w .x) ⊎ OneSign l (u .y) (w .y)
 

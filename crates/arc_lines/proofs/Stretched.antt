@@ -1,4 +1,6 @@
 -- A vector that is made r long: its numbers have a bound, and the one that was large keeps a size and its sign. Assumes nothing.
+-- The bounds: the vectors of an accepted arc are at most 2 ^ 22 in x and in y, so r is at most 2 ^ 23; it is 2 ^ -30 or more, being 1e-9 or more. A middle is at most twice
+-- r, so 2 ^ 24; a sum of two vectors 2 ^ 25, and its length 2 ^ 26. So of a number of the sum at least the 2 ^ (26 + 30)-th part is left in the middle.
 use Prim.Native.Nat.{ℕ, _+_, _*_, _^_, _≤_, _<_}
 use mathlib.Core.Path.{_≡_, refl, sym, ap, _∙_, subst}
 use mathlib.Core.Logic.{⊎-elim}
@@ -21,7 +23,7 @@ use Rattle.arc_lines.proofs.Sizes.{SignIs, round-least, round-sign, siz
 use Rattle.arc_lines.proofs.Lengths.{Twice, twice-length, vector-length-below, vector-length-plain}
 
 -- ---- quotients
--- not zero
+-- a number that is not zero
 abbrev Some : Float → Type 0
 Some nan = ⊥
 Some (inf s) = ⊥
@@ -90,12 +92,13 @@ unlike-plus : (s : Bool) → unlike (unlike s false) false ≡ s
 unlike-plus true = refl
 unlike-plus false = refl
 
--- how r is, and what comes out
+-- the radius of an accepted arc
 pub record Radius (r : Float) : Type 0 where
   pub below : Below 23 r
   pub least : AtLeast 30 r
   pub plus : SignIs false r
 
+-- what comes out of a number that is 2 ^ -l or more with the sign s, and of the other one
 pub record Stretched (l : ℕ) (s : Bool) (p q : Float) : Type 0 where
   pub first-below : Below 24 p
   pub second-below : Below 24 q
