@@ -1,4 +1,4 @@
--- The words of document 02, §6, about the parts of an Arc and the Lines that draw it, as propositions. Definitions only; proofs/Drawing.antt shows of which calls they hold.
+-- The words of document 02, §6, about the parts of an Arc and the Lines that draw it, as propositions. Definitions only; proofs/Drawing.antt and proofs/Finite.antt show of which calls they hold.
 use Prim.Native.Nat.{ℕ, zero, suc, _+_, _-_, _*_, _≤_, _<_}
 use mathlib.Core.Path.{_≡_}
 use mathlib.Core.Logic.{_⊎_}
