@@ -79,19 +79,19 @@ call-drawable kind s a tol kinds numbers cs e =
 
 -- ---- its vectors
 module _ (a b o : Point3D) (h : Drawable a b o) where
-  centre-x : Below 21 (centreOf a o .x)
+  pub centre-x : Below 21 (centreOf a o .x)
   unfolding centreOf
   centre-x = add-below (omega arith) (point-in a (h .start-in) .in-x) (point-in o (h .offset-in) .in-x)
 
-  centre-y : Below 21 (centreOf a o .y)
+  pub centre-y : Below 21 (centreOf a o .y)
   unfolding centreOf
   centre-y = add-below (omega arith) (point-in a (h .start-in) .in-y) (point-in o (h .offset-in) .in-y)
 
-  vector-x : (p : Point3D) → point3In p ≡ true → Below 22 (offsetOf (centreOf a o) p .x)
+  pub vector-x : (p : Point3D) → point3In p ≡ true → Below 22 (offsetOf (centreOf a o) p .x)
   unfolding offsetOf
   vector-x p i = sub-below (omega arith) (below-more 21 (omega arith) (point-in p i .in-x)) centre-x
 
-  vector-y : (p : Point3D) → point3In p ≡ true → Below 22 (offsetOf (centreOf a o) p .y)
+  pub vector-y : (p : Point3D) → point3In p ≡ true → Below 22 (offsetOf (centreOf a o) p .y)
   unfolding offsetOf
   vector-y p i = sub-below (omega arith) (below-more 21 (omega arith) (point-in p i .in-y)) centre-y
 

@@ -2,7 +2,6 @@
 use Prim.Native.Nat.{ℕ, zero, suc, _+_, _-_, _*_, _≤_, _<_}
 use mathlib.Core.Path.{_≡_, refl, sym, ap, _∙_, subst}
 use mathlib.Core.Bool.{Bool, true}
-use mathlib.Core.Logic.{⊎-elim}
 use mathlib.Core.List.{List, [], _∷_, _++_}
 use native.Mathlib.Omega.{arith}
 use borrow.Author.Tests.{eq-eqb, ne-eqb}
@@ -10,15 +9,11 @@ use lib.ListN.{length, getD}
 use lib.Ieee.{Float}
 use Rattle.floats.specs.Ops.{_⊗_, _≺_, +0}
 use Rattle.floats.specs.Limits.{quarter}
-use Rattle.floats.proofs.Order.{lt-or-ge}
-use Rattle.course.proofs.FinitePoints.{point-in}
-use Rattle.course.proofs.FiniteFit.{below-is-finite}
 use Rattle.geo.specs.declared.types.Point.{Point}
 use Rattle.geo.specs.declared.types.Point3D.{Point3D}
 use Rattle.geo.specs.declared.types.Command.{Command}
 use Rattle.geo.specs.declared.types.Command.the-variants.{Line}
-use Rattle.geo.specs.Lent.{pointAt, endOf}
-use Rattle.geo.specs.Domain.{isFinite}
+use Rattle.geo.specs.Lent.{pointAt}
 use Rattle.geo.specs.Outcome.{refusal, gives}
 use Rattle.geo.proofs.Rows.{unless-given}
 use Rattle.trial.specs.Traversal.{offsetOf, dot2}
@@ -31,7 +26,6 @@ use Rattle.arc_lines.specs.Laws.{Chained, TurnDrawn, TurnsDrawn, lineTo,
 use Rattle.arc_lines.proofs.Halving.{chained-both, quarter-drawn}
 use Rattle.arc_lines.proofs.Quarters.{Sided, turns-before-end}
 use Rattle.arc_lines.proofs.Accepted.{call-drawable, vectors-sided}
-use Rattle.arc_lines.proofs.Heights.{height-finite}
 
 -- ---- parts
 module _ (clockwise : Bool) (r limit : Float) where
@@ -134,20 +128,3 @@ call-right kind s a tol kinds numbers cs e =
     let d = pointAt s 2 in
     subst (λ (xs : List Command). Drawing a b o d tol xs) (unless-given (refusal (flattenRows kind s a tol kinds numbers)) (drawn a b o d tol) cs e .1)
     (drawn-right a b o d tol (vectors-sided a b o (call-drawable kind s a tol kinds numbers cs e) (d .z ≺ +0)))
-
--- Every height that an accepted call writes is finite.
-pub call-heights : (kind : ℕ) (s : List Float) (a : Point3D) (tol : Float) (kinds numbers : ℕ) (cs : List Command) → flattenCall kind s a tol kinds numbers ≡ gives cs
-    → (i : ℕ) (c : Command) → i < length cs → isFinite (endOf (getD cs i c) .z) ≡ true
-unfolding endOf
-call-heights kind s a tol kinds numbers cs e i c h =
-    let D = call-right kind s a tol kinds numbers cs e in
-    let A = call-drawable kind s a tol kinds numbers cs e in
-    let f = D .at-most in
-    let b = pointAt s 0 in
-    ⊎-elim
-    (λ l. subst (λ (x : Command). isFinite (endOf x .z) ≡ true) (sym (D .each i c (arcPart (record { x = +0; y = +0 }) (record { x = +0; y = +0 })) l))
-    (unfold heightAfter in height-finite a b (length cs) (i + 1) (A .start-in) (A .end-in) (omega arith) f (omega arith)))
-    (λ l.
-    let q : length cs - 1 ≡ i = omega arith in
-    subst (λ (x : Command). isFinite (endOf x .z) ≡ true) (sym (subst (λ (j : ℕ). getD cs j c ≡ Line b) q (D .last c))) (below-is-finite (point-in b (A .end-in) .in-z)))
-    (lt-or-ge (i + 1) (length cs))

@@ -1,9 +1,14 @@
 pub mod Halving
 pub mod Signs
 pub mod Sizes
+pub mod Lengths
+pub mod Stretched
+pub mod Middles
+pub mod Starts
 pub mod Sided
 pub mod Quarters
 pub mod Accepted
 pub mod Heights
 pub mod Drawing
+pub mod Finite
 pub mod Worked

@@ -10,6 +10,7 @@ use lib.Ieee.{Float, nan, inf, fin, binary64, up, down, size, odd, units, round,
 use lib.Ieee.Fits.{add-fits, round-fits}
 use Rattle.floats.specs.Ops.{_⊕_, _⊖_, _⊗_, _≺_, +0}
 use Rattle.floats.specs.Limits.{nano}
+use Rattle.floats.specs.Float.{isMinus}
 use Rattle.floats.specs.Root.{better, rootIn, wholeRoot, rootFrom, inUnits, rootOf, plain}
 use Rattle.floats.proofs.Order.{clash, lt-gap, le-below, le-right, lt-or-ge}
 use Rattle.floats.proofs.Bounds.{Within, Below, AtLeast, add-below, mul-below, neg-below, neg-within, below-more}
@@ -22,7 +23,7 @@ use Rattle.trial.specs.Traversal.{cross2, dot2}
 use Rattle.flatten.specs.Parts.{lengthBy, onward}
 use Rattle.arc_lines.proofs.Quarters.{Sided}
 use Rattle.arc_lines.proofs.Signs.{add-turned, neg-above, neg-below-zero}
-use Rattle.arc_lines.proofs.Sizes.{Small, least-or-small, mul-least, mul-small, add-apart, sum-alike, beside, SignIs, sign-of, mul-sign, least-more, small-less, neg-least, neg-small, neg-sign, small-sum, unit}
+use Rattle.arc_lines.proofs.Sizes.{Small, least-or-small, mul-least, mul-small, add-apart, sum-alike, turned-least, beside, SignIs, sign-is, sign-of, mul-sign, least-more, small-less, neg-least, neg-small, neg-sign, small-sum, unit}
 
 -- ---- a vector with a length has a large number
 -- 2 ^ -61: its root is below 1e-9
@@ -52,7 +53,7 @@ square-sign b x w v =
 square-below : {x : Float} → Below 22 x → Below 44 (x ⊗ x)
 square-below h = mul-below (omega arith) h h
 
-not-both-small : (p q : Float) → Below 22 p → Below 22 q → (lengthOf p q ≺ nano) ≡ false → Small 31 p → Small 31 q → ⊥
+pub not-both-small : (p q : Float) → Below 22 p → Below 22 q → (lengthOf p q ≺ nano) ≡ false → Small 31 p → Small 31 q → ⊥
 unfolding lengthOf
 not-both-small p q P Q n h g =
     let S = p ⊗ p ⊕ q ⊗ q in
@@ -68,6 +69,13 @@ not-both-small p q P Q n h g =
     let k = root-monotone S (unit 61) f (round-fits binary64 false 1 (2 ^ 61)) nn u in
     ⊎-elim (λ i. clash (sym (le-below (rootOf S) (rootOf (unit 61)) k) ∙ i)) (λ i. clash (sym n ∙ i)) (lt-gap (rootOf (unit 61)) (rootOf S) nano nn unit-root)
 
+-- ---- products
+pub product-below : {x y : Float} → Below 22 x → Below 22 y → Below 44 (x ⊗ y)
+product-below X Y = mul-below (omega arith) X Y
+
+pub product-sign : {x y : Float} → Below 22 x → Below 22 y → SignIs (unlike (isMinus x) (isMinus y)) (x ⊗ y)
+product-sign {x} {y} X Y = mul-sign (2 ^ 44) (isMinus x) (isMinus y) x y (sign-is (2 ^ 22) x (X .within)) (sign-is (2 ^ 22) y (Y .within)) (product-below X Y .within)
+
 -- ---- one of two products is large, or of the other two one outweighs the other
 module _ (p q a b : Float) (P : Below 22 p) (Q : Below 22 q) (A : Below 22 a) (B : Below 22 b) (np : Small 31 p → Small 31 q → ⊥) (na : Small 31 a → Small 31 b → ⊥) where
   large-p : Small 32 q → AtLeast 31 p
@@ -82,21 +90,18 @@ module _ (p q a b : Float) (P : Below 22 p) (Q : Below 22 q) (A : Below 22 a) (B
   large-b : Small 32 a → AtLeast 31 b
   large-b g = ⊎-elim (λ h. h) (λ h. absurd (na (small-less 31 32 a (omega arith) g) h)) (least-or-small 31 (2 ^ 22) b (B .within))
 
-  product : {x y : Float} → Below 22 x → Below 22 y → Within (2 ^ 44) (x ⊗ y)
-  product {x} {y} X Y = let h : Below 44 (x ⊗ y) = mul-below (omega arith) X Y in h .within
-
   abbrev pub Outweighed : Type 0
   Outweighed = (AtLeast 62 (p ⊗ b) × Small 64 (q ⊗ a)) ⊎ (AtLeast 62 (q ⊗ a) × Small 64 (p ⊗ b))
 
   pub far : (AtLeast 64 (p ⊗ a) ⊎ AtLeast 64 (q ⊗ b)) ⊎ Outweighed
   far =
       ⊎-elim
-      (λ bp. ⊎-elim (λ ba. inl (inl (mul-least 32 32 (2 ^ 44) p a (omega arith) bp ba (product P A))))
-      (λ sa. ⊎-elim (λ bq. inl (inr (mul-least 32 32 (2 ^ 44) q b (omega arith) bq (least-more 31 32 b (omega arith) (large-b sa)) (product Q B))))
-      (λ sq. inr (inl (mul-least 31 31 (2 ^ 44) p b (omega arith) (large-p sq) (large-b sa) (product P B), mul-small 32 32 (2 ^ 44) q a (omega arith) sq sa (product Q A))))
+      (λ bp. ⊎-elim (λ ba. inl (inl (mul-least 32 32 (2 ^ 44) p a (omega arith) bp ba (product-below P A .within))))
+      (λ sa. ⊎-elim (λ bq. inl (inr (mul-least 32 32 (2 ^ 44) q b (omega arith) bq (least-more 31 32 b (omega arith) (large-b sa)) (product-below Q B .within))))
+      (λ sq. inr (inl (mul-least 31 31 (2 ^ 44) p b (omega arith) (large-p sq) (large-b sa) (product-below P B .within), mul-small 32 32 (2 ^ 44) q a (omega arith) sq sa (product-below Q A .within))))
       (least-or-small 32 (2 ^ 22) q (Q .within))) (least-or-small 32 (2 ^ 22) a (A .within)))
-      (λ sp. ⊎-elim (λ bb. inl (inr (mul-least 32 32 (2 ^ 44) q b (omega arith) (least-more 31 32 q (omega arith) (large-q sp)) bb (product Q B))))
-      (λ sb. inr (inr (mul-least 31 31 (2 ^ 44) q a (omega arith) (large-q sp) (large-a sb) (product Q A), mul-small 32 32 (2 ^ 44) p b (omega arith) sp sb (product P B))))
+      (λ sp. ⊎-elim (λ bb. inl (inr (mul-least 32 32 (2 ^ 44) q b (omega arith) (least-more 31 32 q (omega arith) (large-q sp)) bb (product-below Q B .within))))
+      (λ sb. inr (inr (mul-least 31 31 (2 ^ 44) q a (omega arith) (large-q sp) (large-a sb) (product-below Q A .within), mul-small 32 32 (2 ^ 44) p b (omega arith) sp sb (product-below P B .within))))
       (least-or-small 32 (2 ^ 22) b (B .within))) (least-or-small 32 (2 ^ 22) p (P .within))
 
 -- ---- which sum adds numbers of one sign
@@ -118,30 +123,13 @@ unlike-either false false true false = inr refl
 unlike-either false false false true = inr refl
 unlike-either false false false false = inl refl
 
-signOf : Float → Bool
-signOf nan = false
-signOf (inf s) = s
-signOf (fin s m e) = s
-
-sign-is : (b : ℕ) (x : Float) → Within b x → SignIs (signOf x) x
-unfolding signOf
-sign-is b nan w = absurd w
-sign-is b (inf s) w = absurd w
-sign-is b (fin s m e) w = refl
-
-turned-least : (l : ℕ) (x y : Float) → AtLeast l (y ⊕ x) → AtLeast l (x ⊕ y)
-turned-least l x y h = subst (λ (z : Float). AtLeast l z) (add-turned y x) h
-
 module _ (p q a b : Float) (P : Below 22 p) (Q : Below 22 q) (A : Below 22 a) (B : Below 22 b) (np : Small 31 p → Small 31 q → ⊥) (na : Small 31 a → Small 31 b → ⊥) where
-  below-product : {x y : Float} → Below 22 x → Below 22 y → Below 44 (x ⊗ y)
-  below-product X Y = mul-below (omega arith) X Y
-
   -- the dot p a + q b, and the cross p b − q a
   dot-below : Below 45 (p ⊗ a ⊕ q ⊗ b)
-  dot-below = add-below (omega arith) (below-product P A) (below-product Q B)
+  dot-below = add-below (omega arith) (product-below P A) (product-below Q B)
 
   cross-below : Below 45 (p ⊗ b ⊕ neg (q ⊗ a))
-  cross-below = add-below (omega arith) (below-product P B) (neg-below (below-product Q A))
+  cross-below = add-below (omega arith) (product-below P B) (neg-below (product-below Q A))
 
   cross-within : Within (2 ^ 45) (neg (q ⊗ a) ⊕ p ⊗ b)
   cross-within = subst (λ (z : Float). Within (2 ^ 45) z) (add-turned (p ⊗ b) (neg (q ⊗ a))) (cross-below .within)
@@ -149,15 +137,12 @@ module _ (p q a b : Float) (P : Below 22 p) (Q : Below 22 q) (A : Below 22 a) (B
   dot-within : Within (2 ^ 45) (q ⊗ b ⊕ p ⊗ a)
   dot-within = subst (λ (z : Float). Within (2 ^ 45) z) (add-turned (p ⊗ a) (q ⊗ b)) (dot-below .within)
 
-  sign : {x y : Float} → Below 22 x → Below 22 y → SignIs (unlike (signOf x) (signOf y)) (x ⊗ y)
-  sign {x} {y} X Y = mul-sign (2 ^ 44) (signOf x) (signOf y) x y (sign-is (2 ^ 22) x (X .within)) (sign-is (2 ^ 22) y (Y .within)) (below-product X Y .within)
-
   pub dot-or-cross : AtLeast 64 (p ⊗ b ⊕ neg (q ⊗ a)) ⊎ AtLeast 64 (p ⊗ a ⊕ q ⊗ b)
   dot-or-cross =
       ⊎-elim
       (λ e.
-      let sx = sign P A in
-      let sy = subst (λ (z : Bool). SignIs z (q ⊗ b)) (sym e) (sign Q B) in
+      let sx = product-sign P A in
+      let sy = subst (λ (z : Bool). SignIs z (q ⊗ b)) (sym e) (product-sign Q B) in
       ⊎-elim
       (λ h. inr (⊎-elim (λ i. sum-alike 64 (2 ^ 45) _ (p ⊗ a) (q ⊗ b) (omega arith) sx sy i (dot-below .within))
       (λ i. turned-least 64 (p ⊗ a) (q ⊗ b) (sum-alike 64 (2 ^ 45) _ (q ⊗ b) (p ⊗ a) (omega arith) sy sx i dot-within)) h))
@@ -165,15 +150,15 @@ module _ (p q a b : Float) (P : Below 22 p) (Q : Below 22 q) (A : Below 22 a) (B
       (λ i. least-more 63 64 (p ⊗ b ⊕ neg (q ⊗ a)) (omega arith) (turned-least 63 (p ⊗ b) (neg (q ⊗ a)) (add-apart 62 (2 ^ 45) (neg (q ⊗ a)) (p ⊗ b) (omega arith) (neg-least 62 (q ⊗ a) (i .0)) (i .1) cross-within))) h))
       (far p q a b P Q A B np na))
       (λ e.
-      let sx = sign P B in
-      let sy = subst (λ (z : Bool). SignIs z (neg (q ⊗ a))) e (neg-sign (unlike (signOf q) (signOf a)) (q ⊗ a) (sign Q A)) in
+      let sx = product-sign P B in
+      let sy = subst (λ (z : Bool). SignIs z (neg (q ⊗ a))) e (neg-sign (unlike (isMinus q) (isMinus a)) (q ⊗ a) (product-sign Q A)) in
       ⊎-elim
       (λ h. inl (⊎-elim (λ i. sum-alike 64 (2 ^ 45) _ (p ⊗ b) (neg (q ⊗ a)) (omega arith) sx sy i (cross-below .within))
       (λ i. turned-least 64 (p ⊗ b) (neg (q ⊗ a)) (sum-alike 64 (2 ^ 45) _ (neg (q ⊗ a)) (p ⊗ b) (omega arith) sy sx (neg-least 64 (q ⊗ a) i) cross-within)) h))
       (λ h. inr (⊎-elim (λ i. least-more 63 64 (p ⊗ a ⊕ q ⊗ b) (omega arith) (add-apart 62 (2 ^ 45) (p ⊗ a) (q ⊗ b) (omega arith) (i .0) (i .1) (dot-below .within)))
       (λ i. least-more 63 64 (p ⊗ a ⊕ q ⊗ b) (omega arith) (turned-least 63 (p ⊗ a) (q ⊗ b) (add-apart 62 (2 ^ 45) (q ⊗ b) (p ⊗ a) (omega arith) (i .0) (i .1) dot-within))) h))
       (far p q b a P Q B A np (λ h g. na g h)))
-      (unlike-either (signOf p) (signOf q) (signOf a) (signOf b))
+      (unlike-either (isMinus p) (isMinus q) (isMinus a) (isMinus b))
 
 -- ---- vectors
 or-sided : (ca cb da db : Bool) → ((ca || cb) ≡ true) ⊎ ((da || db) ≡ true) → (ca || (cb || (da || db))) ≡ true

@@ -15,11 +15,12 @@ use lib.Ieee.Fits.{down-pos}
 use lib.Ieee.Exact.{HasValue, round-exact}
 use lib.Ieee.Order.{round-mono}
 use Rattle.floats.specs.Ops.{_⊕_, _⊗_, _≺_, +0}
+use Rattle.floats.specs.Float.{isMinus}
 use Rattle.floats.proofs.Order.{either, clash, lt-or-ge}
 use Rattle.floats.proofs.Bounds.{Within, AtLeast, or-le, neg-within, round-within}
 use Rattle.floats.proofs.Unsigned.{Plus, round-plus}
 use Rattle.floats.proofs.float.Large.{neg-neg}
-use Rattle.arc_lines.proofs.Signs.{round-neg, Sizes, smaller, larger, equal, sizes}
+use Rattle.arc_lines.proofs.Signs.{round-neg, add-turned}
 
 -- at most 2 ^ -l in size
 abbrev pub Small : ℕ → Float → Type 0
@@ -68,7 +69,7 @@ plus-least n den l b D o h w =
     least-of-le l b (round binary64 false 1 (2 ^ l)) (round binary64 false n den) (unit-value l o) w (round-plus n den)
     (is-true _ (round-mono binary64 1 (2 ^ l) n den (pow-pos l) D (le-trans (le-of-eq (one-mul den)) h)))
 
-round-least : (s : Bool) (n den l b : ℕ) → 0 < den → l ≤ 1074 → den ≤ n * 2 ^ l → Within b (round binary64 s n den) → AtLeast l (round binary64 s n den)
+pub round-least : (s : Bool) (n den l b : ℕ) → 0 < den → l ≤ 1074 → den ≤ n * 2 ^ l → Within b (round binary64 s n den) → AtLeast l (round binary64 s n den)
 round-least false n den l b D o h w = plus-least n den l b D o h w
 round-least true n den l b D o h w =
     let e : round binary64 true n den ≡ neg (round binary64 false n den) = round-neg false n den in
@@ -150,7 +151,7 @@ add-alike l b false m n e d o h w =
     (le-trans (mul-le-mul-right (down d) h) (le-trans (le-of-eq (mul-right-comm (m * up e) (2 ^ l) (down d))) (mul-le-mul-right (2 ^ l) (omega arith)))) w
 
 -- ---- what is not zero lies beside it
-size-pos : (l x c : ℕ) → 0 < c → c ≤ x * 2 ^ l → 0 < x
+pub size-pos : (l x c : ℕ) → 0 < c → c ≤ x * 2 ^ l → 0 < x
 size-pos l x c C h =
     ⊎-elim (λ p. p) (λ z. let e : x ≡ 0 = omega arith in let k : x * 2 ^ l ≡ 0 = ap (λ (n : ℕ). n * 2 ^ l) e ∙ zero-mul (2 ^ l) in absurd (omega arith)) (lt-or-ge 0 x)
 
@@ -231,7 +232,7 @@ neg-sign s nan h = h
 neg-sign s (inf t) h = h
 neg-sign s (fin t m e) h = ap not h
 
-round-sign : (s : Bool) (n den b : ℕ) → Within b (round binary64 s n den) → SignIs s (round binary64 s n den)
+pub round-sign : (s : Bool) (n den b : ℕ) → Within b (round binary64 s n den) → SignIs s (round binary64 s n den)
 round-sign false n den b w = plus-sign b (round binary64 false n den) w (round-plus n den)
 round-sign true n den b w =
     let e : round binary64 true n den ≡ neg (round binary64 false n den) = round-neg false n den in
@@ -258,6 +259,64 @@ sum-alike l b s (fin t m e) (fin u n d) o h g a w =
     let q : u ≡ t = g ∙ sym h in
     let f : fin u n d ≡ fin t n d = ap (λ (z : Bool). fin z n d) q in
     subst (λ (z : Float). AtLeast l (fin t m e ⊕ z)) (sym f) (add-alike l b t m n e d o a (subst (λ (z : Float). Within b (fin t m e ⊕ z)) f w))
+
+pub turned-least : (l : ℕ) (x y : Float) → AtLeast l (y ⊕ x) → AtLeast l (x ⊕ y)
+turned-least l x y h = subst (λ (z : Float). AtLeast l z) (add-turned y x) h
+
+-- the sum's sign: that of both, or that of the larger
+pub sum-sign : (b : ℕ) (s : Bool) (x y : Float) → SignIs s x → SignIs s y → Within b (x ⊕ y) → SignIs s (x ⊕ y)
+unfolding add sum
+sum-sign b s nan y h g w = absurd h
+sum-sign b s (inf t) y h g w = absurd h
+sum-sign b s (fin t m e) nan h g w = absurd g
+sum-sign b s (fin t m e) (inf u) h g w = absurd g
+sum-sign b true (fin true m e) (fin true n d) h g w = round-sign true (m * up e * down d + n * up d * down e) (down e * down d) b w
+sum-sign b true (fin true m e) (fin false n d) h g w = clash (g)
+sum-sign b true (fin false m e) (fin u n d) h g w = clash (h)
+sum-sign b false (fin true m e) (fin u n d) h g w = clash (sym h)
+sum-sign b false (fin false m e) (fin true n d) h g w = clash (sym g)
+sum-sign b false (fin false m e) (fin false n d) h g w = round-sign false (m * up e * down d + n * up d * down e) (down e * down d) b w
+
+larger-sign : (s t : Bool) (a b c w : ℕ) → b < a → Within w (sum binary64 s a t b c) → SignIs s (sum binary64 s a t b c)
+larger-sign true true a b c w h v = unfold sum in round-sign true (a + b) c w v
+larger-sign false false a b c w h v = unfold sum in round-sign false (a + b) c w v
+larger-sign true false a b c w h v =
+    let e : sum binary64 true a false b c ≡ round binary64 true (a - b) c = minus-plus a b c (le-of-lt h) ∙ ap (λ (z : Bool). round binary64 z (a - b) c) (lt-ltb b a h) in
+    subst (λ (z : Float). SignIs true z) (sym e) (round-sign true (a - b) c w (subst (λ (z : Float). Within w z) e v))
+larger-sign false true a b c w h v =
+    let e = plus-minus a b c (le-of-lt h) in
+    subst (λ (z : Float). SignIs false z) (sym e) (round-sign false (a - b) c w (subst (λ (z : Float). Within w z) e v))
+
+more-than : (a b c L : ℕ) → 0 < c → b ≤ a → c ≤ (a - b) * L → b < a
+more-than a b c L C h g =
+    ⊎-elim (λ l. l) (λ l. let z : a - b ≡ 0 = omega arith in let y : (a - b) * L ≡ 0 = ap (λ (n : ℕ). n * L) z ∙ zero-mul L in absurd (omega arith)) (lt-or-ge b a)
+
+pub apart-sign : (l b : ℕ) (s : Bool) (x y : Float) → SignIs s x → AtLeast l x → Small (l + 2) y → Within b (x ⊕ y) → SignIs s (x ⊕ y)
+unfolding add
+apart-sign l b s nan y i h g w = absurd h
+apart-sign l b s (inf t) y i h g w = absurd h
+apart-sign l b s (fin t m e) nan i h g w = absurd g
+apart-sign l b s (fin t m e) (inf u) i h g w = absurd g
+apart-sign l b s (fin t m e) (fin u n d) i h g w =
+    let x = m * up e * down d in
+    let y = n * up d * down e in
+    let c = down e * down d in
+    let q = apart-sizes (m * up e) (n * up d) (down e) (down d) (2 ^ l) (pow-pos l) h (subst (λ (z : ℕ). n * up d * z ≤ down d) (two-more l) g) in
+    subst (λ (z : Bool). SignIs z (sum binary64 t x u y c)) i (larger-sign t u x y c b (more-than x y c (2 ^ l * 2) (mul-pos (down-pos e) (down-pos d)) (q .0) (q .1)) w)
+
+-- what has a minus sign, and a size, lies below zero
+pub under-zero : (l : ℕ) (x : Float) → AtLeast l x → SignIs true x → (x ≺ +0) ≡ true
+unfolding lt ofBits
+under-zero l nan h s = absurd h
+under-zero l (inf t) h s = absurd h
+under-zero l (fin true m e) h s = let p = size-pos l (m * up e) (down e) (down-pos e) h in lt-ltb 0 (m * up e * 1 + 0 * 1 * down e) (omega arith)
+under-zero l (fin false m e) h s = clash s
+
+pub sign-is : (b : ℕ) (x : Float) → Within b x → SignIs (isMinus x) x
+unfolding isMinus
+sign-is b nan w = absurd w
+sign-is b (inf s) w = absurd w
+sign-is b (fin s m e) w = refl
 
 pub sign-of : (b : ℕ) (x : Float) → Within b x → SignIs true x ⊎ SignIs false x
 sign-of b nan w = absurd w

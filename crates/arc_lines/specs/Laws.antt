@@ -1,4 +1,4 @@
--- The words of document 02, §6, about the parts of an Arc and the Lines that draw it, as propositions. Definitions only; proofs/Drawing.antt shows of which calls they hold.
+-- The words of document 02, §6, about the parts of an Arc and the Lines that draw it, as propositions. Definitions only; proofs/Drawing.antt and proofs/Finite.antt show of which calls they hold.
 use Prim.Native.Nat.{ℕ, zero, suc, _+_, _-_, _*_, _≤_, _<_}
 use mathlib.Core.Path.{_≡_}
 use mathlib.Core.Logic.{_⊎_}
@@ -13,8 +13,12 @@ use Rattle.geo.specs.declared.types.Point.{Point}
 use Rattle.geo.specs.declared.types.Point3D.{Point3D}
 use Rattle.geo.specs.declared.types.Command.{Command}
 use Rattle.geo.specs.declared.types.Command.the-variants.{Line}
+use Rattle.geo.specs.Lent.{flat, numbersOf}
+use Rattle.geo.specs.Outcome.{gives}
+use Rattle.course.specs.Finite.{AllFinite}
 use Rattle.trial.specs.Traversal.{offsetOf, dot2}
 use Rattle.flatten.specs.Parts.{centreOf, lengthBy, quarterTurn, onward, bulge, middle, ArcPart, arcPart}
+use Rattle.flatten.specs.Calls.{flattenCall}
 
 -- ---- order
 -- The parts follow one another from u to w: each starts at the vector at which the one before it ended.
@@ -99,3 +103,8 @@ pub record Drawing (a b o d : Point3D) (tol : Float) (cs : List Command) : Type 
   pub each : (i : ℕ) (c : Command) (p : ArcPart) → i + 1 < length cs → getD cs i c ≡ lineTo (centreOf a o) a b (length cs) (i + 1) (getD parts i p .to)
   -- the last Line ends at the command's own end
   pub last : (c : Command) → getD cs (length cs - 1) c ≡ Line b
+
+-- Every number that an accepted call writes is finite: of the numbers of its Lines none is an infinity, and none a NaN.
+abbrev pub EveryNumberFinite : Type 0
+EveryNumberFinite =
+    (kind : ℕ) (s : List Float) (a : Point3D) (tol : Float) (kinds numbers : ℕ) (cs : List Command) → flattenCall kind s a tol kinds numbers ≡ gives cs → AllFinite (flat numbersOf cs)
