@@ -45,14 +45,6 @@ noted-course-few r pos p cs = noted-few (chainNoted r) (chain-few r pos) (partsO
 pub course-few : (r : Rule) → (+0 ≺ r .tolerance) ≡ true → (p : Point3D) (cs : List Command) → length (fitOn r p cs) ≤ mostOn (r .tolerance) p cs
 course-few r pos p cs = let a = noted-course-few r pos p cs in let l = commands-length (notedOn r p cs) in let e = ap length (course-commands r p cs) in omega arith
 
--- of a course that starts with a Move something is written
-pub course-some : (r : Rule) (p : Point3D) (cs : List Command) → 1 ≤ length (courseFit r (Move p ∷ cs))
-unfolding fitOn fitOf partsOn partsFrom joined closed flat partFit
-course-some r p cs = some (chainFit r _) _
-  where
-    some : (xs ys : List Command) → 1 ≤ length (xs ++ (Move p ∷ ys))
-    some xs ys = let c = length-append xs (Move p ∷ ys) in omega arith
-
 -- ---- rows 8 and 9, m being the most as it was counted
 module _ (most kinds numbers m : ℕ) (e : m ≡ cap most) where
   pub many-refused : 800 < m → 8 ≡ refusal (roomRows most kinds numbers)

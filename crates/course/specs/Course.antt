@@ -47,9 +47,6 @@ endOn p [] = p
 endOn p (c ∷ cs) = endOn (endOf c) cs
 
 -- ---- a course of `fit_arcs`, "which needs no Move": the Rust starts it at the origin
-abbrev pub courseParts : Float → List Command → List Part
-courseParts tol cs = partsOn tol origin cs
-
 abbrev pub courseFit : Rule → List Command → List Command
 courseFit r cs = fitOn r origin cs
 

@@ -1,6 +1,6 @@
 // The fewest straights, for printed maps: a search in layers, by a budget of tests. The output is written when the search
 // has ended.
-use circle::circle::Deviation;
+use fitting::fitting::line_deviation;
 use floats::root::sqrt;
 use geo::domain::all_coordinates;
 use geo::domain::is_tolerance;
@@ -8,7 +8,6 @@ use geo::lent::point_at;
 use geo::lent::put_point;
 use simplify::simplify::Chord;
 use simplify::simplify::Ruler;
-use simplify::simplify::farthest_between;
 use ways::phase::Phase;
 use ways::phase::is_arrived;
 use ways::phase::is_going;
@@ -22,7 +21,6 @@ ghost use Rattle.floats.specs.Ops.{_≺_, +0};
 ghost use Rattle.geo.specs.Lent.{pointAt, flat};
 ghost use Rattle.geo.specs.Outcome.{refusal, left, Placed};
 ghost use Rattle.simplify.specs.Measure.{chordOf, lineSq};
-ghost use Rattle.fitting.specs.Pieces.{lineDeviation};
 ghost use Rattle.ways.specs.Layers.{going, inOrder, tryPair, tryPoint, tryLayer, back};
 ghost use Rattle.fewest.specs.Straights.{passing, cutEnds, fewestOf, numbersAt};
 ghost use Rattle.fewest.specs.Calls.{straightsRows, straightsCall, straightsAnswer, endsGiven};
@@ -77,18 +75,6 @@ fn wide(x: u16) -> usize
     x as usize
 }
 
-// The Line's deviation over the points between, and the first point that has it.
-fn line_deviation(points: &[f64], start: usize, end: usize) -> Deviation
-    requires { ⌜ (3 * start + 2 < length (now points)) × (3 * end + 2 < length (now points)) ⌝ }
-    ensures { λ r. ⌜ r ≡ lineDeviation lineSq (pointAt (now (points .entry))) start end ⌝ }
-{
-    let w = farthest_between(Ruler::Line, points, start, end);
-    Deviation {
-        dist: sqrt(w.square),
-        index: w.index,
-    }
-}
-
 // Whether a point from `from` on, and before `to`, is seen at or above the tolerance from the Line from u to v, which then does not
 // pass. A point whose spread says that it is nearer costs no division and no root; that test alone decides nothing.
 fn strays(
@@ -128,7 +114,7 @@ fn passes(points: &[f64], tolerance: f64, u: usize, v: usize) -> bool
     if strays(points, chord, tolerance, u, v, u + 1, middle) {
         return false;
     }
-    line_deviation(points, u, v).dist < tolerance
+    line_deviation(Ruler::Line, points, u, v).dist < tolerance
 }
 
 // The pair of u and v comes up in a search that goes on. Where v is reached already no pair is due, and its first parent
@@ -307,7 +293,7 @@ fn cut(points: &[f64], tolerance: f64, lo: usize, hi: usize, out: &mut [f64], at
     requires { ⌜ ((+0 ≺ tolerance) ≡ true) × ((lo < hi) × (3 * hi + 2 < length (now points)) × (3 * (at + (hi - lo)) ≤ length (now out))) ⌝ }
     ensures { λ n. ⌜ Placed (numbersAt (now (points .entry))) 3 (cutEnds (now (points .entry)) tolerance lo hi) at n (now (out .entry)) (now (out .exit)) ⌝ }
 {
-    let w = line_deviation(points, lo, hi);
+    let w = line_deviation(Ruler::Line, points, lo, hi);
     if w.dist < tolerance {
         put_point(out, 3 * at, point_at(points, hi));
         return 1;

@@ -53,10 +53,6 @@ module _ (s : List Float) (ts : List Row) (r : ℕ) (e : r ≡ refusal (pointsRo
       let c = row-passed 4 _ _ (b .1) in
       row-passes _ _ _ (a .0) ∙ row-passes _ _ _ (b .0) ∙ row-passes _ _ _ (c .0)
 
-  pub few-points : r ≡ 0 → length s / 3 ≤ 2048
-  unfolding pointsRows
-  few-points z = let a = row-passed 0 _ _ (sym z ∙ e) in let b = row-passed 1 _ _ (a .1) in ltb-false 2048 (length s / 3) (b .0)
-
 -- ---- what passed
 pub line-accepted : (s : List Float) (lo hi r : ℕ) → r ≡ refusal (lineRows s lo hi) → r ≡ 0 → (lo < length s / 3) × (hi < length s / 3)
 unfolding lineRows pointsRows

@@ -97,7 +97,7 @@ pub enum Primitives {
 }
 
 // The greatest distance of a point from the Line between the range's ends, and the first point that has it.
-fn line_deviation(ruler: Ruler, points: &[f64], start: usize, end: usize) -> Deviation
+pub fn line_deviation(ruler: Ruler, points: &[f64], start: usize, end: usize) -> Deviation
     requires { ⌜ (3 * start + 2 < length (now points)) × (3 * end + 2 < length (now points)) ⌝ }
     ensures { λ r. ⌜ r ≡ lineDeviation (measureOf ruler) (pointAt (now (points .entry))) start end ⌝ }
 {
