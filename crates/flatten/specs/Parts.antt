@@ -46,7 +46,7 @@ unfoldable pub turnsBefore : Bool → Point → Point → ℕ
 turnsBefore clockwise u w = turnsBy (onward clockwise u w) (dot2 u w)
 
 -- ---- halving
--- the cosineBetween between two vectors, as it comes out (it can be a little above 1)
+-- the cosine of the angle between two vectors, as it comes out (it can be a little above 1)
 unfoldable pub cosineBetween : Point → Point → Float
 cosineBetween u w = dot2 u w ⊘ (lengthBy u ⊗ lengthBy w)
 

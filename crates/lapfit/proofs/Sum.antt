@@ -26,7 +26,8 @@ use Rattle.geo.specs.Lent.{origin}
 use Rattle.lap_fit.specs.Fit.{lapEnd}
 use Rattle.lap_rows.proofs.Decimal.{last-digit, next-digit}
 use Rattle.lap_rows.proofs.Demand.{digits-spell, listed-passes, sum-of-the-rows}
-use Rattle.lapfit.specs.Input.{listInput, printed, lapfitText}
+use Rattle.printing.specs.Printed.{printed}
+use Rattle.lapfit.specs.Input.{listInput, lapfitText}
 use Rattle.lapfit.specs.Sum.{withFirst, splitBy, linesIn, columnsIn, stepsOn, ThreeColumns, SumUnder, SumIsPrinted, RefusalAlone}
 
 -- ---- bytes none of which is below k

@@ -6,6 +6,7 @@ use lap_rows::lap_rows::list_file;
 use lap_rows::lap_rows::put_refusal;
 use libc::STDIN_FILENO;
 use libc::STDOUT_FILENO;
+use printing::rest::drain;
 ghost use mathlib.Core.Path.{_≡_};
 ghost use mathlib.Core.List.{List, _++_};
 ghost use Prim.Native.Nat.{ℕ};
@@ -52,24 +53,11 @@ fn output_buffer() -> [u8; 7225]
     [0; 7225]
 }
 
-// Reads what is left of the input behind its first n bytes, and forgets it. An input that did not fill its buffer has ended.
-fn drain(n: usize) {
-    if n < 65545 {
-        return;
-    }
-    let mut rest = io::large_buffer();
-    for _ in 0..0xffff_ffff_ffff_ffffu64 {
-        if io::read_full(STDIN_FILENO, &mut rest) < 65536 {
-            return;
-        }
-    }
-}
-
 fn main() {
     let mut input = input_buffer();
     let mut out = output_buffer();
     let n = io::read_full(STDIN_FILENO, &mut input);
-    drain(n);
+    drain(n, 65545);
     let m = print_input(&input[..n], &mut out);
     io::write_all(STDOUT_FILENO, &out[..m]);
 }

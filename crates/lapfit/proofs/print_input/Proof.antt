@@ -2,7 +2,8 @@
 use mathlib.Core.Path.{ap}
 use native.Mathlib.Omega.{arith}
 use lib.ListN.{length}
-use Rattle.lapfit.proofs.Printed.{number-few, listing-printed, refused-as, refusal-printed, as-printed}
+use Rattle.printing.proofs.Printed.{given-printed, refused-as, refusal-printed}
+use Rattle.lapfit.proofs.Printed.{number-few, as-printed}
 use borrow.Author.Needs.{needs}
 use Rattle.lapfit.proofs.print_input.Statement.{statement}
 use Rattle.lapfit.proofs.print_input.Tie as tie
@@ -26,7 +27,7 @@ same-length : tie.Need-same-length
 same-length c = search needs
 
 returns : tie.Need-returns
-returns c = let a = c .before .before .before .before .before .before .before .before .before .args in as-printed (a .input .now) (a .out .now) _ _ (c .before .before .before .before .before .before .before .before .before .pre) (listing-printed _ (a .out .now) _ _ _ (c .before .before .before .before .before .list-input .ensures) (c .before .n .given .1))
+returns c = let a = c .before .before .before .before .before .before .before .before .before .args in as-printed (a .input .now) (a .out .now) _ _ (c .before .before .before .before .before .before .before .before .before .pre) (given-printed _ (a .out .now) _ _ _ (c .before .before .before .before .before .list-input .ensures) (c .before .n .given .1))
 
 same-length-2 : tie.Need-same-length-2
 same-length-2 c = search needs
@@ -35,7 +36,7 @@ returns-2 : tie.Need-returns-2
 returns-2 c = let a = c .before .before .before .before .before .before .before .before .before .before .before .before .before .args in
     let q = refused-as _ (a .out .now) _ _ _ (c .before .before .before .before .before .before .before .before .before .list-input .ensures) (c .before .before .before .before .before .number .given .1) in
     let f = number-few (a .input .now) _ _ (q .0) in
-    as-printed (a .input .now) (a .out .now) _ _ (c .before .before .before .before .before .before .before .before .before .before .before .before .before .pre) (refusal-printed _ _ (a .out .now) _ _ _ (q .0) (q .1) f (omega (arith, c .before .before .before .before .before .before .before .before .before .before .before .before .before .pre)) (c .before .before .put-refusal .ensures))
+    as-printed (a .input .now) (a .out .now) _ _ (c .before .before .before .before .before .before .before .before .before .before .before .before .before .pre) (refusal-printed _ _ (a .out .now) _ _ _ (q .0) (q .1) (omega (arith, f)) (omega (arith, c .before .before .before .before .before .before .before .before .before .before .before .before .before .pre)) (c .before .before .put-refusal .ensures))
 
 pub print-input-spec : {M : Type 1} → statement M
 print-input-spec =

@@ -2,7 +2,8 @@
 use mathlib.Core.Path.{ap}
 use native.Mathlib.Omega.{arith}
 use lib.ListN.{length}
-use Rattle.lapsvg.proofs.Printed.{number-few, file-printed, refused-as, refusal-printed, as-printed}
+use Rattle.printing.proofs.Printed.{given-printed, refused-as, refusal-printed}
+use Rattle.lapsvg.proofs.Printed.{number-few, as-printed}
 use borrow.Author.Needs.{needs}
 use Rattle.lapsvg.proofs.print_input.Statement.{statement}
 use Rattle.lapsvg.proofs.print_input.Tie as tie
@@ -26,7 +27,7 @@ same-length : tie.Need-same-length
 same-length c = search needs
 
 returns : tie.Need-returns
-returns c = let a = c .before .before .before .before .before .before .before .before .before .args in as-printed (a .input .now) (a .out .now) _ _ (c .before .before .before .before .before .before .before .before .before .pre) (file-printed _ (a .out .now) _ _ _ (c .before .before .before .before .before .read-course .ensures) (c .before .n .given .1))
+returns c = let a = c .before .before .before .before .before .before .before .before .before .args in as-printed (a .input .now) (a .out .now) _ _ (c .before .before .before .before .before .before .before .before .before .pre) (given-printed _ (a .out .now) _ _ _ (c .before .before .before .before .before .read-course .ensures) (c .before .n .given .1))
 
 same-length-2 : tie.Need-same-length-2
 same-length-2 c = search needs

@@ -1,17 +1,17 @@
--- `lapsvg::drain` meets its contract: the buffer keeps its length, and the turns are counted. Assumes nothing.
+-- `printing::rest::drain` meets its contract: the buffer keeps its length, and the turns are counted. Assumes nothing.
 use Prim.Native.Nat.{_-_}
 use mathlib.Core.Path.{_≡_}
 use native.Mathlib.Omega.{arith}
 use borrow.Author.Needs.{needs}
 use lib.ListN.{length}
-use Rattle.lapsvg.proofs.drain.Statement.{statement}
-use Rattle.lapsvg.proofs.drain.Tie as tie
+use Rattle.printing.proofs.rest.drain.Statement.{statement}
+use Rattle.printing.proofs.rest.drain.Tie as tie
 
 abbrev Inv-loop : tie.InvT-loop
-Inv-loop n rest₀ counter₀ rest counter = 65536 ≡ length rest
+Inv-loop n size rest₀ counter₀ rest counter = 65536 ≡ length rest
 
 abbrev μ-loop : tie.MeasureT-loop
-μ-loop n rest₀ counter₀ rest counter = 18446744073709551615 - counter
+μ-loop n size rest₀ counter₀ rest counter = 18446744073709551615 - counter
 
 returns : tie.Need-returns Inv-loop μ-loop
 returns c = search needs
