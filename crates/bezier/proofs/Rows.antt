@@ -1,8 +1,7 @@
 -- The rows of each call, by the tests that its check makes, in their order. Assumes nothing.
 use Prim.Native.Nat.{ℕ, _*_, _≤_, _<_}
 use mathlib.Core.Path.{_≡_, sym, ap, _∙_, subst}
-use mathlib.Core.Bool.{Bool, true, false, not, _||_}
-use native.Mathlib.Omega.{arith}
+use mathlib.Core.Bool.{true, false, not, _||_}
 use borrow.Author.Tests.{lt-ltb, le-ltb, eq-eqb, ne-eqb, ltb-false}
 use lib.Dec.{ltb, eqb}
 use Rattle.geo.specs.declared.types.Point3D.{Point3D}

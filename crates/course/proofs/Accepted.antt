@@ -2,19 +2,18 @@
 use Prim.Native.Nat.{ℕ, _+_, _*_, _/_, _≤_, _<_}
 use mathlib.Core.Path.{_≡_, sym, ap, _∙_}
 use mathlib.Core.Bool.{true}
-use mathlib.Core.List.{List, _∷_, _++_}
+use mathlib.Core.List.{List}
 use native.Mathlib.Omega.{arith}
 use borrow.Author.Tests.{ltb-false, eqb-true, not-false, lt-ltb, le-ltb}
-use lib.ListN.{length, length-append}
+use lib.ListN.{length}
 use lib.Ieee.{Float}
 use Rattle.floats.specs.Ops.{_≺_, +0}
 use Rattle.geo.specs.declared.types.Point3D.{Point3D}
 use Rattle.geo.specs.declared.types.Command.{Command}
-use Rattle.geo.specs.declared.types.Command.the-variants.{Move}
 use Rattle.geo.specs.declared.types.Answer.the-variants.{Written}
 use Rattle.geo.specs.Outcome.{refusal}
 use Rattle.geo.specs.Commands.{WroteCommands}
-use Rattle.geo.specs.Lent.{flat, origin, numbersOf}
+use Rattle.geo.specs.Lent.{origin, numbersOf}
 use Rattle.geo.proofs.Rows.{row-passed}
 use Rattle.geo.proofs.Tolerance.{tolerance-positive}
 use Rattle.geo.proofs.Outcomes.{commands-given, nine}
@@ -25,8 +24,7 @@ use Rattle.fitting.specs.Commands.{chainFit}
 use Rattle.fitting.specs.Written.{FitPlaced, commandsOf, chainNoted}
 use Rattle.fitting.proofs.Writing.{commands-length}
 use Rattle.fitting.proofs.Chain.{chain-noted}
-use Rattle.course.specs.Parts.{closed, partsFrom, partFit, fitOf}
-use Rattle.course.specs.Course.{joined, partsOn, fitOn, mostOn, courseFit, courseMost, lentCourse, roomRows, arcsRows, arcsCall}
+use Rattle.course.specs.Course.{partsOn, fitOn, mostOn, courseFit, courseMost, lentCourse, roomRows, arcsRows, arcsCall}
 use Rattle.course.specs.Walks.{cap, notedOn}
 use Rattle.course.proofs.Count.{cap-passed, cap-over}
 use Rattle.course.proofs.Parts.{noted-few, parts-commands}

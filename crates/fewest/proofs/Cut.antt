@@ -11,12 +11,10 @@ use Rattle.floats.proofs.Order.{clash}
 use Rattle.geo.specs.declared.types.Command.{Command}
 use Rattle.geo.specs.Lent.{pointAt}
 use Rattle.circle.specs.declared.circle.Deviation.{Deviation}
-use Rattle.trial.specs.declared.trial.Trial.{Trial}
-use Rattle.trial.specs.declared.trial.Trial.the-variants.{Arc, None}
 use Rattle.simplify.specs.Measure.{lineSq}
 use Rattle.fitting.specs.Pieces.{lineDeviation, Piece, piecesIn}
 use Rattle.fitting.specs.Commands.{fitIn}
-use Rattle.fitting.specs.Laws.{Covers, WrittenAs, as-line, as-first, as-second, AllWritten, AllFail}
+use Rattle.fitting.specs.Laws.{Covers, WrittenAs, as-line, as-first, as-second, AllWritten}
 use Rattle.fitting.proofs.Pieces.{pieces-cover, pieces-written, cut-where-all-fail, uncut-elsewhere}
 use Rattle.fitting.proofs.Recursion.{farthest-inside}
 use Rattle.ways.specs.Way.{Way, NeighboursPass}

@@ -1,6 +1,6 @@
 -- What §10 says of the answer holds, whatever the points, the tolerance and the budget. Assumes nothing.
 use Prim.Native.Nat.{ℕ, _+_, _-_, _/_, _≤_}
-use mathlib.Core.Path.{_≡_, refl, sym, subst}
+use mathlib.Core.Path.{_≡_, refl, subst}
 use mathlib.Core.Bool.{true}
 use mathlib.Core.List.{List}
 use native.Mathlib.Omega.{arith}
@@ -10,7 +10,7 @@ use Rattle.floats.specs.Ops.{_≺_, +0}
 use Rattle.geo.specs.Outcome.{refusal, gives}
 use Rattle.geo.proofs.Rows.{unless-given}
 use Rattle.ways.specs.Way.{Way, Fewest, allPairs}
-use Rattle.ways.specs.Layers.{Best, fewest}
+use Rattle.ways.specs.Layers.{Best}
 use Rattle.ways.proofs.Laws.{answer-way, between, exact, bound-exact, tested-budget, tested-all, apart-spent}
 use Rattle.fewest.specs.Straights.{lastOf, passing, cutEnds, fewestOf}
 use Rattle.fewest.specs.Calls.{straightsRows, straightsCall}

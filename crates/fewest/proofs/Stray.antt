@@ -5,7 +5,7 @@ use mathlib.Core.Logic.{⊎-elim}
 use mathlib.Core.Bool.{true, false}
 use mathlib.Core.List.{List}
 use lib.Ieee.{Float, nan, inf, fin, isNan}
-use Rattle.floats.specs.Ops.{_≺_, _≼_}
+use Rattle.floats.specs.Ops.{_≼_}
 use Rattle.floats.specs.Root.{rootOf}
 use Rattle.floats.proofs.Order.{either, clash, le-below, le-right}
 use Rattle.geo.specs.declared.types.Point3D.{Point3D}
@@ -14,7 +14,6 @@ use Rattle.simplify.specs.declared.simplify.Chord.{Chord}
 use Rattle.simplify.specs.Measure.{chordOf, toLine, lineSq}
 use Rattle.simplify.specs.Search.{spreadOf, squareOfSpread}
 use Rattle.simplify.proofs.Search.{scaled-is}
-use Rattle.fitting.specs.Pieces.{lineDeviation}
 use Rattle.fitting.proofs.Between.{point-below}
 use Rattle.fewest.specs.Straights.{passing}
 

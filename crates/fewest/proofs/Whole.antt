@@ -1,7 +1,7 @@
 -- The code's answer is the answer. Assumes nothing.
 use Prim.Native.Nat.{ℕ, _+_, _-_, _/_, _*_, _≤_}
-use mathlib.Core.Path.{_≡_, refl, sym, ap, _∙_}
-use mathlib.Core.Bool.{true, false, not}
+use mathlib.Core.Path.{_≡_, refl, sym, _∙_}
+use mathlib.Core.Bool.{true, false}
 use mathlib.Core.List.{List, []}
 use native.Mathlib.Omega.{arith}
 use borrow.Author.Tests.{ltb-false, not-false}
@@ -10,7 +10,7 @@ use lib.Seq.{sets}
 use lib.Ieee.{Float}
 use Rattle.floats.specs.Ops.{_≺_, +0}
 use Rattle.geo.specs.Lent.{flat}
-use Rattle.geo.specs.Outcome.{refusal, unless, left, Placed}
+use Rattle.geo.specs.Outcome.{refusal, left, Placed}
 use Rattle.geo.proofs.Rows.{row-passed, unless-refused, unless-gives}
 use Rattle.geo.proofs.Flat.{flat-length}
 use Rattle.geo.proofs.Stores.{sets-front}
@@ -19,7 +19,6 @@ use Rattle.ways.specs.Layers.{State, arrived, back, found, bestOf, searched, fe
 use Rattle.ways.proofs.Walk.{searched-held}
 use Rattle.ways.proofs.Laws.{finished-below, back-length, answer-most}
 use Rattle.fewest.specs.declared.fewest.Counts.{Counts}
-use Rattle.fewest.specs.declared.fewest.Straights.{Straights}
 use Rattle.fewest.specs.declared.fewest.Straights.the-variants.{Are, Refused}
 use Rattle.fewest.specs.Straights.{lastOf, passing, cutEnds, fewestOf, numbersAt}
 use Rattle.fewest.specs.Calls.{straightsRows, straightsCall, straightsAnswer, endsGiven}

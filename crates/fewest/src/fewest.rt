@@ -20,7 +20,7 @@ ghost use lib.Seq.{sets};
 ghost use Rattle.floats.specs.Ops.{_≺_, +0};
 ghost use Rattle.geo.specs.Lent.{pointAt, flat};
 ghost use Rattle.geo.specs.Outcome.{refusal, left, Placed};
-ghost use Rattle.simplify.specs.Measure.{chordOf, lineSq};
+ghost use Rattle.simplify.specs.Measure.{chordOf};
 ghost use Rattle.ways.specs.Layers.{going, inOrder, tryPair, tryPoint, tryLayer, back};
 ghost use Rattle.fewest.specs.Straights.{passing, cutEnds, fewestOf, numbersAt};
 ghost use Rattle.fewest.specs.Calls.{straightsRows, straightsCall, straightsAnswer, endsGiven};

@@ -9,7 +9,7 @@ use borrow.Author.Tests.{ltb-true, ltb-false, lt-ltb, le-ltb, le-leb, lt-leb, no
 use lib.ListN.{length}
 use lib.Dec.{ltb, leb}
 use lib.Seq.{sets}
-use lib.Ieee.{Float, below}
+use lib.Ieee.{Float}
 use Rattle.floats.specs.Ops.{_≺_, +0}
 use Rattle.floats.proofs.Order.{lt-or-ge}
 use Rattle.geo.specs.declared.types.Point.{Point}

@@ -1,5 +1,5 @@
 -- The ranges that a fit of all points examines, by its pieces. Assumes nothing.
-use Prim.Native.Nat.{ℕ, zero, suc, _+_, _-_, _*_, _/_, _≤_, _<_}
+use Prim.Native.Nat.{ℕ, _+_, _-_, _*_, _/_, _≤_, _<_}
 use mathlib.Core.Path.{_≡_, refl, sym, ap, _∙_}
 use mathlib.Core.Logic.{⊎-elim}
 use mathlib.Core.Bool.{true}
@@ -13,14 +13,13 @@ use Rattle.geo.specs.declared.types.Command.{Command}
 use Rattle.geo.specs.declared.types.Answer.{Answer}
 use Rattle.geo.specs.declared.types.Answer.the-variants as counted
 use Rattle.geo.specs.Lent.{pointAt}
-use Rattle.geo.specs.Outcome.{Outcome, refused, gives, refusal, unless, answer}
+use Rattle.geo.specs.Outcome.{Outcome, refused, gives, refusal, answer}
 use Rattle.geo.proofs.Rows.{unless-given}
-use Rattle.fitting.specs.declared.fitting.Primitives.{Primitives}
 use Rattle.fitting.specs.declared.fitting.Primitives.the-variants.{Fitted, Refused}
-use Rattle.fitting.specs.Pieces.{pointsRule, piecesBy, piecesIn, rangesBy, rangesIn}
+use Rattle.fitting.specs.Pieces.{pointsRule, piecesBy, piecesIn, rangesBy}
 use Rattle.fitting.specs.Commands.{pieceCommand, fitIn}
 use Rattle.fitting.specs.Calls.{fitRows, fitCall, primitivesCall, examined, primitivesAnswer}
-use Rattle.fitting.specs.Examined.{piecesOf, RangesOf, RangesExamined}
+use Rattle.fitting.specs.Examined.{piecesOf, RangesExamined}
 use Rattle.fitting.proofs.Recursion.{pieces-length}
 use Rattle.fitting.proofs.Pieces.{ranges-examined}
 use Rattle.fitting.proofs.Accepted.{fit-accepted}

@@ -4,19 +4,18 @@ use Prim.Native.Nat.{ℕ, zero, suc, _+_, _-_, _*_, _/_, _≤_, _<_}
 use mathlib.Core.Path.{_≡_, refl, sym, ap, _∙_, subst}
 use mathlib.Core.Logic.{_⊎_, inl, inr, ⊎-elim}
 use mathlib.Core.Bool.{Bool, true}
-use mathlib.Core.List.{List, [], _∷_}
+use mathlib.Core.List.{List, _∷_}
 use native.Mathlib.Omega.{arith}
 use lib.ListN.{length}
 use lib.Ieee.{Float, lt, ofBits}
 use Rattle.floats.specs.Ops.{_⊕_, _≺_, +0}
-use Rattle.floats.specs.Root.{rootOf}
 use Rattle.floats.proofs.Order.{either, lt-trans}
 use Rattle.geo.specs.declared.types.Point.{Point}
 use Rattle.geo.specs.declared.types.Point3D.{Point3D}
 use Rattle.geo.specs.Vector.{flatten}
 use Rattle.geo.specs.Lent.{pair, triple, flat, pairAt, pointAt}
 use Rattle.geo.specs.Walk.{fold, listFrom}
-use Rattle.geo.specs.Outcome.{gives, unless, refusal}
+use Rattle.geo.specs.Outcome.{gives, refusal}
 use Rattle.geo.proofs.Walk.{list-length}
 use Rattle.geo.proofs.Flat.{flat-length}
 use Rattle.geo.proofs.Rows.{unless-given}

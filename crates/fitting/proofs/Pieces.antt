@@ -7,7 +7,7 @@ use mathlib.Core.List.{List, [], _∷_, _++_, map}
 use native.Mathlib.Omega.{arith}
 use borrow.Author.Tests.{lt-ltb, le-ltb, le-leb, lt-leb}
 use lib.ListN.{length, length-append}
-use lib.Ieee.{Float, lt, neg}
+use lib.Ieee.{Float, neg}
 use Rattle.floats.specs.Ops.{_⊖_, _≺_, if_then_else_, +0, one}
 use Rattle.floats.proofs.Order.{either, lt-or-ge}
 use Rattle.geo.specs.declared.types.Point.{Point}

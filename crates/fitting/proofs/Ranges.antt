@@ -3,7 +3,7 @@ use Prim.Native.Nat.{ℕ, zero, suc, _+_, _-_, _*_, _≤_, _<_}
 use mathlib.Core.Path.{_≡_, refl, sym, ap, _∙_, subst}
 use mathlib.Core.Logic.{⊎-elim}
 use mathlib.Core.Bool.{Bool, true, false}
-use mathlib.Core.List.{List, [], _∷_, _++_, map, map-append, append-assoc, append-nil}
+use mathlib.Core.List.{List, [], _∷_, _++_, map, append-assoc, append-nil}
 use native.Mathlib.Omega.{arith}
 use lib.ListN.{length, getD, set}
 use lib.Seq.{getD-set-same, getD-set-other}
@@ -13,7 +13,6 @@ use Rattle.floats.proofs.Order.{either}
 use Rattle.geo.specs.declared.types.Point.{Point}
 use Rattle.geo.specs.declared.types.Point3D.{Point3D}
 use Rattle.geo.specs.declared.types.Command.{Command}
-use Rattle.circle.specs.declared.circle.Deviation.{Deviation}
 use Rattle.trial.specs.declared.trial.Trial.{Trial}
 use Rattle.trial.specs.declared.trial.Trial.the-variants.{Arc, None}
 use Rattle.trial.specs.Trial.{tryArcs}
@@ -23,7 +22,7 @@ use Rattle.fitting.specs.declared.fitting.Stand.{Stand}
 use Rattle.fitting.specs.declared.fitting.Tested.{Tested}
 use Rattle.fitting.specs.Pieces.{distance, lineDeviation, Shape, line, arc, Piece, Choice, whole, cutAt, counted, arcOrCut, chooseBy, choice, follow, piecesBy, piecesIn}
 use Rattle.fitting.specs.Commands.{shaped, pieceCommand, worstStep, pieceWorst}
-use Rattle.fitting.specs.Written.{Noted, noted, noteBy, pieceNoted, notedIn, NotedPlaced}
+use Rattle.fitting.specs.Written.{noted, noteBy, pieceNoted, notedIn, NotedPlaced}
 use Rattle.fitting.specs.Ranges.{lineTested, behind, leftIn, stepNoted, stepEnds, nextFrom, stepStand, Ascend, Stands, Looked}
 use Rattle.fitting.proofs.Recursion.{farthest-inside, Inside, inside, pieces-follow}
 use Rattle.fitting.proofs.Writing.{none-noted, Progress, progress-start, progress-step}

@@ -2,7 +2,6 @@
 use Prim.Native.Nat.{ℕ, zero, suc, _+_, _-_, _/_, _≤_, _<_}
 use mathlib.Core.Path.{_≡_, refl, sym, ap, _∙_, subst}
 use mathlib.Core.Logic.{⊎-elim}
-use mathlib.Core.Bool.{Bool, true}
 use mathlib.Core.List.{List, [], _∷_, map}
 use native.Mathlib.Omega.{arith}
 use lib.ListN.{length}
@@ -18,10 +17,10 @@ use Rattle.geo.proofs.Rows.{unless-given}
 use Rattle.circle.specs.declared.circle.Deviation.{Deviation}
 use Rattle.circle.specs.Worst.{worse, worst}
 use Rattle.circle.specs.Three.{radiusFrom}
-use Rattle.trial.specs.Deviation.{stepBetween, arcDeviation}
+use Rattle.trial.specs.Deviation.{arcDeviation}
 use Rattle.simplify.specs.declared.simplify.Farthest.{Farthest}
 use Rattle.simplify.specs.Farthest.{farther, farthestOf}
-use Rattle.simplify.specs.Words.{NoneAbove, FirstAbove}
+use Rattle.simplify.specs.Words.{FirstAbove}
 use Rattle.simplify.proofs.First.{found}
 use Rattle.fitting.specs.Pieces.{pointsRule, Shape, line, arc, Piece, piecesBy, piecesIn}
 use Rattle.fitting.specs.Commands.{shaped, pieceCommand, fitIn, worstStep, pieceWorst, worstIn}

@@ -1,14 +1,14 @@
 -- Laps that all have their Move are fitted, counted and tested as before they could lack it. Assumes nothing.
 use Prim.Native.Nat.{ℕ, zero, suc}
-use mathlib.Core.Path.{_≡_, refl, sym, ap, _∙_}
-use mathlib.Core.Bool.{Bool, true, false, not, _||_, cond}
-use mathlib.Core.List.{List, [], _∷_, map}
+use mathlib.Core.Path.{_≡_, refl}
+use mathlib.Core.Bool.{Bool, true, false, not, _||_}
+use mathlib.Core.List.{List, [], _∷_}
 use lib.ListN.{getD}
 use lib.Ieee.{Float}
 use Rattle.geo.specs.declared.types.Point3D.{Point3D}
 use Rattle.geo.specs.Lent.{origin}
 use Rattle.fitting.specs.Pieces.{lapsRule}
-use Rattle.laps.specs.File.{Lap, lacks, formOk, lapOk, lapTested, lapsOk}
+use Rattle.laps.specs.File.{Lap, lacks, formOk, lapTested, lapsOk}
 use Rattle.lap_fit.specs.Fit.{lapEnd, fitLap, fitLaps, mostLap, lapsMost}
 use Rattle.lap_fit.proofs.Starts.{start-not-asked, most-start-not-asked}
 use Rattle.lap_replace.specs.Replace.{nextLacks}

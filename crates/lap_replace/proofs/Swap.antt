@@ -6,7 +6,7 @@ use mathlib.Core.List.{List, [], _∷_, _++_}
 use native.Mathlib.Nat.{zero-add}
 use native.Mathlib.Omega.{arith}
 use borrow.Author.Tests.{eq-eqb, ne-eqb, eqb-true, eqb-false}
-use lib.ListN.{length, drop, set, length-set}
+use lib.ListN.{length, drop, set}
 use lib.Seq.{sets}
 use lib.Dec.{eqb}
 use Rattle.file.specs.Bytes.{u32Bytes}

@@ -11,9 +11,9 @@ use Rattle.floats.specs.Ops.{_≺_, +0}
 use Rattle.floats.proofs.Order.{lt-or-ge}
 use Rattle.geo.specs.declared.types.Command.{Command}
 use Rattle.geo.specs.Domain.{tolerance}
-use Rattle.geo.specs.Outcome.{refusal, Outcome, refused, gives, unless}
+use Rattle.geo.specs.Outcome.{refusal, gives}
 use Rattle.geo.specs.declared.types.Point3D.{Point3D}
-use Rattle.geo.specs.Lent.{origin, kindOf, flat}
+use Rattle.geo.specs.Lent.{origin, kindOf}
 use Rattle.geo.proofs.Rows.{refusal-front, unless-gives, unless-given}
 use Rattle.geo.proofs.Tolerance.{tolerance-positive}
 use Rattle.file.specs.Command.{decoded, enc}

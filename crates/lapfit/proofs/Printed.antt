@@ -1,21 +1,16 @@
 -- What the program prints, by what `list_input` answers: the listing, or the line of a refusal, whose number is at most 9. Assumes nothing.
 use Prim.Native.Nat.{ℕ, zero, suc, _≤_}
-use mathlib.Core.Path.{_≡_, sym, ap, _∙_, subst}
+use mathlib.Core.Path.{_≡_, subst}
 use mathlib.Core.Bool.{Bool, true, false}
 use mathlib.Core.List.{List, _++_}
 use native.Mathlib.Omega.{arith}
 use lib.ListN.{length, drop}
 use lib.Dec.{ltb}
 use Rattle.floats.specs.Ops.{if_then_else_}
-use Rattle.geo.specs.declared.types.Answer.{Answer}
-use Rattle.geo.specs.declared.types.Answer.the-variants.{Written, Refused}
-use Rattle.geo.specs.Outcome.{refusal, Outcome, refused, gives, unless, answer, left, Wrote}
-use Rattle.geo.proofs.Stores.{sets-front}
+use Rattle.geo.specs.Outcome.{refusal, Outcome, refused, unless}
 use Rattle.file.specs.Bytes.{numberAt}
-use Rattle.lap_rows.specs.Listing.{refusalText, mostText, textRows, listFile}
-use Rattle.lap_rows.specs.Left.{TextPut}
+use Rattle.lap_rows.specs.Listing.{mostText, textRows, listFile}
 use Rattle.lap_rows.proofs.Rows.{text-number}
-use Rattle.lap_rows.proofs.Text.{refused-length}
 use Rattle.printing.proofs.Printed.{Prints}
 use Rattle.lapfit.specs.Input.{listInput, lapfitText}
 

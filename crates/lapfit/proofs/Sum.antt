@@ -1,6 +1,6 @@
 -- The sum under the listing, in the bytes that are printed: the theorems of `specs/Sum.antt`. Assumes nothing.
 use Prim.Native.Nat.{ℕ, zero, suc, _+_, _/_, _%_, _≤_}
-use mathlib.Core.Path.{_≡_, refl, sym, ap, _∙_, subst}
+use mathlib.Core.Path.{_≡_, refl, sym, ap, _∙_}
 use mathlib.Core.Logic.{⊎-elim}
 use mathlib.Core.Bool.{Bool, true, false}
 use mathlib.Core.List.{List, [], _∷_, _++_, map, map-append, append-assoc}
@@ -20,7 +20,7 @@ use Rattle.listing.proofs.Columns.{steps-append}
 use Rattle.listing.proofs.Laws.{sum-append}
 use Rattle.laps.specs.File.{Lap, lapsOf}
 use Rattle.lap_rows.specs.Listing.{ascii, digitsBy, decimal, comma, newline, rowText, rowsText, lapRows, lapText, lapsText, lapsSteps, header, totalText, listText, refusalText, mostText, listFile}
-use Rattle.lap_rows.specs.Demand.{spelled, allRows}
+use Rattle.lap_rows.specs.Demand.{allRows}
 use Rattle.geo.specs.declared.types.Point3D.{Point3D}
 use Rattle.geo.specs.Lent.{origin}
 use Rattle.lap_fit.specs.Fit.{lapEnd}

@@ -1,12 +1,12 @@
 -- The rows of the public calls: what each test of the code tells of a row, and what a call has that passes them. Assumes nothing.
 use Prim.Native.Nat.{ℕ, _*_, _/_, _%_, _≤_, _<_}
 use mathlib.Core.Path.{_≡_, refl, sym, ap, _∙_, subst}
-use mathlib.Core.Bool.{Bool, true, false, not, _||_}
+use mathlib.Core.Bool.{Bool, true, false, not}
 use mathlib.Core.List.{List, [], _++_}
 use native.Mathlib.Omega.{arith}
 use borrow.Author.Tests.{eq-eqb, ne-eqb, eqb-true, eqb-false, not-false, lt-ltb, le-ltb, ltb-false}
 use lib.ListN.{length, drop}
-use lib.Dec.{T, eqb, ltb}
+use lib.Dec.{eqb, ltb}
 use Rattle.geo.specs.declared.types.Answer.the-variants.{Written}
 use Rattle.geo.specs.Outcome.{Row, refusal, unless, answer, left, Wrote}
 use Rattle.geo.proofs.Rows.{row-fails, row-passes, row-passed, refusal-front, done, unless-gives}

@@ -1,13 +1,13 @@
 -- One turn of each walk over a file: a lap's commands, the laps, the table. Assumes nothing.
 use Prim.Native.Nat.{ℕ, zero, suc, _+_, _-_, _*_, _≤_, _<_}
-use mathlib.Core.Path.{_≡_, refl, sym, ap, _∙_, subst}
+use mathlib.Core.Path.{_≡_, refl, sym, ap, _∙_}
 use mathlib.Core.Bool.{Bool, true, false, cond, not, _||_}
 use mathlib.Core.List.{List}
 use native.Mathlib.Omega.{arith}
 use borrow.Author.Tests.{eq-eqb, ne-eqb, lt-ltb, le-ltb, ltb-false}
 use lib.ListN.{length, getD, take, drop}
 use lib.Seq.{drop-cons}
-use lib.Dec.{T, eqb, ltb}
+use lib.Dec.{eqb, ltb}
 use Rattle.floats.proofs.Order.{or-false}
 use Rattle.file.specs.Command.{commandsAt}
 use Rattle.laps.specs.File.{lapCount, offsetAt, countAt, lapsAt, hasMark, walk, tableOk, lacks, lapOk, lapTested, lapsOk, short, big}

@@ -1,20 +1,14 @@
 -- What the program prints, by what `read_course` answers: the file, or the line of a refusal, whose number is at most 14. Assumes nothing.
 use Prim.Native.Nat.{ℕ, _≤_}
-use mathlib.Core.Path.{_≡_, sym, ap, _∙_, subst}
+use mathlib.Core.Path.{_≡_, subst}
 use mathlib.Core.Bool.{Bool, true, false, not, _||_}
 use mathlib.Core.List.{List, [], _∷_, _++_}
 use native.Mathlib.Omega.{arith}
 use lib.ListN.{length, drop}
 use lib.Dec.{ltb}
 use Rattle.floats.specs.Ops.{if_then_else_}
-use Rattle.geo.specs.declared.types.Answer.{Answer}
-use Rattle.geo.specs.declared.types.Answer.the-variants.{Written, Refused}
-use Rattle.geo.specs.Outcome.{row, refusal, Outcome, refused, gives, unless, answer, left, Wrote}
-use Rattle.geo.proofs.Stores.{sets-front}
+use Rattle.geo.specs.Outcome.{row, refusal, Outcome, refused, gives, unless}
 use Rattle.laps.specs.Rows.{fileSize}
-use Rattle.lap_rows.specs.Listing.{refusalText}
-use Rattle.lap_rows.specs.Left.{TextPut}
-use Rattle.lap_rows.proofs.Text.{refused-length}
 use Rattle.svg_text.specs.Path.{Drawn, named}
 use Rattle.svg.specs.Course.{lapsDrawn, courseFile, allIn, readRows, made, readCourse}
 use Rattle.svg.proofs.Checking.{Only14, named-14}

@@ -21,7 +21,7 @@ use Rattle.course.specs.Course.{partsOn}
 use Rattle.course.specs.Demand.{thinnedAt, chainPieces}
 use Rattle.course.specs.Walks.{partNoted, notedOf, notedOn}
 use Rattle.course.proofs.Accepted.{course-commands}
-use Rattle.listing.specs.Rows.{keptRow, pieceRow, chainRows, partRows, rowsOf, rowsOn, kindsOf, stepsIn}
+use Rattle.listing.specs.Rows.{pieceRow, chainRows, partRows, rowsOf, rowsOn, kindsOf, stepsIn}
 use Rattle.listing.specs.Placed.{RowsPlaced}
 use Rattle.listing.proofs.Columns.{steps-append, kinds-length}
 use Rattle.listing.proofs.Laws.{course-kinds}

@@ -1,15 +1,15 @@
 -- How many points a state has after a call, and how many ends a call hands out at most. Assumes nothing.
 use Prim.Native.Nat.{ℕ, zero, suc, _+_, _-_, _≤_, _<_}
-use mathlib.Core.Path.{_≡_, sym}
+use mathlib.Core.Path.{_≡_}
 use mathlib.Core.Logic.{⊎-elim}
-use mathlib.Core.Bool.{Bool, true, false, _||_}
+use mathlib.Core.Bool.{true, _||_}
 use mathlib.Core.List.{[]}
 use native.Mathlib.Omega.{arith}
 use borrow.Author.Tests.{ltb-true, lt-ltb}
 use lib.ListN.{length, length-append}
 use lib.Dec.{ltb}
 use lib.Ieee.{Float}
-use Rattle.floats.proofs.Order.{either, clash, and-left, or-right}
+use Rattle.floats.proofs.Order.{either, and-left, or-right}
 use Rattle.geo.specs.declared.types.Point3D.{Point3D}
 use Rattle.live.specs.declared.live.Live.{Live}
 use Rattle.live.specs.Thinner.{slotCount, slot, behind, cutting, goesOn, push, feedAgain, anchored, forgotten, retuned}

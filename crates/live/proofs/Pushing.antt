@@ -7,7 +7,7 @@ use native.Mathlib.Omega.{arith}
 use borrow.Author.Tests.{ltb-false, lt-ltb, le-ltb}
 use lib.Dec.{ltb}
 use Rattle.floats.specs.Ops.{_≺_}
-use Rattle.floats.proofs.Order.{lt-or-ge, clash, or-false}
+use Rattle.floats.proofs.Order.{lt-or-ge, or-false}
 use Rattle.geo.specs.declared.types.Point3D.{Point3D}
 use Rattle.simplify.specs.Measure.{lineSq}
 use Rattle.fitting.specs.Pieces.{lineDeviation}

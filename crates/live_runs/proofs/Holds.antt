@@ -13,7 +13,7 @@ use lib.Dec.{ltb}
 use lib.Ieee.{Float}
 use Rattle.floats.specs.Ops.{_≺_}
 use Rattle.floats.specs.Root.{rootOf}
-use Rattle.floats.proofs.Order.{either, clash, and-right, or-false, or-right}
+use Rattle.floats.proofs.Order.{either, and-right, or-false, or-right}
 use Rattle.geo.specs.declared.types.Point3D.{Point3D}
 use Rattle.geo.specs.Lent.{pointAt}
 use Rattle.geo.specs.Domain.{point3In}

@@ -2,7 +2,7 @@
 use Prim.Native.Nat.{ℕ, zero, suc, _+_, _-_, _*_, _≤_, _<_}
 use mathlib.Core.Path.{_≡_, refl, sym, ap, _∙_, subst}
 use mathlib.Core.Logic.{⊎-elim}
-use mathlib.Core.Bool.{Bool, true, false, _||_}
+use mathlib.Core.Bool.{true, _||_}
 use mathlib.Core.List.{List}
 use native.Mathlib.Omega.{arith}
 use native.Mathlib.Nat.{eq-or-lt-of-le}
@@ -13,7 +13,7 @@ use lib.Dec.{ltb, eqb}
 use lib.Ieee.{Float, nan, ofBits, le}
 use Rattle.floats.specs.Ops.{_≺_, +0}
 use Rattle.floats.specs.Float.{absOf}
-use Rattle.floats.proofs.Order.{either, clash, and-right, or-false, or-right}
+use Rattle.floats.proofs.Order.{either, and-right, or-false, or-right}
 use Rattle.geo.specs.declared.types.Point3D.{Point3D}
 use Rattle.geo.specs.Lent.{pointAt}
 use Rattle.geo.specs.Domain.{coordinate, everyFrom, numbersIn, point3In}

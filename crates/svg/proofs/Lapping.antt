@@ -15,7 +15,7 @@ use Rattle.geo.proofs.Stores.{sets-append}
 use Rattle.file.specs.Command.{enc}
 use Rattle.file.proofs.Stores.{length-enc}
 use Rattle.laps.specs.File.{body}
-use Rattle.svg_text.specs.Path.{Drawn, move, line, curve, read, space, letterM, command, bad, thenRest, others}
+use Rattle.svg_text.specs.Path.{Drawn, move, line, curve, space, letterM, command, bad, thenRest, others}
 use Rattle.svg_text.specs.Drawing.{drawn}
 use Rattle.svg_text.specs.Spelling.{Spelled, spelledM, spelledL, spelledC, spellCommand, meaning}
 use Rattle.svg_text.proofs.Spelled.{no-reading, no-text, value-of, rest-of, followed, command-means}

@@ -2,7 +2,7 @@
 -- smaller one is not above twice that of a larger one, since rounding keeps the order and gives back a number that the format holds. Assumes nothing.
 use mathlib.Core.Path.{_≡_, refl, sym, _∙_, subst}
 use mathlib.Core.Logic.{⊎-elim}
-use mathlib.Core.Bool.{Bool, true, false, _&&_, _||_}
+use mathlib.Core.Bool.{true, false, _&&_, _||_}
 use Prim.Native.Nat.{ℕ, _*_, _^_, _≤_, _<_}
 use native.Mathlib.Nat.{one-mul, two-mul, add-mul, eq-or-lt-of-le}
 use native.Mathlib.Omega.{arith}

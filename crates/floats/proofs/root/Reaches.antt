@@ -2,7 +2,7 @@
 -- it would be at most the exact square, and so at most the rounded one; and the root of a zero is a zero. Assumes nothing.
 use mathlib.Core.Path.{_≡_, refl, sym, ap, _∙_, subst}
 use mathlib.Core.Logic.{_⊎_, inl, inr, ⊎-elim}
-use mathlib.Core.Bool.{Bool, true, false, _&&_, _||_}
+use mathlib.Core.Bool.{Bool, true, false}
 use Prim.Native.Nat.{ℕ, zero, suc, _+_, _*_, _/_, _^_, _≤_, _<_}
 use native.Mathlib.Nat.{le-trans, le-of-eq, mul-assoc, mul-le-mul, mul-le-mul-right, mul-pos, add-mul, mul-add, zero-mul, mul-div-cancel}
 use native.Mathlib.Omega.{arith}
@@ -17,7 +17,7 @@ use lib.Ieee.Exact.{HasValue, round-exact}
 use lib.Ieee.Order.{le-of-values, round-mono}
 use lib.Ieee.Positive.{positive, mul-at, first-pos}
 use Rattle.floats.specs.Ops.{_⊗_, _≺_, +0}
-use Rattle.floats.specs.Root.{rootOf, rootFrom, inUnits, plain, squared}
+use Rattle.floats.specs.Root.{rootOf, inUnits, plain}
 use Rattle.floats.proofs.Order.{clash, lt-or-ge, lt-gap, and-left, le-below}
 use Rattle.floats.proofs.Unsigned.{Unsigned, plus-number, square-unsigned, not-above, round-plus}
 use Rattle.floats.proofs.root.Read.{units-of-value}

@@ -1,5 +1,4 @@
 -- `course::course::course_end` meets its contract: the start where there is no command, else the end of the last one. Assumes nothing.
-use native.Mathlib.Omega.{arith}
 use Rattle.course.proofs.Start.{end-nothing, end-last}
 use borrow.Author.Needs.{needs}
 use Rattle.course.proofs.course.course_end.Statement.{statement}

@@ -2,8 +2,6 @@
 use Prim.Native.Nat.{_<_, _-_, ℕ}
 use mathlib.Core.Path.{refl, _∙_}
 use native.Mathlib.Omega.{arith}
-use borrow.Author.Needs.{needs}
-use lib.Seq.{length-sets}
 use Rattle.geo.proofs.Placed.{placed-one, placed-both}
 use Rattle.fewest.specs.Straights.{numbersAt}
 use Rattle.fewest.proofs.Cut.{passing-inside, cut-most, cut-none, cut-two}

@@ -1,7 +1,6 @@
 -- `fewest::fewest::fewest_straights` meets its contract: a refusal is the table's; what passed it is what `find` asks. Assumes nothing.
 use mathlib.Core.Path.{refl}
 use lib.ListN.{length}
-use native.Mathlib.Omega.{arith}
 use Rattle.fewest.proofs.Whole.{accepted, call-refused, call-given}
 use borrow.Author.Needs.{needs}
 use Rattle.fewest.proofs.fewest.fewest_straights.Statement.{statement}

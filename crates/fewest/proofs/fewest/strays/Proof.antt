@@ -1,6 +1,5 @@
 -- `fewest::fewest::strays` meets its contract: a point of the range whose root reaches the tolerance lies strictly between, and so the Line does not pass. The measure is how many are left. Assumes nothing.
 use Prim.Native.Nat.{_-_, _<_}
-use mathlib.Core.Path.{_≡_, refl}
 use native.Mathlib.Omega.{arith}
 use borrow.Author.Needs.{needs}
 use Rattle.floats.proofs.Order.{clash}

@@ -1,7 +1,6 @@
 -- `fewest::fewest::trace` meets its contract: the ends from the k-th on are written, and the parents before lead to the rest; the measure is k. Assumes nothing.
-use mathlib.Core.Path.{_≡_, sym, subst}
 use mathlib.Core.List.{[]}
-use Prim.Native.Nat.{ℕ, _-_, _≤_}
+use Prim.Native.Nat.{_-_, _≤_}
 use native.Mathlib.Omega.{arith}
 use borrow.Author.Needs.{needs}
 use Rattle.ways.specs.Layers.{back}

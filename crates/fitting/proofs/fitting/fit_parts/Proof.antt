@@ -1,6 +1,6 @@
 -- `fitting::fitting::fit_parts` meets its contract. The invariant: what is written and what is left are the commands of all pieces. The measure is what is left of the range, and within that the part
 -- that is looked at. Assumes nothing.
-use Prim.Native.Nat.{_+_, _-_, _*_, _≤_}
+use Prim.Native.Nat.{_+_, _-_, _*_}
 use mathlib.Core.Path.{_≡_, refl, sym, _∙_, subst}
 use native.Mathlib.Omega.{arith}
 use lib.ListN.{length}

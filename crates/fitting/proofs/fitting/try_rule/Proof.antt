@@ -1,6 +1,5 @@
 -- `fitting::fitting::try_rule` meets its contract: what `try_arcs` promises, where arcs are tried. Assumes nothing.
 use borrow.Author.Needs.{needs}
-use mathlib.Core.Path.{_≡_}
 use Rattle.fitting.proofs.fitting.try_rule.Statement.{statement}
 use Rattle.fitting.proofs.fitting.try_rule.Tie as tie
 

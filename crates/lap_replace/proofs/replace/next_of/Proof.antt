@@ -1,8 +1,7 @@
 -- `lap_replace::replace::next_of` meets its contract: by the entry of the table behind lap k. Assumes nothing.
-use Prim.Native.Nat.{_<_}
-use mathlib.Core.Path.{_≡_, sym, ap, _∙_}
+use mathlib.Core.Path.{sym, ap, _∙_}
 use native.Mathlib.Omega.{arith}
-use Rattle.laps.specs.File.{lapCount, lacks}
+use Rattle.laps.specs.File.{lacks}
 use Rattle.lap_replace.proofs.Next.{lap-at, table-fits, next-not, next-end, next-is}
 use borrow.Author.Needs.{needs}
 use Rattle.lap_replace.proofs.replace.next_of.Statement.{statement}

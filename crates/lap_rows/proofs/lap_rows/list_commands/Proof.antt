@@ -2,7 +2,6 @@
 use mathlib.Core.Path.{refl, sym, ap}
 use native.Mathlib.Omega.{arith}
 use Rattle.fitting.specs.Pieces.{lapsRule}
-use Rattle.course.specs.Course.{lentCourse}
 use Rattle.listing.specs.Rows.{rowsOn}
 use Rattle.listing.proofs.Noted.{rows-placed}
 use Rattle.lap_fit.proofs.Arrays.{long-kinds, long-numbers, read-back, most-read}

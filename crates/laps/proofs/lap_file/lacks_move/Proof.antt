@@ -1,6 +1,4 @@
 -- `laps::lap_file::lacks_move` meets its contract: by the first byte of the lap. Assumes nothing.
-use mathlib.Core.Path.{_∙_}
-use native.Mathlib.Omega.{arith}
 use Rattle.laps.proofs.Walks.{lacks-none, lacks-first}
 use borrow.Author.Needs.{needs}
 use Rattle.laps.proofs.lap_file.lacks_move.Statement.{statement}

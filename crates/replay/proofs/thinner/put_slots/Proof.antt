@@ -1,5 +1,5 @@
 -- `replay::thinner::put_slots` meets its contract: the slots are as many as there is room for. The measure is how many are left. Assumes nothing.
-use Prim.Native.Nat.{_-_, _≤_}
+use Prim.Native.Nat.{_-_}
 use mathlib.Core.Path.{_≡_}
 use native.Mathlib.Omega.{arith}
 use borrow.Author.Needs.{needs}

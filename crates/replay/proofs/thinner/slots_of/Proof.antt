@@ -1,7 +1,5 @@
 -- `replay::thinner::slots_of` meets its contract: the numbers reach as far as the slots. The measure is how many are left. Assumes nothing.
 use Prim.Native.Nat.{_-_, _≤_}
-use mathlib.Core.Path.{_≡_}
-use native.Mathlib.Omega.{arith}
 use borrow.Author.Needs.{needs}
 use lib.ListN.{length}
 use Rattle.replay.proofs.thinner.slots_of.Statement.{statement}

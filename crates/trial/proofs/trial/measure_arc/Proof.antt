@@ -8,7 +8,6 @@ use lib.Ieee.{Float, lt}
 use Rattle.geo.specs.Lent.{pointAt}
 use Rattle.geo.specs.Walk.{fold}
 use Rattle.geo.proofs.Walk.{fold-turn, fold-done}
-use Rattle.circle.specs.declared.circle.Deviation.{Deviation}
 use Rattle.circle.specs.Worst.{worse, worst as worstOf}
 use Rattle.circle.specs.Three.{radiusFrom}
 use Rattle.trial.specs.Deviation.{spokeOf, stepBetween, arcDeviation}
