@@ -218,7 +218,7 @@ module _ (s f : List ℕ) (tol : Float) (k : ℕ) (ks : List ℕ) (ns : List Flo
   passes-7 = let h = w .first in rw (ne-eqb k 0 (λ z. omega arith), le-ltb (lapCount s) k (w .last))
 
   passed : NewPassed s f k (lentNew tol (lapsOf s) k ks ns) tol
-  passed = record { p1 = passes-1; p2 = passes-2; p3 = passes-3; p4 = passes-4; p5 = passes-5; p6 = old .passed .within; p7 = passes-7 }
+  passed = record { p1 = passes-1; p2 = passes-2; p3 = passes-3; counted = refl; p4 = passes-4; p5 = passes-5; p6 = old .passed .within; p7 = passes-7 }
 
   -- ---- its most is no more than the fresh fit's
   at-most : k ≤ length (lapsOf s)

@@ -84,7 +84,7 @@ pub next-not : (s : List ℕ) (k : ℕ) → lacks (getD (lapsOf s) k []) ≡ fal
 unfolding nextLap nextLacks commandsAt
 next-not s k e = rw e (refl, refl)
 
-pub next-end : (s : List ℕ) (k : ℕ) → k ≡ lapCount s → lacks (getD (lapsOf s) k []) ≡ false
+pub next-end : (s : List ℕ) (k : ℕ) → lapCount s ≤ k → lacks (getD (lapsOf s) k []) ≡ false
 unfolding lacks
 next-end s k e = let n = length-laps-of s in rw (past-end (lapsOf s) k (omega arith))
 
