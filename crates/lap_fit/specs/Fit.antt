@@ -9,7 +9,7 @@ use Rattle.geo.specs.Domain.{tolerance}
 use Rattle.geo.specs.Outcome.{Row, row, refusal, Outcome, unless}
 use Rattle.file.specs.Command.{decoded, enc}
 use Rattle.fitting.specs.declared.fitting.Rule.{Rule}
-use Rattle.fitting.specs.Pieces.{lapsRule}
+use Rattle.fitting.specs.Pieces.{lapsRule, hillsRule}
 use Rattle.course.specs.Course.{fitOn, mostOn, endOn, lentCourse}
 use Rattle.laps.specs.File.{Lap, lapCount, lapsOf, encode}
 use Rattle.laps.specs.Rows.{fileRows, sizeRows}
@@ -60,3 +60,7 @@ fitFileBy r s room = unless (refusal (fileFitRows s (r .tolerance) room)) (encod
 -- "The fit of a file is `fit_arcs` of each lap under a new table"
 abbrev pub fitFile : List ℕ → Float → ℕ → Outcome (List ℕ)
 fitFile s tol room = fitFileBy (lapsRule tol) s room
+
+-- "Add a lap fit that makes no new Arcs [..], keeps recorded ones, and whose thinning and line test use x, y and z" (document 02, §14): the same refusals, mosts and layout
+abbrev pub hillFile : List ℕ → Float → ℕ → Outcome (List ℕ)
+hillFile s tol room = fitFileBy (hillsRule tol) s room

@@ -30,7 +30,7 @@ ghost use Rattle.course.specs.Walks.{cap};
 ghost use Rattle.laps.specs.File.{lapCount, lapsOf, encode, tableOk, PutLap};
 ghost use Rattle.laps.specs.Rows.{fileSize};
 ghost use Rattle.geo.specs.Lent.{origin};
-ghost use Rattle.lap_fit.specs.Fit.{lapEnd, fitLap, fitLaps, mostLap, lapsMost, fitNew, fileFitRows, fitFileBy, fitFile};
+ghost use Rattle.lap_fit.specs.Fit.{lapEnd, fitLap, fitLaps, mostLap, lapsMost, fitNew, fileFitRows, fitFileBy, fitFile, hillFile};
 
 // Where the lap of the n commands from `at` on ends: with its last command, of whatever kind.
 pub fn lap_end(s: &[u8], at: usize, n: usize, start: Point3D) -> Point3D
@@ -236,4 +236,11 @@ pub fn fit_file(recorded: &[u8], tolerance: f64, out: &mut [u8]) -> Answer
     ensures { λ r. ⌜ Wrote (λ (bytes : List ℕ). bytes) (fitFile (now (recorded .entry)) tolerance (length (now (out .entry)))) (now (out .entry)) (now (out .exit)) r ⌝ }
 {
     fit_by(Rule::of_laps(tolerance), recorded, out)
+}
+
+// The fit of a file for hills: straights alone, by the distance in x, y and z; recorded Arcs stay.
+pub fn fit_hills(recorded: &[u8], tolerance: f64, out: &mut [u8]) -> Answer
+    ensures { λ r. ⌜ Wrote (λ (bytes : List ℕ). bytes) (hillFile (now (recorded .entry)) tolerance (length (now (out .entry)))) (now (out .entry)) (now (out .exit)) r ⌝ }
+{
+    fit_by(Rule::of_hills(tolerance), recorded, out)
 }

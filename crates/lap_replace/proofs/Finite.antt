@@ -41,7 +41,7 @@ unfolding lapEnd
 lap-placed p l P h = ends-placed p (map decoded l) P h
 
 -- each lap, and its start
-at-in : (must : Bool) (p : Point3D) (ls : List Lap) (i : ℕ) → lapsOk domainOk must ls ≡ true → Placed 20 p → i < length ls → Placed 20 (startFrom p ls i) × CommandsIn (map decoded (getD ls i []))
+pub at-in : (must : Bool) (p : Point3D) (ls : List Lap) (i : ℕ) → lapsOk domainOk must ls ≡ true → Placed 20 p → i < length ls → Placed 20 (startFrom p ls i) × CommandsIn (map decoded (getD ls i []))
 unfolding lapsOk startFrom
 at-in must p [] i e P h = absurd (omega arith)
 at-in must p (l ∷ ls) zero e P h = (P, near must l (cond-false (lapTested domainOk must l) _ e .0))
