@@ -66,7 +66,7 @@ pub record NewPassed (s f : List ℕ) (k : ℕ) (new : NewLap) (tol : Float) : T
   pub p7 : row7 k s ≡ false
 
 module _ (s f : List ℕ) (k : ℕ) (new : NewLap) (tol : Float) where
-  new-passed-with : (ts : List Row) → 0 ≡ refusal (newRows s f k new tol ++ ts) → NewPassed s f k new tol × (0 ≡ refusal ts)
+  pub new-passed-with : (ts : List Row) → 0 ≡ refusal (newRows s f k new tol ++ ts) → NewPassed s f k new tol × (0 ≡ refusal ts)
   unfolding newRows tableRows lapRows
   new-passed-with ts e =
       let a = row-passed 0 (row1 s f (new .whole)) _ e in
@@ -83,7 +83,7 @@ module _ (s f : List ℕ) (k : ℕ) (new : NewLap) (tol : Float) where
   unfolding newRows tableRows lapRows
   new-passed r e z = new-passed-with [] (sym z ∙ e) .0
 
-  behind-new : (ts : List Row) → NewPassed s f k new tol → refusal (newRows s f k new tol ++ ts) ≡ refusal ts
+  pub behind-new : (ts : List Row) → NewPassed s f k new tol → refusal (newRows s f k new tol ++ ts) ≡ refusal ts
   unfolding newRows tableRows lapRows
   behind-new ts p =
       row-passes 1 (row1 s f (new .whole)) _ (p .p1) ∙ row-passes 2 (row2 s f (new .few)) _ (p .p2) ∙ row-passes 3 (row3 s f) _ (p .p3) ∙ row-passes 3 (not (new .counted)) _ (ap not (p .counted))
