@@ -6,6 +6,7 @@ pub mod Going
 pub mod Copy
 pub mod Turns
 pub mod Rows
+pub mod Both
 pub mod ReadBack
 pub mod Canonical
 pub mod Laps

@@ -10,7 +10,7 @@ use Rattle.floats.specs.Ops.{if_then_else_}
 use Rattle.geo.specs.Domain.{commandIn}
 use Rattle.file.specs.Bytes.{halfAt, u32Bytes}
 use Rattle.laps.specs.declared.lap_file.Check.{Check}
-use Rattle.laps.specs.declared.lap_file.Check.the-variants.{Form, Domain}
+use Rattle.laps.specs.declared.lap_file.Check.the-variants.{Form, Domain, Both}
 use Rattle.file.specs.Command.{commandsAt, decoded, wellFormed}
 
 -- the commands of a lap, each of 73 bytes
@@ -142,7 +142,12 @@ unfoldable pub lapsOk : (Bool → List ℕ → Bool) → Bool → List Lap → B
 lapsOk test must [] = true
 lapsOk test must (l ∷ ls) = if lapTested test must l then lapsOk test false ls else false
 
--- the two tests, as the code names them
+-- both rows of a command
+unfoldable pub bothOk : Bool → List ℕ → Bool
+bothOk first c = formOk first c && domainOk first c
+
+-- the tests, as the code names them
 unfoldable pub tested : Check → Bool → List ℕ → Bool
 tested Form = formOk
 tested Domain = domainOk
+tested Both = bothOk

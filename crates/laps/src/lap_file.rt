@@ -14,8 +14,8 @@ ghost use lib.Seq.{sets};
 ghost use Rattle.geo.specs.Outcome.{refusal};
 ghost use Rattle.file.specs.Bytes.{u32Bytes};
 ghost use Rattle.file.specs.Command.{commandsAt};
-ghost use Rattle.laps.specs.File.{lapCount, offsetAt, countAt, lapsOf, mark, short, big, hasMark, walk, tableOk, placed, formOk, lacks, tested, lapTested, lapsOk};
-ghost use Rattle.laps.specs.Rows.{fileRows, sizeRows};
+ghost use Rattle.laps.specs.File.{lapCount, offsetAt, countAt, lapsOf, mark, short, big, hasMark, walk, tableOk, placed, formOk, bothOk, lacks, tested, lapTested, lapsOk};
+ghost use Rattle.laps.specs.Rows.{commandsRows, fileRows, sizeRows};
 
 // The most that a file may have: "The lap count L, 0 to 64", "At most 800 commands and 65,536 bytes".
 pub const MOST_LAPS: usize = 64;
@@ -30,6 +30,8 @@ pub enum Check {
     Form,
     // row 5: its numbers
     Domain,
+    // rows 4 and 5
+    Both,
 }
 
 // The lap count.
@@ -153,7 +155,18 @@ fn has_form(first: bool, c: &[u8]) -> bool
     false
 }
 
-// Row 4 or row 5 of a command.
+// Row 4 and then row 5 of a command.
+fn has_both(first: bool, c: &[u8]) -> bool
+    requires { ⌜ 73 ≤ length (now c) ⌝ }
+    ensures { λ r. ⌜ r ≡ bothOk first (now (c .entry)) ⌝ }
+{
+    if has_form(first, c) {
+        return command_in(read_command(c));
+    }
+    false
+}
+
+// What is asked of a command.
 fn passes(check: Check, first: bool, c: &[u8]) -> bool
     requires { ⌜ 73 ≤ length (now c) ⌝ }
     ensures { λ r. ⌜ r ≡ tested check first (now (c .entry)) ⌝ }
@@ -161,6 +174,7 @@ fn passes(check: Check, first: bool, c: &[u8]) -> bool
     match check {
         Check::Form => has_form(first, c),
         Check::Domain => command_in(read_command(c)),
+        Check::Both => has_both(first, c),
     }
 }
 
@@ -185,7 +199,7 @@ fn opens(must: bool, without: bool) -> bool
     !without
 }
 
-// Row 4 or row 5 of the n commands from `at` on, a lap that must have its Move or may lack it.
+// What is asked of the n commands from `at` on, a lap that must have its Move or may lack it.
 fn lap_passes(check: Check, must: bool, s: &[u8], at: usize, n: usize) -> bool
     requires { ⌜ at + 73 * n ≤ length (now s) ⌝ }
     ensures { λ r. ⌜ r ≡ lapTested (tested check) must (commandsAt (now (s .entry)) at n) ⌝ }
@@ -224,6 +238,20 @@ pub fn all_pass(check: Check, s: &[u8]) -> bool
     true
 }
 
+// The first of the rows 4 and 5 that a file falls under, or 0. A file that passes both, as nearly every one does, is read once.
+fn check_commands(s: &[u8]) -> u32
+    requires { ⌜ (8 ≤ length (now s)) × (tableOk (now s) ≡ true) ⌝ }
+    ensures { λ r. ⌜ r ≡ refusal (commandsRows (now (s .entry))) ⌝ }
+{
+    if all_pass(Check::Both, s) {
+        return 0;
+    }
+    if all_pass(Check::Form, s) {
+        return 5;
+    }
+    4
+}
+
 // The first of the rows 1 to 5 that a file falls under, or 0.
 pub fn check_file(s: &[u8]) -> u32
     ensures { λ r. ⌜ r ≡ refusal (fileRows (now (s .entry))) ⌝ }
@@ -237,13 +265,7 @@ pub fn check_file(s: &[u8]) -> u32
     if !has_table(s) {
         return 3;
     }
-    if !all_pass(Check::Form, s) {
-        return 4;
-    }
-    if !all_pass(Check::Domain, s) {
-        return 5;
-    }
-    0
+    check_commands(s)
 }
 
 // Rows 8 and 9 of what has so many laps and at most so many commands: the first that it falls under, or 0.

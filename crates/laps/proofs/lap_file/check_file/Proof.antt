@@ -1,8 +1,7 @@
 -- `laps::lap_file::check_file` meets its contract: each return is the first row that fails, by the tests before it. Assumes nothing.
 use mathlib.Core.Path.{sym, _∙_}
 use borrow.Author.Tests.{not-false}
-use Rattle.geo.proofs.Rows.{row-fails, row-passes, not-fails, not-passes, done}
-use Rattle.laps.specs.File.{tested}
+use Rattle.geo.proofs.Rows.{row-fails, row-passes, not-fails, not-passes}
 use Rattle.laps.specs.Rows.{fileRows}
 use Rattle.laps.proofs.Walks.{not-short, not-big}
 use borrow.Author.Needs.{needs}
@@ -30,23 +29,12 @@ returns-3 : tie.Need-returns-3
 unfolding fileRows
 returns-3 c = sym (row-passes _ _ _ (sym (c .before .before .before .before .before .too-short .ensures) ∙ c .before .before .before .before .if1 .left) ∙ row-passes _ _ _ (sym (c .before .before .before .too-big .ensures) ∙ c .before .before .if2 .left) ∙ row-fails _ _ _ (not-fails _ _ (c .before .has-table .ensures) (c .if3 .taken)))
 
-all-pass-requires : tie.Need-all-pass-requires
-all-pass-requires c κs = (not-short _ (sym (c .before .before .before .before .before .too-short .ensures) ∙ c .before .before .before .before .if1 .left), sym (c .before .has-table .ensures) ∙ not-false _ (c .if3 .left))
+check-commands-requires : tie.Need-check-commands-requires
+check-commands-requires c κs = (not-short _ (sym (c .before .before .before .before .before .too-short .ensures) ∙ c .before .before .before .before .if1 .left), sym (c .before .has-table .ensures) ∙ not-false _ (c .if3 .left))
 
 returns-4 : tie.Need-returns-4
-unfolding fileRows tested
-returns-4 c = sym (row-passes _ _ _ (sym (c .before .before .before .before .before .before .before .too-short .ensures) ∙ c .before .before .before .before .before .before .if1 .left) ∙ row-passes _ _ _ (sym (c .before .before .before .before .before .too-big .ensures) ∙ c .before .before .before .before .if2 .left) ∙ row-passes _ _ _ (not-passes _ _ (c .before .before .before .has-table .ensures) (c .before .before .if3 .left)) ∙ row-fails _ _ _ (not-fails _ _ (c .before .all-pass .ensures) (c .if4 .taken)))
-
-all-pass-requires-2 : tie.Need-all-pass-requires-2
-all-pass-requires-2 c κs = (not-short _ (sym (c .before .before .before .before .before .before .before .too-short .ensures) ∙ c .before .before .before .before .before .before .if1 .left), sym (c .before .before .before .has-table .ensures) ∙ not-false _ (c .before .before .if3 .left))
-
-returns-5 : tie.Need-returns-5
-unfolding fileRows tested
-returns-5 c = sym (row-passes _ _ _ (sym (c .before .before .before .before .before .before .before .before .before .too-short .ensures) ∙ c .before .before .before .before .before .before .before .before .if1 .left) ∙ row-passes _ _ _ (sym (c .before .before .before .before .before .before .before .too-big .ensures) ∙ c .before .before .before .before .before .before .if2 .left) ∙ row-passes _ _ _ (not-passes _ _ (c .before .before .before .before .before .has-table .ensures) (c .before .before .before .before .if3 .left)) ∙ row-passes _ _ _ (not-passes _ _ (c .before .before .before .all-pass .ensures) (c .before .before .if4 .left)) ∙ row-fails _ _ _ (not-fails _ _ (c .before .all-pass2 .ensures) (c .if5 .taken)))
-
-returns-6 : tie.Need-returns-6
-unfolding fileRows tested
-returns-6 c = sym (row-passes _ _ _ (sym (c .before .before .before .before .before .before .before .before .before .too-short .ensures) ∙ c .before .before .before .before .before .before .before .before .if1 .left) ∙ row-passes _ _ _ (sym (c .before .before .before .before .before .before .before .too-big .ensures) ∙ c .before .before .before .before .before .before .if2 .left) ∙ row-passes _ _ _ (not-passes _ _ (c .before .before .before .before .before .has-table .ensures) (c .before .before .before .before .if3 .left)) ∙ row-passes _ _ _ (not-passes _ _ (c .before .before .before .all-pass .ensures) (c .before .before .if4 .left)) ∙ row-passes _ _ _ (not-passes _ _ (c .before .all-pass2 .ensures) (c .if5 .left)) ∙ done)
+unfolding fileRows
+returns-4 c = c .check-commands .ensures ∙ sym (row-passes _ _ _ (sym (c .before .before .before .before .before .before .too-short .ensures) ∙ c .before .before .before .before .before .if1 .left) ∙ row-passes _ _ _ (sym (c .before .before .before .before .too-big .ensures) ∙ c .before .before .before .if2 .left) ∙ row-passes _ _ _ (not-passes _ _ (c .before .before .has-table .ensures) (c .before .if3 .left)))
 
 pub check-file-spec : {M : Type 1} → statement M
 check-file-spec =
@@ -58,8 +46,5 @@ check-file-spec =
     returns-2
     has-table-requires
     returns-3
-    all-pass-requires
-    returns-4
-    all-pass-requires-2
-    returns-5
-    returns-6)
+    check-commands-requires
+    returns-4)

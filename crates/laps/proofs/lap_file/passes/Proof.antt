@@ -21,6 +21,12 @@ read-command-requires c κs = search needs
 command-in-requires : tie.Need-command-in-requires
 command-in-requires c κs = search needs
 
+enum-told-3 : tie.Need-enum-told-3
+enum-told-3 c = search needs
+
+has-both-requires : tie.Need-has-both-requires
+has-both-requires c κs = search needs
+
 returns : tie.Need-returns
 unfolding tested
 returns c = rw (c .before .enum-told .given .1) (c .has-form .ensures)
@@ -28,6 +34,10 @@ returns c = rw (c .before .enum-told .given .1) (c .has-form .ensures)
 returns-2 : tie.Need-returns-2
 unfolding tested domainOk
 returns-2 c = rw (c .before .before .enum-told2 .given .1) (c .command-in .ensures ∙ ap commandIn (c .before .read-command .ensures))
+
+returns-3 : tie.Need-returns-3
+unfolding tested
+returns-3 c = rw (c .before .enum-told3 .given .1) (c .has-both .ensures)
 
 pub passes-spec : {M : Type 1} → statement M
 passes-spec =
@@ -38,5 +48,8 @@ passes-spec =
     enum-told-2
     read-command-requires
     command-in-requires
+    enum-told-3
+    has-both-requires
     returns
-    returns-2)
+    returns-2
+    returns-3)
