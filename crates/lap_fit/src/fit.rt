@@ -23,10 +23,11 @@ ghost use mathlib.Core.List.{List, _++_};
 ghost use Prim.Native.Nat.{ℕ, _+_, _*_, _≤_};
 ghost use lib.ListN.{length, drop};
 ghost use Rattle.floats.specs.Ops.{_≺_, +0};
+ghost use Rattle.geo.specs.Domain.{mostCommands};
 ghost use Rattle.geo.specs.Outcome.{refusal, Wrote};
 ghost use Rattle.file.specs.Command.{commandsAt};
 ghost use Rattle.course.specs.Course.{mostOn, lentCourse};
-ghost use Rattle.course.specs.Walks.{cap};
+ghost use Rattle.course.specs.Walks.{chainNumbers, cap};
 ghost use Rattle.laps.specs.File.{lapCount, lapsOf, encode, tableOk, PutLap};
 ghost use Rattle.laps.specs.Rows.{fileSize};
 ghost use Rattle.geo.specs.Lent.{origin};
@@ -95,7 +96,7 @@ fn fit_lent(
     out: &mut [u8],
     to: usize,
 ) -> usize
-    requires { ⌜ ((+0 ≺ rule .tolerance) ≡ true) × (9 * length (now kinds) ≤ length (now nums)) × (mostOn (rule .tolerance) start (lentCourse (now kinds) (now nums)) ≤ 800) × (to + 73 * length (fitNew rule start (now kinds) (now nums)) ≤ length (now out)) × (length (now «out_kinds») ≡ 800) × (length (now «out_nums») ≡ 7200) × (length (now chain) ≡ 2403) ⌝ }
+    requires { ⌜ ((+0 ≺ rule .tolerance) ≡ true) × (9 * length (now kinds) ≤ length (now nums)) × (mostOn (rule .tolerance) start (lentCourse (now kinds) (now nums)) ≤ mostCommands) × (to + 73 * length (fitNew rule start (now kinds) (now nums)) ≤ length (now out)) × (length (now «out_kinds») ≡ mostCommands) × (length (now «out_nums») ≡ 9 * mostCommands) × (length (now chain) ≡ chainNumbers) ⌝ }
     ensures { λ r. ⌜ PutLap (fitNew rule start (now (kinds .entry)) (now (nums .entry))) (now (out .entry)) (now (out .exit)) to r ⌝ }
 {
     let n = fit_course(kinds, nums, start, rule, chain, out_kinds, out_nums);
@@ -146,7 +147,7 @@ pub fn fit_lap(
     out: &mut [u8],
     to: usize,
 ) -> usize
-    requires { ⌜ ((+0 ≺ rule .tolerance) ≡ true) × (at + 73 * n ≤ length (now s)) × (n ≤ 800) × (mostLap (rule .tolerance) start (commandsAt (now s) at n) ≤ 800) × (to + 73 * length (fitLap rule start (commandsAt (now s) at n)) ≤ length (now out)) × (length (now kinds) ≡ 800) × (length (now nums) ≡ 7200) × (length (now «out_kinds») ≡ 800) × (length (now «out_nums») ≡ 7200) × (length (now chain) ≡ 2403) ⌝ }
+    requires { ⌜ ((+0 ≺ rule .tolerance) ≡ true) × (at + 73 * n ≤ length (now s)) × (n ≤ mostCommands) × (mostLap (rule .tolerance) start (commandsAt (now s) at n) ≤ mostCommands) × (to + 73 * length (fitLap rule start (commandsAt (now s) at n)) ≤ length (now out)) × (length (now kinds) ≡ mostCommands) × (length (now nums) ≡ 9 * mostCommands) × (length (now «out_kinds») ≡ mostCommands) × (length (now «out_nums») ≡ 9 * mostCommands) × (length (now chain) ≡ chainNumbers) ⌝ }
     ensures { λ r. ⌜ PutLap (fitLap rule start (commandsAt (now (s .entry)) at n)) (now (out .entry)) (now (out .exit)) to r ⌝ }
 {
     read_commands(s, at, n, kinds, nums);

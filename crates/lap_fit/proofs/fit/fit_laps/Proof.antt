@@ -1,10 +1,12 @@
 -- `lap_fit::fit::fit_laps` meets its contract: the laps that are left, written from here, give the whole file; each place lies in the file, each fit in what is left of the output, and the arrays keep their lengths. The measure is how many laps are left. Assumes nothing.
-use Prim.Native.Nat.{_-_, _≤_}
+use Prim.Native.Nat.{_-_, _*_, _≤_}
 use mathlib.Core.Path.{_≡_, refl, sym, subst}
 use mathlib.Core.List.{List}
 use native.Mathlib.Omega.{arith}
 use lib.ListN.{length}
+use Rattle.geo.specs.Domain.{mostCommands}
 use Rattle.geo.specs.Lent.{origin}
+use Rattle.course.specs.Walks.{chainNumbers}
 use Rattle.laps.specs.File.{Lap, lapsAt, lapsOf}
 use Rattle.laps.proofs.Going.{Going, turn}
 use Rattle.laps.proofs.Here.{Here, step, start-at, all-laps}
@@ -16,7 +18,7 @@ use Rattle.lap_fit.proofs.fit.fit_laps.Statement.{statement}
 use Rattle.lap_fit.proofs.fit.fit_laps.Tie as tie
 
 abbrev Inv-loop : tie.InvT-loop
-Inv-loop s rule out₀ kinds₀ nums₀ chain₀ out-kinds₀ out-nums₀ l at₀ to₀ start₀ j₀ out kinds nums chain out-kinds out-nums at to start j = (j ≤ l) × Here s j at l × (lapsMost (rule .tolerance) start (lapsAt s j at (l - j)) ≤ 800) × Going out₀ out l j to (fitLaps rule start (lapsAt s j at (l - j))) (fitLaps rule origin (lapsOf s)) × (length kinds ≡ 800) × (length nums ≡ 7200) × (length out-kinds ≡ 800) × (length out-nums ≡ 7200) × (length chain ≡ 2403)
+Inv-loop s rule out₀ kinds₀ nums₀ chain₀ out-kinds₀ out-nums₀ l at₀ to₀ start₀ j₀ out kinds nums chain out-kinds out-nums at to start j = (j ≤ l) × Here s j at l × (lapsMost (rule .tolerance) start (lapsAt s j at (l - j)) ≤ 800) × Going out₀ out l j to (fitLaps rule start (lapsAt s j at (l - j))) (fitLaps rule origin (lapsOf s)) × (length kinds ≡ mostCommands) × (length nums ≡ 9 * mostCommands) × (length out-kinds ≡ mostCommands) × (length out-nums ≡ 9 * mostCommands) × (length chain ≡ chainNumbers)
 
 abbrev μ-loop : tie.MeasureT-loop
 μ-loop s rule out₀ kinds₀ nums₀ chain₀ out-kinds₀ out-nums₀ l at₀ to₀ start₀ j₀ out kinds nums chain out-kinds out-nums at to start j = l - j
