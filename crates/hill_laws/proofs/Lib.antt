@@ -1,4 +1,3 @@
-pub mod RootTest
 pub mod Straight
 pub mod Same
 pub mod Level

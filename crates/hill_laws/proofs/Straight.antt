@@ -12,6 +12,7 @@ use Rattle.floats.specs.Ops.{_⊗_, _≺_, +0}
 use Rattle.floats.specs.Root.{rootOf}
 use Rattle.floats.proofs.Order.{either}
 use Rattle.floats.proofs.Unsigned.{square-not-negative}
+use Rattle.floats.proofs.root.Reaches.{root-reaches}
 use Rattle.geo.specs.declared.types.Point3D.{Point3D}
 use Rattle.geo.specs.declared.types.Command.{Command}
 use Rattle.geo.specs.declared.types.Command.the-variants.{Line}
@@ -28,8 +29,6 @@ use Rattle.simplify.proofs.Thinning.{ends-kept}
 use Rattle.fitting.specs.declared.fitting.Rule.{Rule}
 use Rattle.fitting.specs.Pieces.{distance, rooted, lineDeviation, line, Piece, whole, cutAt, arcOrCut, chooseBy, choice, follow, piecesBy, piecesIn}
 use Rattle.fitting.specs.Commands.{shaped, pieceCommand, fitIn, keptOf, chainFit}
-use Rattle.hill_laws.proofs.RootTest.{root-reaches-tolerance}
-
 -- the n single steps from lo on, each a Line
 unfoldable steps : ℕ → ℕ → List Piece
 steps lo zero = []
@@ -93,7 +92,7 @@ module _ (r : Rule) (straight : r .arcs ≡ false) (f : T (fits binary64 (r .tol
         let w = farthestIn (distance r) at lo hi in
         let g : T (fits binary64 (w .square)) =
         subst (λ (x : Float). T (fits binary64 x)) (sym (cut-first (distance r) limit pos at lo hi h .value)) (fit (at lo) (at hi) (at (w .index))) in
-        rw (root-reaches-tolerance (r .tolerance) (w .square) f dom g h, straight)
+        rw (root-reaches (r .tolerance) (w .square) f (tolerance-positive (r .tolerance) dom) g h, straight)
 
     -- a single step is a Line
     step-chosen : (lo hi : ℕ) → hi ≡ lo + 1 → choice r at lo hi ≡ whole line
