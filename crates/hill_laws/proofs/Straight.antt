@@ -29,6 +29,7 @@ use Rattle.simplify.proofs.Thinning.{ends-kept}
 use Rattle.fitting.specs.declared.fitting.Rule.{Rule}
 use Rattle.fitting.specs.Pieces.{distance, rooted, lineDeviation, line, Piece, whole, cutAt, arcOrCut, chooseBy, choice, follow, piecesBy, piecesIn}
 use Rattle.fitting.specs.Commands.{shaped, pieceCommand, fitIn, keptOf, chainFit}
+
 -- the n single steps from lo on, each a Line
 unfoldable steps : ℕ → ℕ → List Piece
 steps lo zero = []
