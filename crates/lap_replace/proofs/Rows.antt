@@ -19,7 +19,7 @@ use Rattle.laps.specs.Rows.{fileSize, sizeRows}
 use Rattle.laps.proofs.Rows.{refused-front, sized, size-8}
 use Rattle.laps.proofs.Walks.{not-short, not-big}
 use Rattle.lap_fit.proofs.Cap.{told-more, told-below}
-use Rattle.lap_replace.specs.Replace.{swapBoth, nextLacks, NewLap, lentWhole, row1, row2, row3, row4, row5, row7, tableRows, lapRows, newRows, mostWith, replaceRows}
+use Rattle.lap_replace.specs.Replace.{swapBoth, nextLacks, NewLap, lentWhole, row1, row2, row3, row4, row5, row7, tableRows, laterRows, newRows, mostWith, replaceRows}
 
 -- ---- what each passed row tells
 pub lent-nine : (ks : List ℕ) (ns : List Float) → lentWhole ks ns ≡ true → length ns ≡ 9 * length ks
@@ -67,7 +67,7 @@ pub record NewPassed (s f : List ℕ) (k : ℕ) (new : NewLap) (tol : Float) : T
 
 module _ (s f : List ℕ) (k : ℕ) (new : NewLap) (tol : Float) where
   pub new-passed-with : (ts : List Row) → 0 ≡ refusal (newRows s f k new tol ++ ts) → NewPassed s f k new tol × (0 ≡ refusal ts)
-  unfolding newRows tableRows lapRows
+  unfolding newRows tableRows laterRows
   new-passed-with ts e =
       let a = row-passed 0 (row1 s f (new .whole)) _ e in
       let b = row-passed 1 (row2 s f (new .few)) _ (a .1) in
@@ -80,11 +80,11 @@ module _ (s f : List ℕ) (k : ℕ) (new : NewLap) (tol : Float) where
       (record { p1 = a .0; p2 = b .0; p3 = c .0; counted = not-false _ (n .0); p4 = d .0; p5 = g .0; p6 = not-false _ (h .0); p7 = i .0 }, i .1)
 
   pub new-passed : (r : ℕ) → r ≡ refusal (newRows s f k new tol) → r ≡ 0 → NewPassed s f k new tol
-  unfolding newRows tableRows lapRows
+  unfolding newRows tableRows laterRows
   new-passed r e z = new-passed-with [] (sym z ∙ e) .0
 
   pub behind-new : (ts : List Row) → NewPassed s f k new tol → refusal (newRows s f k new tol ++ ts) ≡ refusal ts
-  unfolding newRows tableRows lapRows
+  unfolding newRows tableRows laterRows
   behind-new ts p =
       row-passes 1 (row1 s f (new .whole)) _ (p .p1) ∙ row-passes 2 (row2 s f (new .few)) _ (p .p2) ∙ row-passes 3 (row3 s f) _ (p .p3) ∙ row-passes 3 (not (new .counted)) _ (ap not (p .counted))
       ∙ row-passes 4 (row4 s (new .formed)) _ (p .p4)
@@ -117,8 +117,8 @@ sizes-with new k s f l r t room e p q =
 pub tables-of : (s f : List ℕ) (w W few : Bool) (r : ℕ) → r ≡ refusal (tableRows s f w few) → w ≡ W → r ≡ refusal (tableRows s f W few)
 tables-of s f w W few r e h = e ∙ ap (λ (b : Bool). refusal (tableRows s f b few)) h
 
-pub laps-of : (s : List ℕ) (k : ℕ) (a A b B : Bool) (tol : Float) (r : ℕ) → r ≡ refusal (lapRows s k a b tol) → a ≡ A → b ≡ B → r ≡ refusal (lapRows s k A B tol)
-laps-of s k a A b B tol r e g h = e ∙ ap (λ (c : Bool). refusal (lapRows s k c b tol)) g ∙ ap (λ (c : Bool). refusal (lapRows s k A c tol)) h
+pub laps-of : (s : List ℕ) (k : ℕ) (a A b B : Bool) (tol : Float) (r : ℕ) → r ≡ refusal (laterRows s k a b tol) → a ≡ A → b ≡ B → r ≡ refusal (laterRows s k A B tol)
+laps-of s k a A b B tol r e g h = e ∙ ap (λ (c : Bool). refusal (laterRows s k c b tol)) g ∙ ap (λ (c : Bool). refusal (laterRows s k A c tol)) h
 
 module _ (s f : List ℕ) (whole few : Bool) where
   pub tables-passed : (r : ℕ) → r ≡ refusal (tableRows s f whole few) → r ≡ 0 → (row1 s f whole ≡ false) × (row2 s f few ≡ false) × (row3 s f ≡ false)
@@ -142,6 +142,6 @@ module _ (s f : List ℕ) (k : ℕ) (new : NewLap) (tol : Float) (r : ℕ) (e : 
   unfolding newRows
   counts-refused h g = sym (behind-tables s f (new .whole) (new .few) _ (tables-passed s f (new .whole) (new .few) r e h) ∙ row-fails 3 (not (new .counted)) _ (ap not g))
 
-  pub laps-decide : r ≡ 0 → new .counted ≡ true → (t : ℕ) → t ≡ refusal (lapRows s k (new .formed) (new .near) tol) → t ≡ refusal (newRows s f k new tol)
+  pub laps-decide : r ≡ 0 → new .counted ≡ true → (t : ℕ) → t ≡ refusal (laterRows s k (new .formed) (new .near) tol) → t ≡ refusal (newRows s f k new tol)
   unfolding newRows
   laps-decide h g t w = w ∙ sym (behind-tables s f (new .whole) (new .few) _ (tables-passed s f (new .whole) (new .few) r e h) ∙ row-passes 3 (not (new .counted)) _ (ap not g))

@@ -107,12 +107,12 @@ unfoldable pub tableRows : List ℕ → List ℕ → Bool → Bool → List Row
 tableRows s f whole few = row 1 (row1 s f whole) ∷ row 2 (row2 s f few) ∷ row 3 (row3 s f) ∷ []
 
 -- rows 4 to 7 of the recorded laps, the new lap's commands, the tolerance and the lap's number
-unfoldable pub lapRows : List ℕ → ℕ → Bool → Bool → Float → List Row
-lapRows s k formed near tol = row 4 (row4 s formed) ∷ row 5 (row5 s near) ∷ row 6 (not (tolerance tol)) ∷ row 7 (row7 k s) ∷ []
+unfoldable pub laterRows : List ℕ → ℕ → Bool → Bool → Float → List Row
+laterRows s k formed near tol = row 4 (row4 s formed) ∷ row 5 (row5 s near) ∷ row 6 (not (tolerance tol)) ∷ row 7 (row7 k s) ∷ []
 
 -- rows 1 to 7: of a replacement, of its asking and of its commit, each with its own new lap
 unfoldable pub newRows : List ℕ → List ℕ → ℕ → NewLap → Float → List Row
-newRows s f k new tol = tableRows s f (new .whole) (new .few) ++ (row 3 (not (new .counted)) ∷ lapRows s k (new .formed) (new .near) tol)
+newRows s f k new tol = tableRows s f (new .whole) (new .few) ++ (row 3 (not (new .counted)) ∷ laterRows s k (new .formed) (new .near) tol)
 
 -- "for a replacement, the new lap's most and the fitted file's command count in all other laps": in those that are not fitted again
 unfoldable pub mostWith : NewLap → ℕ → List ℕ → List ℕ → ℕ

@@ -42,7 +42,7 @@ ghost use Rattle.course.specs.Walks.{cap};
 ghost use Rattle.laps.specs.File.{lapCount, lapsOf, encode, tableOk, commandCount, PutLap};
 ghost use Rattle.laps.specs.Rows.{fileSize};
 ghost use Rattle.lap_fit.specs.Fit.{startOf, fitLap, mostLap};
-ghost use Rattle.lap_replace.specs.Replace.{swapBoth, nextLacks, nextLap, lentWhole, movePlaced, lentFormed, mostBoth, lentNew, row1, row2, row3, row4, row5, row7, tableRows, lapRows, newRows, mostWith, replaceRows, newFit, nextFit, replacedLaps, storedLaps, PutBoth, replaceLap};
+ghost use Rattle.lap_replace.specs.Replace.{swapBoth, nextLacks, nextLap, lentWhole, movePlaced, lentFormed, mostBoth, lentNew, row1, row2, row3, row4, row5, row7, tableRows, laterRows, newRows, mostWith, replaceRows, newFit, nextFit, replacedLaps, storedLaps, PutBoth, replaceLap};
 
 // The body of 800 commands.
 const BODY_BYTES: usize = 58400;
@@ -492,7 +492,7 @@ pub fn check_tables(s: &[u8], f: &[u8], whole: bool, few: bool) -> u32
 // The first of the rows 4 to 7 that they fall under, or 0.
 pub fn check_laps(s: &[u8], k: usize, formed: bool, near: bool, tolerance: f64) -> u32
     requires { ⌜ (8 ≤ length (now s)) × (tableOk (now s) ≡ true) ⌝ }
-    ensures { λ r. ⌜ r ≡ refusal (lapRows (now (s .entry)) k formed near tolerance) ⌝ }
+    ensures { λ r. ⌜ r ≡ refusal (laterRows (now (s .entry)) k formed near tolerance) ⌝ }
 {
     if fails_4(s, formed) {
         return 4;
