@@ -123,6 +123,15 @@ uint32_t pz_fit_file(
     double tolerance,
     uint8_t *out, size_t out_bytes, size_t *count);
 
+/* Fits each lap of a recorded file for hills, where climbs count: as pz_fit_file, but thinned, and its Lines tested, by the
+   distance in x, y and z to the segment, and without new Arcs; recorded Arcs stay as they are. In a course without Beziers whose
+   points share one z, the Lines end at the points that pz_fit_file thins to. A lap of it is replaced by fitting the file anew:
+   pz_replace_lap fits by x and y alone. Refusals: 1 to 6, 8, 9, as pz_fit_file, for the same files. */
+uint32_t pz_fit_hills(
+    const uint8_t *recorded, size_t recorded_bytes,
+    double tolerance,
+    uint8_t *out, size_t out_bytes, size_t *count);
+
 /* Replaces lap `lap`, from 1: `out` gets the fit of the new commands, and of the fitted file every other lap's body as it
    stands; but for the next lap where that lacks its Move, which is fitted again, since it starts where the new commands end.
    They may lack their Move where `lap` is above 1. The recorded file is the one that was fitted; of the fitted one the mark, the

@@ -2,7 +2,7 @@
 -- "A cut leaves two [ranges], sharing its Line's first farthest point. An uncut range is a piece, written to its last point as a Line if that passes, else as the
 -- Arc of the first arc trial that does" (document 01, "Demand 3's words").
 use Prim.Native.Nat.{ℕ, zero, suc, _+_, _-_}
-use mathlib.Core.Bool.{Bool, true}
+use mathlib.Core.Bool.{Bool, true, false}
 use mathlib.Core.List.{List, [], _∷_, _++_}
 use lib.Ieee.{Float}
 use Rattle.floats.specs.Ops.{_≺_, if_then_else_}
@@ -14,7 +14,7 @@ use Rattle.trial.specs.declared.trial.Trial.{Trial}
 use Rattle.trial.specs.declared.trial.Trial.the-variants.{Arc, None}
 use Rattle.trial.specs.Trial.{tryArcs}
 use Rattle.simplify.specs.declared.simplify.Farthest.{Farthest}
-use Rattle.simplify.specs.declared.simplify.Ruler.the-variants.{Line, Segment}
+use Rattle.simplify.specs.declared.simplify.Ruler.the-variants.{Line, Segment, Space}
 use Rattle.simplify.specs.Measure.{Measure, measureOf}
 use Rattle.simplify.specs.Farthest.{farthestIn}
 use Rattle.fitting.specs.declared.fitting.Note.the-variants.{Steps, Worst}
@@ -29,6 +29,11 @@ pointsRule tol = record { ruler = Line; arcs = true; tolerance = tol; note = Wor
 -- the distance to the segment" (document 02, §4)
 abbrev pub lapsRule : Float → Rule
 lapsRule tol = record { ruler = Segment; arcs = true; tolerance = tol; note = Steps }
+
+-- that of the fit for hills, which "makes no new Arcs (in its cut rule both arc trials count as failed)" and "whose thinning and line test use x, y and z, to the segment"
+-- (document 02, §14)
+abbrev pub hillsRule : Float → Rule
+hillsRule tol = record { ruler = Space; arcs = false; tolerance = tol; note = Steps }
 
 abbrev pub distance : Rule → Measure Point3D
 distance r = measureOf (r .ruler)

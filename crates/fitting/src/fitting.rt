@@ -29,7 +29,7 @@ ghost use Rattle.geo.specs.Lent.{pointAt, flat, kindOf, numbersOf};
 ghost use Rattle.geo.specs.Outcome.{refusal, left, Wrote};
 ghost use Rattle.geo.specs.Commands.{WroteCommands};
 ghost use Rattle.simplify.specs.Measure.{measureOf};
-ghost use Rattle.fitting.specs.Pieces.{pointsRule, lapsRule, counted, lineDeviation, arc};
+ghost use Rattle.fitting.specs.Pieces.{pointsRule, lapsRule, hillsRule, counted, lineDeviation, arc};
 ghost use Rattle.fitting.specs.Commands.{normalOf, shaped};
 ghost use Rattle.fitting.specs.Written.{noted, noteBy, notedIn, chainNoted, NotedPlaced};
 ghost use Rattle.fitting.specs.Ranges.{nextFrom, Looked};
@@ -71,6 +71,18 @@ impl Rule {
         Self {
             ruler: Ruler::Segment,
             arcs: true,
+            tolerance,
+            note: Note::Steps,
+        }
+    }
+
+    // The rule of the fit for hills: it measures to the segment in x, y and z, and tries no arcs (document 02, §14).
+    pub fn of_hills(tolerance: f64) -> Self
+        ensures { λ r. ⌜ r ≡ hillsRule tolerance ⌝ }
+    {
+        Self {
+            ruler: Ruler::Space,
+            arcs: false,
             tolerance,
             note: Note::Steps,
         }

@@ -11,6 +11,7 @@ use Rattle.floats.specs.Ops.{_≺_, +0}
 use Rattle.geo.specs.declared.types.Point3D.{Point3D}
 use Rattle.geo.proofs.Stores.{sets-front, sets-append}
 use Rattle.file.specs.Command.{commandsAt}
+use Rattle.fitting.specs.declared.fitting.Rule.{Rule}
 use Rattle.course.specs.Course.{mostOn, endOn, lentCourse}
 use Rattle.laps.specs.File.{Lap, lapsOf, body, EachFull, commandCount}
 use Rattle.laps.proofs.ReadBack.{commands-back}
@@ -45,31 +46,31 @@ module _ (x y : Lap) (buffer bytes₁ bytes₂ : List ℕ) (n m : ℕ) (wx : Eac
       (ap (drop (73 * n)) in-buffer ∙ drop-at (body x) (body y ++ drop (length (body x ++ body y)) buffer) (73 * n) wide) wy
 
 -- ---- by the most of the replacement
-module _ (tol : Float) (pos : (+0 ≺ tol) ≡ true) (s f : List ℕ) (k : ℕ) (ks : List ℕ) (ns : List Float) where
-  both-few : mostWith (lentNew tol (lapsOf s) k ks ns) k s f ≤ 800
-      → (mostOn tol (startOf k (lapsOf s)) (lentCourse ks ns) ≤ 800) × (mostLap tol (endOn (startOf k (lapsOf s)) (lentCourse ks ns)) (nextLap k (lapsOf s)) ≤ 800)
-      × (length (fitNew tol (startOf k (lapsOf s)) ks ns) + length (fitLap tol (endOn (startOf k (lapsOf s)) (lentCourse ks ns)) (nextLap k (lapsOf s))) ≤ 800)
+module _ (r : Rule) (pos : (+0 ≺ r .tolerance) ≡ true) (s f : List ℕ) (k : ℕ) (ks : List ℕ) (ns : List Float) where
+  both-few : mostWith (lentNew (r .tolerance) (lapsOf s) k ks ns) k s f ≤ 800
+      → (mostOn (r .tolerance) (startOf k (lapsOf s)) (lentCourse ks ns) ≤ 800) × (mostLap (r .tolerance) (endOn (startOf k (lapsOf s)) (lentCourse ks ns)) (nextLap k (lapsOf s)) ≤ 800)
+      × (length (fitNew r (startOf k (lapsOf s)) ks ns) + length (fitLap r (endOn (startOf k (lapsOf s)) (lentCourse ks ns)) (nextLap k (lapsOf s))) ≤ 800)
   unfolding mostWith mostBoth
   both-few h =
-      let a = new-most tol pos (startOf k (lapsOf s)) ks ns in
-      let b = fit-most tol pos (endOn (startOf k (lapsOf s)) (lentCourse ks ns)) (nextLap k (lapsOf s)) in
+      let a = new-most r pos (startOf k (lapsOf s)) ks ns in
+      let b = fit-most r pos (endOn (startOf k (lapsOf s)) (lentCourse ks ns)) (nextLap k (lapsOf s)) in
       (omega arith, omega arith, omega (arith, a, b))
 
-  pub most-in : 1 ≤ k → commandCount (replacedLaps tol k ks ns (lapsOf s) (lapsOf f)) ≤ mostWith (lentNew tol (lapsOf s) k ks ns) k s f
+  pub most-in : 1 ≤ k → commandCount (replacedLaps r k ks ns (lapsOf s) (lapsOf f)) ≤ mostWith (lentNew (r .tolerance) (lapsOf s) k ks ns) k s f
   unfolding mostWith mostBoth replacedLaps
   most-in h =
       let p = startOf k (lapsOf s) in
       let q = endOn p (lentCourse ks ns) in
-      let a = new-most tol pos p ks ns in
-      let b = fit-most tol pos q (nextLap k (lapsOf s)) in
-      let c = total-both (nextLacks k (lapsOf s)) k (fitNew tol p ks ns) (fitLap tol q (nextLap k (lapsOf s))) (lapsOf f) h in omega (arith, a, b, c)
+      let a = new-most r pos p ks ns in
+      let b = fit-most r pos q (nextLap k (lapsOf s)) in
+      let c = total-both (nextLacks k (lapsOf s)) k (fitNew r p ks ns) (fitLap r q (nextLap k (lapsOf s))) (lapsOf f) h in omega (arith, a, b, c)
 
   -- what the code works out: where the new commands start and end, and the next lap
   module _ (p q : Point3D) (l : Lap) (ep : p ≡ startOf k (lapsOf s)) (eq : q ≡ endOn p (lentCourse ks ns)) (el : l ≡ nextLap k (lapsOf s)) where
-    pub few-laps : mostWith (lentNew tol (lapsOf s) k ks ns) k s f ≤ 800
-        → (mostOn tol p (lentCourse ks ns) ≤ 800) × (mostLap tol q l ≤ 800) × (length (fitNew tol p ks ns) + length (fitLap tol q l) ≤ 800)
+    pub few-laps : mostWith (lentNew (r .tolerance) (lapsOf s) k ks ns) k s f ≤ 800
+        → (mostOn (r .tolerance) p (lentCourse ks ns) ≤ 800) × (mostLap (r .tolerance) q l ≤ 800) × (length (fitNew r p ks ns) + length (fitLap r q l) ≤ 800)
     few-laps h = rw (el, eq, ep) (both-few h)
 
-    pub as-replaced : (b : Bool) → b ≡ nextLacks k (lapsOf s) → swapBoth b k (fitNew tol p ks ns) (fitLap tol q l) (lapsOf f) ≡ replacedLaps tol k ks ns (lapsOf s) (lapsOf f)
+    pub as-replaced : (b : Bool) → b ≡ nextLacks k (lapsOf s) → swapBoth b k (fitNew r p ks ns) (fitLap r q l) (lapsOf f) ≡ replacedLaps r k ks ns (lapsOf s) (lapsOf f)
     unfolding replacedLaps
     as-replaced b eb = rw (eb, el, eq, ep)

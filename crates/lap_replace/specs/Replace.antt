@@ -9,6 +9,8 @@ use Rattle.floats.specs.Ops.{if_then_else_}
 use Rattle.geo.specs.declared.types.Command.{Command}
 use Rattle.geo.specs.Domain.{tolerance, everyFrom, commandsFormed, commandsIn}
 use Rattle.geo.specs.Outcome.{Row, row, refusal, Outcome, unless}
+use Rattle.fitting.specs.declared.fitting.Rule.{Rule}
+use Rattle.fitting.specs.Pieces.{lapsRule}
 use Rattle.course.specs.Course.{mostOn, endOn, lentCourse}
 use Rattle.laps.specs.File.{Lap, lapCount, lapsOf, encode, commandCount, short, big, tableOk, lacks, placed, formOk, domainOk, lapsOk}
 use Rattle.laps.specs.Rows.{sizeRows}
@@ -110,10 +112,10 @@ replaceRows s f k new tol room = newRows s f k new tol ++ sizeRows (lapCount f) 
 
 -- ---- the call: the new commands are lent as ks and ns, the output has `room` bytes
 -- "It writes the new lap's fit and copies every other lap's body from the fitted file as it stands", but for the next lap where that is fitted again
-unfoldable pub replacedLaps : Float → ℕ → List ℕ → List Float → List Lap → List Lap → List Lap
-replacedLaps tol k ks ns ls fs =
-    swapBoth (nextLacks k ls) k (fitNew tol (startOf k ls) ks ns) (fitLap tol (endOn (startOf k ls) (lentCourse ks ns)) (nextLap k ls)) fs
+unfoldable pub replacedLaps : Rule → ℕ → List ℕ → List Float → List Lap → List Lap → List Lap
+replacedLaps r k ks ns ls fs =
+    swapBoth (nextLacks k ls) k (fitNew r (startOf k ls) ks ns) (fitLap r (endOn (startOf k ls) (lentCourse ks ns)) (nextLap k ls)) fs
 
 unfoldable pub replaceLap : List ℕ → List ℕ → ℕ → List ℕ → List Float → Float → ℕ → Outcome (List ℕ)
 replaceLap s f k ks ns tol room =
-    unless (refusal (replaceRows s f k (lentNew tol (lapsOf s) k ks ns) tol room)) (encode (replacedLaps tol k ks ns (lapsOf s) (lapsOf f)))
+    unless (refusal (replaceRows s f k (lentNew tol (lapsOf s) k ks ns) tol room)) (encode (replacedLaps (lapsRule tol) k ks ns (lapsOf s) (lapsOf f)))

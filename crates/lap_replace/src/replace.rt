@@ -4,6 +4,7 @@ use course::course::add_capped;
 use course::course::course_end;
 use course::course::course_most;
 use file::command::COMMAND_BYTES;
+use fitting::fitting::Rule;
 use geo::domain::commands_formed;
 use geo::domain::commands_in;
 use geo::domain::is_tolerance;
@@ -184,12 +185,12 @@ fn fit_alone(
     at: usize,
     n: usize,
     start: Point3D,
-    tolerance: f64,
+    rule: Rule,
     out: &mut [u8],
     to: usize,
 ) -> usize
-    requires { ⌜ ((+0 ≺ tolerance) ≡ true) × (at + 73 * n ≤ length (now s)) × (n ≤ 800) × (mostLap tolerance start (commandsAt (now s) at n) ≤ 800) × (to + 73 * length (fitLap tolerance start (commandsAt (now s) at n)) ≤ length (now out)) ⌝ }
-    ensures { λ r. ⌜ PutLap (fitLap tolerance start (commandsAt (now (s .entry)) at n)) (now (out .entry)) (now (out .exit)) to r ⌝ }
+    requires { ⌜ ((+0 ≺ rule .tolerance) ≡ true) × (at + 73 * n ≤ length (now s)) × (n ≤ 800) × (mostLap (rule .tolerance) start (commandsAt (now s) at n) ≤ 800) × (to + 73 * length (fitLap rule start (commandsAt (now s) at n)) ≤ length (now out)) ⌝ }
+    ensures { λ r. ⌜ PutLap (fitLap rule start (commandsAt (now (s .entry)) at n)) (now (out .entry)) (now (out .exit)) to r ⌝ }
 {
     let mut kinds = [0u8; Walk::MOST];
     let mut nums = [0.0f64; Walk::NUMBERS];
@@ -201,7 +202,7 @@ fn fit_alone(
         at,
         n,
         start,
-        tolerance,
+        rule,
         &mut kinds,
         &mut nums,
         &mut chain,
@@ -218,17 +219,17 @@ fn fit_next(
     at: usize,
     n: usize,
     start: Point3D,
-    tolerance: f64,
+    rule: Rule,
     out: &mut [u8],
     to: usize,
 ) -> usize
-    requires { ⌜ ((+0 ≺ tolerance) ≡ true) × (at + 73 * n ≤ length (now s)) × (n ≤ 800) × (mostLap tolerance start (commandsAt (now s) at n) ≤ 800) × (to + 73 * length (fitLap tolerance start (commandsAt (now s) at n)) ≤ length (now out)) ⌝ }
-    ensures { λ r. ⌜ PutLap (fitLap tolerance start (commandsAt (now (s .entry)) at n)) (now (out .entry)) (now (out .exit)) to r ⌝ }
+    requires { ⌜ ((+0 ≺ rule .tolerance) ≡ true) × (at + 73 * n ≤ length (now s)) × (n ≤ 800) × (mostLap (rule .tolerance) start (commandsAt (now s) at n) ≤ 800) × (to + 73 * length (fitLap rule start (commandsAt (now s) at n)) ≤ length (now out)) ⌝ }
+    ensures { λ r. ⌜ PutLap (fitLap rule start (commandsAt (now (s .entry)) at n)) (now (out .entry)) (now (out .exit)) to r ⌝ }
 {
     if n == 0 {
         return 0;
     }
-    fit_alone(s, at, n, start, tolerance, out, to)
+    fit_alone(s, at, n, start, rule, out, to)
 }
 
 // Fits the new commands, and behind them the next lap where that is fitted again, into a buffer of its own; then writes the
@@ -239,19 +240,19 @@ fn replace_laps(
     k: usize,
     kinds: &[u8],
     nums: &[f64],
-    tolerance: f64,
+    rule: Rule,
     out: &mut [u8],
 ) -> usize
-    requires { ⌜ ((+0 ≺ tolerance) ≡ true) × (9 * length (now kinds) ≤ length (now nums)) × (1 ≤ k) × (8 ≤ length (now fitted)) × (tableOk (now fitted) ≡ true) × (mostWith (lentNew tolerance (lapsOf (now recorded)) k (now kinds) (now nums)) k (now recorded) (now fitted) ≤ 800) × (fileSize (lapCount (now fitted)) (mostWith (lentNew tolerance (lapsOf (now recorded)) k (now kinds) (now nums)) k (now recorded) (now fitted)) ≤ length (now out)) × (8 ≤ length (now recorded)) × (tableOk (now recorded) ≡ true) × (k ≤ lapCount (now recorded)) ⌝ }
-    ensures { λ r. ⌜ (r ≡ length (encode (replacedLaps tolerance k (now (kinds .entry)) (now (nums .entry)) (lapsOf (now (recorded .entry))) (lapsOf (now (fitted .entry)))))) × (now (out .exit) ≡ encode (replacedLaps tolerance k (now (kinds .entry)) (now (nums .entry)) (lapsOf (now (recorded .entry))) (lapsOf (now (fitted .entry)))) ++ drop (length (encode (replacedLaps tolerance k (now (kinds .entry)) (now (nums .entry)) (lapsOf (now (recorded .entry))) (lapsOf (now (fitted .entry)))))) (now (out .entry))) ⌝ }
+    requires { ⌜ ((+0 ≺ rule .tolerance) ≡ true) × (9 * length (now kinds) ≤ length (now nums)) × (1 ≤ k) × (8 ≤ length (now fitted)) × (tableOk (now fitted) ≡ true) × (mostWith (lentNew (rule .tolerance) (lapsOf (now recorded)) k (now kinds) (now nums)) k (now recorded) (now fitted) ≤ 800) × (fileSize (lapCount (now fitted)) (mostWith (lentNew (rule .tolerance) (lapsOf (now recorded)) k (now kinds) (now nums)) k (now recorded) (now fitted)) ≤ length (now out)) × (8 ≤ length (now recorded)) × (tableOk (now recorded) ≡ true) × (k ≤ lapCount (now recorded)) ⌝ }
+    ensures { λ r. ⌜ (r ≡ length (encode (replacedLaps rule k (now (kinds .entry)) (now (nums .entry)) (lapsOf (now (recorded .entry))) (lapsOf (now (fitted .entry)))))) × (now (out .exit) ≡ encode (replacedLaps rule k (now (kinds .entry)) (now (nums .entry)) (lapsOf (now (recorded .entry))) (lapsOf (now (fitted .entry)))) ++ drop (length (encode (replacedLaps rule k (now (kinds .entry)) (now (nums .entry)) (lapsOf (now (recorded .entry))) (lapsOf (now (fitted .entry)))))) (now (out .entry))) ⌝ }
 {
     let mut body = [0u8; BODY_BYTES];
     let start = start_of(recorded, k);
     let next = next_of(recorded, k);
-    let n = fit_commands(kinds, nums, start, tolerance, &mut body, 0);
+    let n = fit_commands(kinds, nums, start, rule, &mut body, 0);
     let end = course_end(kinds, nums, start);
     let to = COMMAND_BYTES * n;
-    let m = fit_next(recorded, next.at, next.count, end, tolerance, &mut body, to);
+    let m = fit_next(recorded, next.at, next.count, end, rule, &mut body, to);
     put_file(fitted, k, next.both, &body, n, m, out)
 }
 
@@ -490,5 +491,6 @@ pub fn replace_lap(
     if refused != 0 {
         return Answer::Refused(refused);
     }
-    Answer::Written(replace_laps(recorded, fitted, lap, kinds, nums, tolerance, out))
+    let rule = Rule::of_laps(tolerance);
+    Answer::Written(replace_laps(recorded, fitted, lap, kinds, nums, rule, out))
 }

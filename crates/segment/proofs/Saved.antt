@@ -2,20 +2,20 @@
 use mathlib.Core.Path.{_≡_, refl, sym, ap, _∙_}
 use mathlib.Core.Logic.{_⊎_, inl, inr, ⊎-elim}
 use mathlib.Core.Bool.{Bool, true, false}
+use mathlib.Core.List.{List, [], _∷_}
 use Prim.Native.Nat.{ℕ, _*_}
 use native.Mathlib.Nat.{mul-pos, zero-lt-suc}
 use lib.Dec.{T}
-use lib.IntN.{ℤ}
 use lib.Ieee.{Float, nan, inf, fin, binary64, up, down, round, add, mul, lt, le, eq, isNan, ofBits, fits}
 use lib.Ieee.Fits.{down-pos, sub-fits}
 use lib.Ieee.Scale.{finite}
 use Rattle.floats.specs.Ops.{_⊕_, _⊖_, _⊗_, _⊘_, _≺_, _≼_, +0, one, if_then_else_}
 use Rattle.floats.proofs.Order.{either, clash, lt-gap}
 use Rattle.geo.specs.declared.types.Point3D.{Point3D}
-use Rattle.geo.specs.Vector.{dot, lengthSq}
 use Rattle.segment.specs.declared.segment.Segment.{Segment}
-use Rattle.segment.specs.Segment.{degenerate, parameterOf, offFoot, segmentOn, segmentSq}
-use Rattle.segment.specs.Saved.{segmentOf, fromFootOf, besides, alongOf, toSegment, isInside, Laid}
+use Rattle.segment.specs.declared.space.Climb.{Climb}
+use Rattle.segment.specs.Segment.{Axis, plane, space, sumFrom, sumOver, dotOn, degenerate, parameterOf, offFoot, fromFoot, segmentOn, segmentSq, spaceSq}
+use Rattle.segment.specs.Saved.{EachOn, fromEnd, besides, savedOn, segmentOf, fromFootOf, alongOf, toSegment, isInside, Laid, climbOf, climbFoot, toClimb, LaidClimb}
 use Rattle.segment.proofs.Zeros.{none, round-none, Twin, twin, twin-square}
 use Rattle.segment.proofs.Division.{before-start, past-end, strictly-inside, foot-before, foot-past}
 
@@ -60,86 +60,94 @@ not-at-most-nan nan = refl
 not-at-most-nan (inf s) = refl
 not-at-most-nan (fin s m e) = refl
 
--- ---- a finite square has finite sides
-inf-stays : (s : Bool) (z : Float) → T (finite (inf s ⊕ z)) → ⊥
+-- ---- a finite sum has finite terms
+finite-left : (x y : Float) → T (finite (x ⊕ y)) → T (finite x)
 unfolding add
-inf-stays s nan f = f
-inf-stays true (inf true) f = f
-inf-stays true (inf false) f = f
-inf-stays false (inf true) f = f
-inf-stays false (inf false) f = f
-inf-stays s (fin t n i) f = f
+finite-left nan y f = f
+finite-left (inf s) nan f = f
+finite-left (inf true) (inf true) f = f
+finite-left (inf true) (inf false) f = f
+finite-left (inf false) (inf true) f = f
+finite-left (inf false) (inf false) f = f
+finite-left (inf s) (fin t n i) f = f
+finite-left (fin s m e) y f = tt
 
-inf-stays-right : (z : Float) (s : Bool) → T (finite (z ⊕ inf s)) → ⊥
+finite-right : (x y : Float) → T (finite (x ⊕ y)) → T (finite y)
 unfolding add
-inf-stays-right nan s f = f
-inf-stays-right (inf true) true f = f
-inf-stays-right (inf true) false f = f
-inf-stays-right (inf false) true f = f
-inf-stays-right (inf false) false f = f
-inf-stays-right (fin t n i) s f = f
+finite-right nan y f = absurd f
+finite-right (inf s) nan f = f
+finite-right (inf true) (inf true) f = f
+finite-right (inf true) (inf false) f = f
+finite-right (inf false) (inf true) f = f
+finite-right (inf false) (inf false) f = f
+finite-right (inf s) (fin t n i) f = tt
+finite-right (fin s m e) nan f = f
+finite-right (fin s m e) (inf t) f = f
+finite-right (fin s m e) (fin t n i) f = tt
 
-nan-stays-right : (z : Float) → T (finite (z ⊕ nan)) → ⊥
-unfolding add
-nan-stays-right nan f = f
-nan-stays-right (inf s) f = f
-nan-stays-right (fin t n i) f = f
-
-side-x : (x y : Float) → T (finite (lengthSq x y)) → T (finite x)
+-- and a finite square a finite side
+finite-side : (x : Float) → T (finite (x ⊗ x)) → T (finite x)
 unfolding mul
-side-x nan y f = absurd (unfold add in f)
-side-x (inf true) y f = absurd (inf-stays false (y ⊗ y) f)
-side-x (inf false) y f = absurd (inf-stays false (y ⊗ y) f)
-side-x (fin s m e) y f = tt
+finite-side nan f = f
+finite-side (inf true) f = f
+finite-side (inf false) f = f
+finite-side (fin s m e) f = tt
 
-side-y : (x y : Float) → T (finite (lengthSq x y)) → T (finite y)
-unfolding mul
-side-y x nan f = absurd (nan-stays-right (x ⊗ x) f)
-side-y x (inf true) f = absurd (inf-stays-right (x ⊗ x) false f)
-side-y x (inf false) f = absurd (inf-stays-right (x ⊗ x) false f)
-side-y x (fin s m e) f = tt
+-- ---- sums over coordinates
+abbrev squares : (Axis → Float) → Axis → Float
+squares f c = f c ⊗ f c
 
-length-twin : {x x′ y y′ : Float} → Twin x x′ → Twin y y′ → lengthSq x y ≡ lengthSq x′ y′
-length-twin {x} {x′} {y} {y′} h k = ap (λ (z : Float). z ⊕ y ⊗ y) (twin-square h) ∙ ap (λ (z : Float). x′ ⊗ x′ ⊕ z) (twin-square k)
+sides-from : (cs : List Axis) (f : Axis → Float) (s : Float) → T (finite (sumFrom s cs (squares f))) → T (finite s) × EachOn cs (λ c. T (finite (f c)))
+sides-from [] f s h = (h, tt)
+sides-from (c ∷ cs) f s h = let r = sides-from cs f (s ⊕ f c ⊗ f c) h in (finite-left s _ (r .0), (finite-side (f c) (finite-right s _ (r .0)), r .1))
 
--- ---- one point
-module _ (a b p : Point3D) (held-x : T (fits binary64 (a .x))) (held-y : T (fits binary64 (a .y))) where
+sides : (cs : List Axis) (f : Axis → Float) → T (finite (sumOver cs (squares f))) → EachOn cs (λ c. T (finite (f c)))
+sides [] f h = tt
+sides (c ∷ cs) f h = let r = sides-from cs f (f c ⊗ f c) h in (finite-side (f c) (r .0), r .1)
+
+-- squares do not see the sign of a zero
+same-from : (cs : List Axis) (f g : Axis → Float) (s s′ : Float) → s ≡ s′ → EachOn cs (λ c. Twin (f c) (g c)) → sumFrom s cs (squares f) ≡ sumFrom s′ cs (squares g)
+same-from [] f g s s′ e h = e
+same-from (c ∷ cs) f g s s′ e h =
+    same-from cs f g (s ⊕ f c ⊗ f c) (s′ ⊕ g c ⊗ g c) (ap (λ (z : Float). z ⊕ f c ⊗ f c) e ∙ ap (λ (z : Float). s′ ⊕ z) (twin-square (h .0))) (h .1)
+
+pub squares-same : (cs : List Axis) (f g : Axis → Float) → EachOn cs (λ c. Twin (f c) (g c)) → sumOver cs (squares f) ≡ sumOver cs (squares g)
+squares-same [] f g h = refl
+squares-same (c ∷ cs) f g h = same-from cs f g (f c ⊗ f c) (g c ⊗ g c) (twin-square (h .0)) (h .1)
+
+each-both : (P Q R : Axis → Type 0) (cs : List Axis) → ((c : Axis) → P c → Q c → R c) → EachOn cs P → EachOn cs Q → EachOn cs R
+each-both P Q R [] k p q = tt
+each-both P Q R (c ∷ cs) k p q = (k c (p .0) (q .0), each-both P Q R cs k (p .1) (q .1))
+
+each-one : (R : Axis → Type 0) (cs : List Axis) → ((c : Axis) → R c) → EachOn cs R
+each-one R [] k = tt
+each-one R (c ∷ cs) k = (k c, each-one R cs k)
+
+-- ---- one point, by any coordinates
+module _ (cs : List Axis) (a b p : Point3D) (held : EachOn cs (λ c. T (fits binary64 (c a)))) where
   abbrev square : Float
-  square = lengthSq (b .x ⊖ a .x) (b .y ⊖ a .y)
+  square = dotOn cs a b b
 
   abbrev along : Float
-  along = dot (p .x ⊖ a .x) (p .y ⊖ a .y) (b .x ⊖ a .x) (b .y ⊖ a .y)
-
-  abbrev fromStart : Float
-  fromStart = lengthSq (p .x ⊖ a .x) (p .y ⊖ a .y)
-
-  abbrev fromEnd : Float
-  fromEnd = lengthSq (p .x ⊖ (a .x ⊕ (b .x ⊖ a .x))) (p .y ⊖ (a .y ⊕ (b .y ⊖ a .y)))
+  along = dotOn cs a p b
 
   abbrev foot : Float → Float
-  foot t = lengthSq (offFoot t (a .x) (b .x ⊖ a .x) (p .x)) (offFoot t (a .y) (b .y ⊖ a .y) (p .y))
+  foot t = fromFoot cs a b p t
 
   abbrev besidesIt : Float → Float
-  besidesIt level = if level ≺ along then if along ≺ square then foot (along ⊘ square) else fromEnd else if along ≼ level then fromStart else foot (parameterOf along square)
+  besidesIt level = besides level along square foot (fromEnd cs a b p) (dotOn cs a p p)
 
-  clamped : segmentSq a b p ≡ (if square ≺ degenerate then fromStart else foot (parameterOf along square))
-  unfolding segmentSq segmentOn
-  clamped = refl
-
-  saving : toSegment (segmentOf a b) p ≡ (if square ≺ degenerate then fromStart else besidesIt (+0 ⊗ square))
-  unfolding toSegment segmentOf besides fromFootOf
-  saving = refl
-
-  at-start : T (finite square) → Twin (parameterOf along square) +0 → fromStart ≡ foot (parameterOf along square)
+  at-start : T (finite square) → Twin (parameterOf along square) +0 → dotOn cs a p p ≡ foot (parameterOf along square)
   at-start f h =
       let t = parameterOf along square in
-      sym (length-twin (foot-before t (a .x) (b .x ⊖ a .x) (p .x) held-x (side-x _ _ f) h)
-      (foot-before t (a .y) (b .y ⊖ a .y) (p .y) held-y (side-y (b .x ⊖ a .x) _ f) h))
+      sym (squares-same cs (λ c. offFoot t (c a) (c b ⊖ c a) (c p)) (λ c. c p ⊖ c a)
+      (each-both (λ c. T (fits binary64 (c a))) (λ c. T (finite (c b ⊖ c a))) (λ c. Twin (offFoot t (c a) (c b ⊖ c a) (c p)) (c p ⊖ c a)) cs
+      (λ c u v. foot-before t (c a) (c b ⊖ c a) (c p) u v h) held (sides cs (λ c. c b ⊖ c a) f)))
 
-  at-end : fromEnd ≡ foot one
+  at-end : fromEnd cs a b p ≡ foot one
   at-end =
-      sym (length-twin (twin (foot-past (a .x) (b .x ⊖ a .x) (p .x) (sub-fits binary64 (b .x) (a .x))))
-      (twin (foot-past (a .y) (b .y ⊖ a .y) (p .y) (sub-fits binary64 (b .y) (a .y)))))
+      sym (squares-same cs (λ c. offFoot one (c a) (c b ⊖ c a) (c p)) (λ c. c p ⊖ (c a ⊕ (c b ⊖ c a)))
+      (each-one (λ c. Twin (offFoot one (c a) (c b ⊖ c a) (c p)) (c p ⊖ (c a ⊕ (c b ⊖ c a)))) cs (λ c. twin (foot-past (c a) (c b ⊖ c a) (c p) (sub-fits binary64 (c b) (c a))))))
 
   -- on a finite chord, with the foot before the start, inside, past the end, or nowhere
   finite-besides : T (finite square) → (+0 ≺ square) ≡ true → besidesIt +0 ≡ foot (parameterOf along square)
@@ -153,12 +161,27 @@ module _ (a b p : Point3D) (held-x : T (fits binary64 (a .x))) (held-y : T (fits
       ⊎-elim (λ f. let q = square-above square f h in ap besidesIt (level-zero square f q) ∙ finite-besides f q)
       (λ n. ap besidesIt n ∙ rw (nan-below along, not-at-most-nan along)) (finite-or-nan square)
 
-  saved-is-clamped : toSegment (segmentOf a b) p ≡ segmentSq a b p
-  saved-is-clamped = saving ∙ ⊎-elim (λ h. rw h) (λ h. rw h (level-besides h)) (either (square ≺ degenerate)) ∙ sym clamped
+  saved-is-clamped : savedOn cs a b p ≡ segmentOn cs a b p
+  unfolding segmentOn
+  saved-is-clamped = ⊎-elim (λ h. rw h) (λ h. rw h (level-besides h)) (either (square ≺ degenerate))
+
+-- what the code works out, in x and y and in x, y and z
+in-plane : (a b p : Point3D) → toSegment (segmentOf a b) p ≡ savedOn plane a b p
+unfolding toSegment segmentOf fromFootOf
+in-plane a b p = refl
+
+in-space : (a b p : Point3D) → toClimb (climbOf a b) p ≡ savedOn space a b p
+unfolding toClimb climbOf climbFoot
+in-space a b p = refl
 
 -- What is worked out of a segment that is laid is the measure.
 pub by-segment : (s : Segment) (p : Point3D) (d : Float) → d ≡ toSegment s p → (a b : Point3D) → Laid a b s → d ≡ segmentSq a b p
-by-segment s p d e a b l = e ∙ ap (λ (s : Segment). toSegment s p) (l .is) ∙ saved-is-clamped a b p (l .held-x) (l .held-y)
+unfolding segmentSq
+by-segment s p d e a b l = e ∙ ap (λ (s : Segment). toSegment s p) (l .is) ∙ in-plane a b p ∙ saved-is-clamped plane a b p (l .held-x, (l .held-y, tt))
+
+pub by-climb : (s : Climb) (p : Point3D) (d : Float) → d ≡ toClimb s p → (a b : Point3D) → LaidClimb a b s → d ≡ spaceSq a b p
+unfolding spaceSq
+by-climb s p d e a b l = e ∙ ap (λ (s : Climb). toClimb s p) (l .is) ∙ in-space a b p ∙ saved-is-clamped space a b p (l .held-x, (l .held-y, (l .held-z, tt)))
 
 -- From the foot strictly inside.
 three-tests : (a b c : Bool) → (if a then false else if b then c else false) ≡ true → (a ≡ false) × (b ≡ true) × (c ≡ true)
@@ -167,7 +190,7 @@ three-tests false true c h = (refl, refl, h)
 three-tests false false c h = clash h
 
 inside-is : (s : Segment) (p : Point3D) → isInside s (alongOf s p) ≡ true → fromFootOf s p (alongOf s p ⊘ s .square) ≡ toSegment s p
-unfolding isInside toSegment besides
+unfolding isInside toSegment
 inside-is s p h =
     let k = three-tests (s .square ≺ degenerate) (s .level ≺ alongOf s p) (alongOf s p ≺ s .square) h in
     rw (k .0, k .1, k .2)

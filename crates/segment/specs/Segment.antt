@@ -1,4 +1,4 @@
--- How far a point lies from the segment between two others (document 02, §4). Definitions only.
+-- How far a point lies from the segment between two others, in the plane (document 02, §4) and in space (§14). Definitions only.
 -- "Clamp the foot's parameter dot/chord² to 0..1, and measure from the point found, start + parameter × (end − start) in each coordinate."
 use mathlib.Core.List.{List, [], _∷_}
 use lib.Ieee.{Float}
@@ -18,6 +18,10 @@ Axis = Point3D → Float
 -- in the plane: x and y
 abbrev pub plane : List Axis
 plane = (λ p. p .x) ∷ (λ p. p .y) ∷ []
+
+-- in space: x, y and z
+abbrev pub space : List Axis
+space = (λ p. p .x) ∷ (λ p. p .y) ∷ (λ p. p .z) ∷ []
 
 -- a term for each coordinate, added up from left to right
 abbrev pub sumFrom : Float → List Axis → (Axis → Float) → Float
@@ -55,3 +59,8 @@ segmentOn cs a b p =
 unfoldable pub segmentSq : Point3D → Point3D → Point3D → Float
 unfolding segmentOn
 segmentSq = segmentOn plane
+
+-- "thinning and line test use x, y and z, to the segment as in the out-and-back ticket": the measure of the fit for hills
+unfoldable pub spaceSq : Point3D → Point3D → Point3D → Float
+unfolding segmentOn
+spaceSq = segmentOn space

@@ -10,7 +10,8 @@ use Rattle.geo.specs.declared.types.Point3D.{Point3D}
 use Rattle.geo.specs.declared.types.Command.{Command}
 use Rattle.geo.specs.Lent.{endOf, pointAt}
 use Rattle.segment.specs.declared.segment.Segment.{Segment}
-use Rattle.segment.specs.Saved.{segmentOf, Laid}
+use Rattle.segment.specs.declared.space.Climb.{Climb}
+use Rattle.segment.specs.Saved.{segmentOf, Laid, climbOf, LaidClimb}
 use Rattle.simplify.specs.declared.simplify.Chord.{Chord}
 use Rattle.simplify.specs.declared.simplify.Farthest.{Farthest}
 use Rattle.simplify.specs.declared.simplify.Search.{Search}
@@ -59,6 +60,11 @@ pub laid : (s : List Float) (i : ℕ) {a b b′ : Point3D} {segment : Segment} �
     → Laid (pointAt s i) b′ segment
 unfolding pointAt
 laid s i held e ea eb = record { is = rw (sym ea, sym eb) e; held-x = held (3 * i); held-y = held (3 * i + 1) }
+
+pub laid-climb : (s : List Float) (i : ℕ) {a b b′ : Point3D} {climb : Climb} → ((k : ℕ) → T (fits binary64 (getD s k nan))) → climb ≡ climbOf a b → a ≡ pointAt s i → b ≡ b′
+    → LaidClimb (pointAt s i) b′ climb
+unfolding pointAt
+laid-climb s i held e ea eb = record { is = rw (sym ea, sym eb) e; held-x = held (3 * i); held-y = held (3 * i + 1); held-z = held (3 * i + 2) }
 
 -- the distance to the chord of a and b is the measure, of a point and of a command
 pub measured : {a a′ b b′ p p′ : Point3D} {chord : Chord} → chord ≡ chordOf a b → a ≡ a′ → b ≡ b′ → p ≡ p′ → toLine chord p ≡ lineSq a′ b′ p′

@@ -1,14 +1,14 @@
--- How far a point lies from the chord of a range, in x and y: document 01's measure, to the endless line; and which measure a ruler stands for. That to the segment is
+-- How far a point lies from the chord of a range, in x and y: document 01's measure, to the endless line; and which measure a ruler stands for. Those to the segment are in
 -- `segment/specs/Segment.antt`. Definitions only.
 use lib.Ieee.{Float}
 use Rattle.floats.specs.Ops.{_⊖_, _⊗_, _⊘_, _≺_, +0, if_then_else_}
 use Rattle.geo.specs.declared.types.Point.{Point}
 use Rattle.geo.specs.declared.types.Point3D.{Point3D}
 use Rattle.geo.specs.Vector.{lengthSq, perpDot}
-use Rattle.segment.specs.Segment.{degenerate, segmentSq}
+use Rattle.segment.specs.Segment.{degenerate, segmentSq, spaceSq}
 use Rattle.simplify.specs.declared.simplify.Chord.{Chord}
 use Rattle.simplify.specs.declared.simplify.Ruler.{Ruler}
-use Rattle.simplify.specs.declared.simplify.Ruler.the-variants.{Line, Segment}
+use Rattle.simplify.specs.declared.simplify.Ruler.the-variants.{Line, Segment, Space}
 
 -- A measure gives the squared distance of a point, its last argument, to the chord of two others, its first and second.
 -- Thinning and its laws are stated over any measure.
@@ -38,6 +38,7 @@ lineSq a b p = toLine (chordOf a b) p
 abbrev pub measureOf : Ruler → Measure Point3D
 measureOf Line = lineSq
 measureOf Segment = segmentSq
+measureOf Space = spaceSq
 
 -- and of points of the plane, which stand at height 0
 abbrev pub raised : Point → Point3D

@@ -16,6 +16,7 @@ use geo::types::Command;
 use geo::types::Point3D;
 use segment::segment::DEGENERATE;
 use segment::segment::Segment;
+use segment::space::Climb;
 ghost use mathlib.Core.Path.{_≡_};
 ghost use mathlib.Core.Bool.{false, _||_};
 ghost use Prim.Native.Nat.{_+_, _*_, _<_, _≤_};
@@ -24,7 +25,7 @@ ghost use Rattle.floats.specs.Ops.{_≺_, +0};
 ghost use Rattle.geo.specs.Outcome.{Wrote, refusal};
 ghost use Rattle.geo.specs.Commands.{WroteCommands};
 ghost use Rattle.geo.specs.Lent.{pair, triple, flat, pairAt, pointAt, commandAt, endOf};
-ghost use Rattle.segment.specs.Segment.{segmentSq};
+ghost use Rattle.segment.specs.Segment.{segmentSq, spaceSq};
 ghost use Rattle.simplify.specs.Measure.{chordOf, toLine, lineSq, measureOf, planeSq, raised};
 ghost use Rattle.simplify.specs.Farthest.{onChord, farther, farthestIn};
 ghost use Rattle.simplify.specs.Search.{spreadOf, squareOfSpread, begun, Sound};
@@ -33,11 +34,12 @@ ghost use Rattle.simplify.specs.Data.{isMove, toCommand, commandSq, thin
 ghost use Rattle.simplify.specs.Flags.{marked, flagged, flaggedCommands, Copied, CopiedCommands};
 ghost use Rattle.simplify.specs.Simplify.{pointRows, commandRows, simplifyPolyline, simplifyPolyline3d, simplifyData};
 
-// Which distance of a point counts, in x and y: that to the endless line through the ends of its range, or that to the
-// segment between them.
+// Which distance of a point counts: in x and y that to the endless line through the ends of its range, or that to the segment
+// between them; or in x, y and z that to the segment.
 pub enum Ruler {
     Line,
     Segment,
+    Space,
 }
 
 // The chord of a range, worked out once for all the points between. Distances are measured in x and y.
@@ -254,6 +256,19 @@ fn farthest_from_segment(points: &[f64], start: usize, end: usize) -> Farthest
     best
 }
 
+// From the segment in x, y and z.
+fn farthest_in_space(points: &[f64], start: usize, end: usize) -> Farthest
+    requires { ⌜ (3 * start + 2 < length (now points)) × (3 * end + 2 < length (now points)) ⌝ }
+    ensures { λ r. ⌜ r ≡ farthestIn spaceSq (pointAt (now (points .entry))) start end ⌝ }
+{
+    let climb = Climb::new(point_at(points, start), point_at(points, end));
+    let mut best = Farthest::new(start);
+    for i in start + 1..end {
+        best = best.or(climb.distance_squared(point_at(points, i)), i);
+    }
+    best
+}
+
 // The same by any distance, which is looked up once for the range and not for each point.
 pub fn farthest_between(ruler: Ruler, points: &[f64], start: usize, end: usize) -> Farthest
     requires { ⌜ (3 * start + 2 < length (now points)) × (3 * end + 2 < length (now points)) ⌝ }
@@ -262,6 +277,7 @@ pub fn farthest_between(ruler: Ruler, points: &[f64], start: usize, end: usize) 
     match ruler {
         Ruler::Line => farthest_from_line(points, start, end),
         Ruler::Segment => farthest_from_segment(points, start, end),
+        Ruler::Space => farthest_in_space(points, start, end),
     }
 }
 

@@ -15,11 +15,20 @@ enum-told-2 c = search needs
 farthest-from-segment-requires : tie.Need-farthest-from-segment-requires
 farthest-from-segment-requires c κs = search needs
 
+enum-told-3 : tie.Need-enum-told-3
+enum-told-3 c = search needs
+
+farthest-in-space-requires : tie.Need-farthest-in-space-requires
+farthest-in-space-requires c κs = search needs
+
 returns : tie.Need-returns
 returns c = rw (c .before .enum-told .given .1) (c .farthest-from-line .ensures)
 
 returns-2 : tie.Need-returns-2
 returns-2 c = rw (c .before .enum-told2 .given .1) (c .farthest-from-segment .ensures)
+
+returns-3 : tie.Need-returns-3
+returns-3 c = rw (c .before .enum-told3 .given .1) (c .farthest-in-space .ensures)
 
 pub farthest-between-spec : {M : Type 1} → statement M
 farthest-between-spec =
@@ -29,5 +38,8 @@ farthest-between-spec =
     farthest-from-line-requires
     enum-told-2
     farthest-from-segment-requires
+    enum-told-3
+    farthest-in-space-requires
     returns
-    returns-2)
+    returns-2
+    returns-3)

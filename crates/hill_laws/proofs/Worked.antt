@@ -1,0 +1,40 @@
+-- The table of laps over a hill holds: each row by evaluation of the definitions. Assumes nothing.
+use mathlib.Core.Path.{refl}
+use lib.Ieee.{span, climb, size, odd, units, round, neg, sum, add, sub, mul, div, lt, eq, le, isNan, ofInt, toUnsigned, ofFields, ofBits, toBits}
+use Rattle.simplify.specs.Measure as line
+use Rattle.circle.specs.Collinear as collin
+use Rattle.floats.specs.Float.{absOf, ceilOf, maxOf, clampOf}
+use Rattle.floats.specs.Root.{better, rootIn, wholeRoot, rootFrom, inUnits, rootOf, plain}
+use Rattle.geo.specs.Domain.{coordinate, centre, within, isFinite, isPlusZero, pointIn, point3In, everyFrom, numbersIn, whole, zero3, finite3, formed, commandsFormed, commandIn, commandsIn}
+use Rattle.geo.specs.Lent.{pointAt, flat, endOf, kindOf, numbersOf, commandOf, commandAt, commandsFrom}
+use Rattle.geo.specs.Outcome.{refusal, unless}
+use Rattle.geo.specs.Vector.{lengthOf, distanceSq, distance}
+use Rattle.geo.specs.Walk.{fold, listFrom}
+use Rattle.arc.specs.Direction.{turnAt, crossSum, clockwise}
+use Rattle.segment.specs.Segment.{parameterOf, offFoot, segmentOn, segmentSq, spaceSq}
+use Rattle.simplify.specs.Farthest.{farther, farthestOf, farthestIn}
+use Rattle.simplify.specs.Thin.{keptBy, thinned, thinnedPoints}
+use Rattle.circle.specs.Bisector.{movedBy, projected}
+use Rattle.circle.specs.Collinear.{nearTo, besideOf, allNear, allBeside, collinearBy, collinear}
+use Rattle.circle.specs.Kasa.{plus, sumsOf, axesOf, cross3, dot3, scaled, detOf, inverseTimes, solved, matrixOf, sidesOf, centered, kasaCenter}
+use Rattle.circle.specs.Three.{areaOf, turnOf, center3, radiusFrom, centerBy, centerThree, circleRound, throughThree}
+use Rattle.circle.specs.Worst.{worse, worst}
+use Rattle.trial.specs.Deviation.{spokeOf, cosine, sagittaOf, endsOf, stepOf, stepBetween, arcDeviation}
+use Rattle.trial.specs.Traversal.{offsetOf, cross2, dot2, atCentre, halfOf, turned, turnsOf, justBehind, justAhead, passesBy, awayFrom, traverses}
+use Rattle.trial.specs.Trial.{sharpTurn, sharpAt, closedRange, trialRound, trialOf, ofCircle, ofCenter, trialThree, trialLeast, orElse, tryArcs}
+use Rattle.fitting.specs.Commands.{normalOf, shaped, pieceCommand, fitIn, chainFit}
+use Rattle.fitting.specs.Pieces.{rooted, lineDeviation, arcOrCut, chooseBy, choice, follow, piecesBy}
+use Rattle.geo.specs.Vector as vector
+use Rattle.file.specs.Bytes.{halfAt, wordAt, u32Bytes, f64Bytes, numberAt}
+use Rattle.file.specs.Command.{pointFrom, decoded, wellFormed, commandsAt, laid, enc}
+use Rattle.course.specs.Parts as parts
+use Rattle.course.specs.Parts.{closed, carried, partsFrom, partFit, partMost, fitOf}
+use Rattle.course.specs.Course.{joined, partsOn, fitOn, mostOn, endOn}
+use Rattle.laps.specs.File.{lapCount, offsetAt, countAt, lapsAt, lapsOf, body, bodies, table, encode, commandCount, short, big, hasMark, walk, tableOk, lacks, placed, formOk, domainOk, lapOk, lapTested, lapsOk}
+use Rattle.laps.specs.Rows.{fileRows, sizeRows}
+use Rattle.lap_fit.specs.Fit.{lapEnd, startFrom, startOf, fitLap, fitLaps, mostLap, lapsMost, fileFitRows, fitFileBy}
+use Rattle.hill_laws.specs.Worked.{WorkedHills}
+
+pub worked-hills : WorkedHills
+unfolding span climb size odd units round neg sum add sub mul div lt eq le isNan ofInt ofFields ofBits toBits absOf maxOf clampOf better rootIn wholeRoot rootFrom inUnits rootOf plain coordinate centre within isFinite isPlusZero pointIn point3In everyFrom numbersIn whole zero3 finite3 formed commandsFormed commandIn commandsIn pointAt flat endOf kindOf numbersOf commandOf commandAt commandsFrom refusal unless lengthOf distanceSq distance fold listFrom turnAt crossSum clockwise farther farthestOf farthestIn parameterOf offFoot segmentOn segmentSq spaceSq keptBy thinned thinnedPoints movedBy projected nearTo besideOf allNear allBeside collinearBy collinear plus sumsOf axesOf cross3 dot3 scaled detOf inverseTimes solved matrixOf sidesOf centered kasaCenter areaOf turnOf center3 radiusFrom centerBy centerThree circleRound throughThree worse worst spokeOf cosine sagittaOf endsOf stepOf stepBetween arcDeviation offsetOf cross2 dot2 atCentre halfOf turned turnsOf justBehind justAhead passesBy awayFrom traverses sharpTurn sharpAt closedRange trialRound trialOf ofCircle ofCenter trialThree trialLeast orElse tryArcs normalOf shaped pieceCommand fitIn chainFit rooted lineDeviation arcOrCut chooseBy choice follow piecesBy line.chordOf collin.endsChord ceilOf toUnsigned vector.distance3 halfAt wordAt u32Bytes f64Bytes numberAt pointFrom decoded wellFormed commandsAt laid enc parts.mostOf closed carried partsFrom partFit partMost fitOf joined partsOn fitOn mostOn endOn lapCount offsetAt countAt lapsAt lapsOf body bodies table encode commandCount short big hasMark walk tableOk placed lacks formOk domainOk lapOk lapTested lapsOk fileRows sizeRows fitLap mostLap lapsMost lapEnd startFrom startOf fitLaps fileFitRows fitFileBy
+worked-hills = record { vanished = refl; climbed = refl; thinned = refl; turned = refl }

@@ -1,0 +1,2 @@
+pub mod Hills
+pub mod Worked
