@@ -12,7 +12,8 @@ use Rattle.file.specs.Bytes.{numberAt}
 use Rattle.lap_rows.specs.Listing.{mostText, textRows, listFile}
 use Rattle.lap_rows.proofs.Rows.{text-number}
 use Rattle.printing.proofs.Printed.{Prints}
-use Rattle.lapfit.specs.Input.{listInput, lapfitText}
+use Rattle.printing.specs.Input.{listInput}
+use Rattle.lapfit.specs.Input.{lapfitText}
 
 -- ---- the number of a refusal
 few-unless : (k : ℕ) (text : List ℕ) (n : ℕ) → k ≤ 9 → unless k text ≡ refused n → n ≤ 9

@@ -27,7 +27,8 @@ use Rattle.lap_fit.specs.Fit.{lapEnd}
 use Rattle.lap_rows.proofs.Decimal.{last-digit, next-digit}
 use Rattle.lap_rows.proofs.Demand.{digits-spell, listed-passes, sum-of-the-rows}
 use Rattle.printing.specs.Printed.{printed}
-use Rattle.lapfit.specs.Input.{listInput, lapfitText}
+use Rattle.printing.specs.Input.{listInput}
+use Rattle.lapfit.specs.Input.{lapfitText}
 use Rattle.lapfit.specs.Sum.{withFirst, splitBy, linesIn, columnsIn, stepsOn, ThreeColumns, SumUnder, SumIsPrinted, RefusalAlone}
 
 -- ---- bytes none of which is below k

@@ -1,16 +1,9 @@
--- What the program makes of its input: "eight bytes of tolerance, then a lap file"; "input below 16 bytes gives 1" (document 01). Definitions only.
+-- What the program prints of its input. Definitions only.
 use Prim.Native.Nat.{ℕ}
 use mathlib.Core.List.{List}
-use lib.ListN.{length, drop}
-use lib.Dec.{ltb}
-use Rattle.floats.specs.Ops.{if_then_else_}
-use Rattle.geo.specs.Outcome.{Outcome, refused}
-use Rattle.file.specs.Bytes.{numberAt}
-use Rattle.lap_rows.specs.Listing.{mostText, listFile}
+use Rattle.lap_rows.specs.Listing.{mostText}
+use Rattle.printing.specs.Input.{listInput}
 use Rattle.printing.specs.Printed.{printed}
-
-unfoldable pub listInput : List ℕ → ℕ → Outcome (List ℕ)
-listInput s room = if ltb (length s) 16 then refused 1 else listFile (drop 8 s) (numberAt s 0) room
 
 -- the bytes that it prints: the listing, which ends with the sum of the steps, or the one line of a refusal; there is room for the text of 800 rows, which is the most that
 -- row 8 lets through

@@ -12,7 +12,8 @@ use Rattle.listing.specs.Rows.{sumOf}
 use Rattle.laps.specs.File.{lapsOf}
 use Rattle.lap_rows.specs.Listing.{ascii, decimal, comma, newline, lapsSteps, mostText}
 use Rattle.lap_rows.specs.Demand.{spelled}
-use Rattle.lapfit.specs.Input.{listInput, lapfitText}
+use Rattle.printing.specs.Input.{listInput}
+use Rattle.lapfit.specs.Input.{lapfitText}
 
 -- ---- a text, read
 -- a byte in front of the first of several texts

@@ -1,30 +1,16 @@
 // Reads eight bytes of tolerance, then a lap file, from standard input. A refusal prints one line. An accepted file prints
 // the listing of its fit: lap, kind letter and steps of each command that the fit writes, and the sum of the steps under them.
-use file::words::number_at;
 use geo::types::Answer;
-use lap_rows::lap_rows::list_file;
 use lap_rows::lap_rows::put_refusal;
 use libc::STDIN_FILENO;
 use libc::STDOUT_FILENO;
+use printing::input::list_input;
 use printing::rest::drain;
 ghost use mathlib.Core.Path.{_≡_};
-ghost use mathlib.Core.List.{List, _++_};
-ghost use Prim.Native.Nat.{ℕ};
+ghost use mathlib.Core.List.{_++_};
 ghost use lib.ListN.{length, drop};
-ghost use Rattle.geo.specs.Outcome.{Wrote};
 ghost use Rattle.lap_rows.specs.Listing.{mostText};
-ghost use Rattle.lapfit.specs.Input.{listInput, lapfitText};
-
-// Lists the file behind the tolerance, to the front of out.
-fn list_input(input: &[u8], out: &mut [u8]) -> Answer
-    ensures { λ r. ⌜ Wrote (λ (bytes : List ℕ). bytes) (listInput (now (input .entry)) (length (now (out .entry)))) (now (out .entry)) (now (out .exit)) r ⌝ }
-{
-    if input.len() < 16 {
-        return Answer::Refused(1);
-    }
-    let tolerance = number_at(input, 0);
-    list_file(&input[8..], tolerance, out)
-}
+ghost use Rattle.lapfit.specs.Input.{lapfitText};
 
 // Writes what the program prints to the front of out, and answers how many bytes it has.
 fn print_input(input: &[u8], out: &mut [u8]) -> usize

@@ -1,4 +1,4 @@
--- `lapfit::list_input` meets its contract: an input below 16 bytes is refused by 1, and any other is a tolerance and a file. Assumes nothing.
+-- `printing::input::list_input` meets its contract: an input below 16 bytes is refused by 1, and any other is a tolerance and a file. Assumes nothing.
 use Prim.Native.Nat.{ℕ, _-_, _≤_, _<_}
 use mathlib.Core.Path.{_≡_, refl}
 use mathlib.Core.List.{List}
@@ -12,10 +12,10 @@ use Rattle.geo.specs.Outcome.{answer, left, Wrote}
 use Rattle.geo.proofs.Outcomes.{wrote-same}
 use Rattle.file.specs.Bytes.{numberAt}
 use Rattle.lap_rows.specs.Listing.{listFile}
-use Rattle.lapfit.specs.Input.{listInput}
+use Rattle.printing.specs.Input.{listInput}
 use borrow.Author.Needs.{needs}
-use Rattle.lapfit.proofs.list_input.Statement.{statement}
-use Rattle.lapfit.proofs.list_input.Tie as tie
+use Rattle.printing.proofs.input.list_input.Statement.{statement}
+use Rattle.printing.proofs.input.list_input.Tie as tie
 
 below : (s : List ℕ) (room : ℕ) (out : List ℕ) → length s < 16 → Wrote (λ (bytes : List ℕ). bytes) (listInput s room) out out (Refused 1)
 unfolding listInput answer left
