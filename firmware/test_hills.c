@@ -79,8 +79,8 @@ static void test_arcs(void)
     const double nums[36] = {[9] = 4, 0, 3, [18] = 9, 4, 7, 2, 2, 0, 0, 0, 1, [27] = 9, 9, 0};
     unsigned char file[1024], out[1024];
     size_t size = write_points(file, bend, 3), count = 0;
-    check(pz_fit_file(file, size, 0.45, out, sizeof out, &count) == PZ_DONE && out[16 + PZ_COMMAND_BYTES] == PZ_ARC, "flat, a bend is an Arc");
-    check(keeps(bend, 3, 0.45, all, 3), "and in hills two Lines");
+    check(pz_fit_file(file, size, 0.3, out, sizeof out, &count) == PZ_DONE && out[16 + PZ_COMMAND_BYTES] == PZ_ARC, "flat, a bend is an Arc");
+    check(keeps(bend, 3, 0.3, all, 3), "and in hills two Lines");
     size = write_lap(file, kinds, nums, 4);
     check(pz_fit_hills(file, size, 0.5, out, sizeof out, &count) == PZ_DONE && count == size, "a lap with an Arc");
     check(memcmp(out, file, size) == 0, "stays as it was recorded");
