@@ -41,6 +41,7 @@ pub mod listing;
 pub mod live;
 pub mod margins;
 pub mod out_and_back;
+pub mod session;
 pub mod shapes;
 pub mod simplify;
 pub mod svg;
