@@ -259,7 +259,8 @@ static void test_bodies(void)
     memcpy(body, d.fitted + 8 + 24, one);
     check(commit_in(&d, &t, d.part + one, d.part_bytes - one, ROOM) == PZ_DONE, "a part without its Move");
     check(memcmp(d.fitted + 8 + 24, body, one) == 0, "and lap 1 as it stands, which is no number");
-    check(d.fitted[d.fitted_bytes - (d.part_bytes - one)] == PZ_LINE, "the part is the lap's body");
+    size_t rest = d.part_bytes - one;
+    check(memcmp(d.fitted + d.fitted_bytes - rest, d.part + one, rest) == 0, "the part is the lap's body");
 }
 
 int main(void)
