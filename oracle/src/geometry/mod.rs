@@ -35,6 +35,7 @@ pub mod list_fit;
 pub mod list_flatten;
 pub mod list_laps;
 pub mod list_live;
+pub mod list_session;
 pub mod list_simplify;
 pub mod list_svg;
 pub mod listing;

@@ -272,6 +272,12 @@ struct Held {
     asking: Replacement,
 }
 
+/// A call of a session, by what it takes; a replacement beside it is none.
+pub enum Step {
+    Ask(Replacement, u32),
+    Commit(Commit),
+}
+
 /// The files, the session and the tickets that were given; what was called, and whether what document 02 says of calls together
 /// holds so far.
 struct Desk {
@@ -282,6 +288,7 @@ struct Desk {
     held: Vec<Held>,
     served: Vec<Vec<u64>>,
     calls: Vec<Compared>,
+    steps: Vec<Step>,
     laws: bool,
     /// Whether the fitted file is still the fit of the recorded one.
     fits: bool,
@@ -340,8 +347,8 @@ impl Desk {
             ]),
             _ => 0,
         };
-        let (held, served, calls) = (Vec::new(), Vec::new(), Vec::new());
-        Desk { recorded, fitted, edits, tolerance, held, served, calls, laws: true, fits }
+        let (held, served, calls, steps) = (Vec::new(), Vec::new(), Vec::new(), Vec::new());
+        Desk { recorded, fitted, edits, tolerance, held, served, calls, steps, laws: true, fits }
     }
 
     fn lap_count(&self) -> usize {
@@ -365,6 +372,7 @@ impl Desk {
         let (judged, given) = ask_of(&r, self.edits);
         draw.label(ASKED[judged.call.given.number as usize]);
         self.calls.push(judged.labelled(draw));
+        self.steps.push(Step::Ask(r.clone(), self.edits));
         if let Some((ticket, part)) = given {
             self.held.push(Held { ticket, part, asking: r });
         }
@@ -411,6 +419,7 @@ impl Desk {
             self.store(&c, &held, &call);
         }
         self.calls.push(call);
+        self.steps.push(Step::Commit(c));
     }
 
     /// One of the tickets that were given, most often the last; one that was made up where there is none.
@@ -620,7 +629,12 @@ fn damaged_part(draw: &mut Draw, part: &mut Vec<u8>, t: &mut Ticket) {
 
 // ---- whole sessions
 
-fn session(draw: &mut Draw) -> Compared {
+/// The calls of a drawn session.
+pub fn steps(draw: &mut Draw) -> Vec<Step> {
+    drawn(draw).steps
+}
+
+fn drawn(draw: &mut Draw) -> Desk {
     let mut desk = Desk::new(draw);
     for _ in 0..3 + draw.below(8) {
         match draw.below(10) {
@@ -631,6 +645,11 @@ fn session(draw: &mut Draw) -> Compared {
         }
     }
     desk.laws = desk.laws && desk.ends_fitted(draw);
+    desk
+}
+
+fn session(draw: &mut Draw) -> Compared {
+    let desk = drawn(draw);
     let side = |of: fn(&Compared) -> &Outcome, laws: bool| {
         let numbers = desk.calls.iter().map(|call| of(call).number as u64).chain([laws as u64]).collect::<Vec<_>>();
         let lent = desk.calls.iter().flat_map(|call| of(call).lent.clone());
