@@ -13,7 +13,7 @@ ABOUT = """Recorded laps as straights and bends, for the coach and the student.
 
 WORKOUT is a recording: GPX, a table (CSV), or the workout's own text, one position a line: lap time x y z, in seconds and
 metres. A lap file (.laps) is what the watch holds. A COURSE is SVG path data. TOLERANCE is in metres. '-' stands for standard input or output. No
-file is replaced without --force, and no input ever. Every fitted byte comes from the proved functions, by
+file is replaced without --force, and no input ever, but by store, which is for that. Every fitted byte comes from the proved functions, by
 target/coach/laptool (coach/build makes it). Lengths are in the plane."""
 
 
