@@ -20,7 +20,7 @@ ghost use Rattle.file.specs.Command.{pointFrom, decoded, wellFormed, lai
 pub const COMMAND_BYTES: usize = 73;
 
 // The point whose three numbers stand from `at` on.
-fn point_from(s: &[u8], at: usize) -> Point3D
+pub fn point_from(s: &[u8], at: usize) -> Point3D
     requires { ⌜ at + 24 ≤ length (now s) ⌝ }
     ensures { λ r. ⌜ r ≡ pointFrom (now (s .entry)) at ⌝ }
 {

@@ -129,7 +129,8 @@ fn is_zero3(p: Point3D) -> bool
     false
 }
 
-fn is_finite3(p: Point3D) -> bool
+// Whether the three numbers of a point, offset or normal are finite.
+pub fn is_finite3(p: Point3D) -> bool
     ensures { λ r. ⌜ r ≡ finite3 p ⌝ }
 {
     if is_finite(p.x) {

@@ -14,7 +14,7 @@ use Rattle.geo.specs.Lent.{flat, kindOf, numbersOf, commandsFrom}
 use Rattle.file.specs.Command.{commandsAt, decoded, enc}
 use Rattle.file.proofs.Lent.{back-part, back-front}
 use Rattle.fitting.specs.Written.{FitPlaced}
-use Rattle.fitting.specs.Pieces.{lapsRule}
+use Rattle.fitting.specs.declared.fitting.Rule.{Rule}
 use Rattle.course.specs.Course.{fitOn, mostOn, lentCourse}
 use Rattle.course.proofs.Accepted.{course-few}
 use Rattle.laps.specs.File.{Lap, body, PutLap}
@@ -33,14 +33,14 @@ module _ (s : List ℕ) (at n : ℕ) (ks₀ ks : List ℕ) (ns₀ ns : List Floa
   pub read-back : lentCourse (take n ks) (take (9 * n) ns) ≡ map decoded (commandsAt s at n)
   read-back = back-part (map decoded (commandsAt s at n)) n ks₀ ks ns₀ ns (sym (length-map (commandsAt s at n) decoded ∙ length-commands s at n)) h k e f
 
-  module _ (tol : Float) (p : Point3D) where
-    pub most-read : mostOn tol p (lentCourse (take n ks) (take (9 * n) ns)) ≡ mostLap tol p (commandsAt s at n)
+  module _ (r : Rule) (p : Point3D) where
+    pub most-read : mostOn (r .tolerance) p (lentCourse (take n ks) (take (9 * n) ns)) ≡ mostLap (r .tolerance) p (commandsAt s at n)
     unfolding mostLap
-    most-read = ap (mostOn tol p) read-back
+    most-read = ap (mostOn (r .tolerance) p) read-back
 
-    pub fit-read : fitNew tol p (take n ks) (take (9 * n) ns) ≡ fitLap tol p (commandsAt s at n)
+    pub fit-read : fitNew r p (take n ks) (take (9 * n) ns) ≡ fitLap r p (commandsAt s at n)
     unfolding fitNew fitLap
-    fit-read = ap (λ (cs : List Command). map enc (fitOn (lapsRule tol) p cs)) read-back
+    fit-read = ap (λ (cs : List Command). map enc (fitOn r p cs)) read-back
 
 -- ---- a fit in two arrays, written as a lap
 body-enc : (cs : List Command) → body (map enc cs) ≡ flat enc cs
@@ -48,25 +48,25 @@ unfolding body flat
 body-enc [] = refl
 body-enc (c ∷ cs) = ap (λ (l : List ℕ). enc c ++ l) (body-enc cs)
 
-module _ (tol : Float) (pos : (+0 ≺ tol) ≡ true) (start : Point3D) (ks : List ℕ) (ns : List Float) (few : mostOn tol start (lentCourse ks ns) ≤ 800) (n : ℕ) (fk₀ fk : List ℕ) (fn₀ fn : List Float)
-    (p : FitPlaced (fitOn (lapsRule tol) start (lentCourse ks ns)) 0 n fk₀ fk fn₀ fn) (h : 800 ≤ length fk₀) (k : 7200 ≤ length fn₀) where
+module _ (r : Rule) (pos : (+0 ≺ r .tolerance) ≡ true) (start : Point3D) (ks : List ℕ) (ns : List Float) (few : mostOn (r .tolerance) start (lentCourse ks ns) ≤ 800) (n : ℕ) (fk₀ fk : List ℕ) (fn₀ fn : List Float)
+    (p : FitPlaced (fitOn r start (lentCourse ks ns)) 0 n fk₀ fk fn₀ fn) (h : 800 ≤ length fk₀) (k : 7200 ≤ length fn₀) where
   counted : n ≤ 800
-  counted = let a = course-few (lapsRule tol) pos start (lentCourse ks ns) in let b = p .count in omega arith
+  counted = let a = course-few r pos start (lentCourse ks ns) in let b = p .count in omega arith
 
   pub fits-kinds : n ≤ length fk
-  fits-kinds = let a = counted in let l = ap length (p .kinds) ∙ length-sets fk₀ 0 (map kindOf (fitOn (lapsRule tol) start (lentCourse ks ns))) in omega arith
+  fits-kinds = let a = counted in let l = ap length (p .kinds) ∙ length-sets fk₀ 0 (map kindOf (fitOn r start (lentCourse ks ns))) in omega arith
 
   pub fits-numbers : 9 * n ≤ length fn
-  fits-numbers = let a = counted in let l = ap length (p .numbers) ∙ length-sets fn₀ 0 (flat numbersOf (fitOn (lapsRule tol) start (lentCourse ks ns))) in omega arith
+  fits-numbers = let a = counted in let l = ap length (p .numbers) ∙ length-sets fn₀ 0 (flat numbersOf (fitOn r start (lentCourse ks ns))) in omega arith
 
-  pub counted-new : length (fitNew tol start ks ns) ≡ n
+  pub counted-new : length (fitNew r start ks ns) ≡ n
   unfolding fitNew
-  counted-new = length-map (fitOn (lapsRule tol) start (lentCourse ks ns)) enc ∙ sym (p .count)
+  counted-new = length-map (fitOn r start (lentCourse ks ns)) enc ∙ sym (p .count)
 
-  pub put-fit : (out out′ : List ℕ) (to : ℕ) → out′ ≡ sets out to (flat enc (commandsFrom fk fn n 0)) → PutLap (fitNew tol start ks ns) out out′ to n
+  pub put-fit : (out out′ : List ℕ) (to : ℕ) → out′ ≡ sets out to (flat enc (commandsFrom fk fn n 0)) → PutLap (fitNew r start ks ns) out out′ to n
   unfolding fitNew
   put-fit out out′ to o =
-      let cs : List Command = fitOn (lapsRule tol) start (lentCourse ks ns) in
+      let cs : List Command = fitOn r start (lentCourse ks ns) in
       let a = counted in
       let b : n ≡ length cs = p .count in
       let c : commandsFrom fk fn n 0 ≡ cs = ap (λ (m : ℕ). commandsFrom fk fn m 0) b ∙ back-front cs fk₀ fk fn₀ fn (omega arith) (omega arith) (p .kinds) (p .numbers) in

@@ -10,7 +10,7 @@ use Rattle.geo.specs.declared.types.Command.the-variants.{Move, Line, Arc, Bezi
 use Rattle.geo.specs.Lent.{flat, kindOf, numbersOf}
 use Rattle.file.specs.Bytes.{u32Bytes, f64Bytes}
 use Rattle.file.specs.Command.{decoded, enc}
-use Rattle.fitting.specs.Pieces.{lapsRule}
+use Rattle.fitting.specs.declared.fitting.Rule.{Rule}
 use Rattle.course.specs.Course.{fitOn}
 use Rattle.laps.specs.File.{Lap, body, bodies, table, mark, encode, Bytes}
 use Rattle.lap_fit.specs.Fit.{lapEnd, fitLap, fitLaps}
@@ -61,10 +61,10 @@ unfolding body
 lap [] = none
 lap (c ∷ cs) = both (enc c) (body (map enc cs)) (command c) (lap cs)
 
-laps : (tol : Float) (p : Point3D) (ls : List Lap) → Bytes (bodies (fitLaps tol p ls))
+laps : (r : Rule) (p : Point3D) (ls : List Lap) → Bytes (bodies (fitLaps r p ls))
 unfolding bodies fitLap fitLaps
-laps tol p [] = none
-laps tol p (l ∷ ls) = both (body (fitLap tol p l)) (bodies (fitLaps tol (lapEnd p l) ls)) (lap (fitOn (lapsRule tol) p (map decoded l))) (laps tol (lapEnd p l) ls)
+laps r p [] = none
+laps r p (l ∷ ls) = both (body (fitLap r p l)) (bodies (fitLaps r (lapEnd p l) ls)) (lap (fitOn r p (map decoded l))) (laps r (lapEnd p l) ls)
 
 entries : (at : ℕ) (ls : List Lap) → Bytes (table at ls)
 unfolding table
@@ -74,11 +74,11 @@ entries at (l ∷ ls) =
     (entries (at + 73 * length l) ls)
 
 -- The fitted laps of a file, as a file.
-pub bytes-file : (tol : Float) (p : Point3D) (ls : List Lap) → Bytes (encode (fitLaps tol p ls))
+pub bytes-file : (r : Rule) (p : Point3D) (ls : List Lap) → Bytes (encode (fitLaps r p ls))
 unfolding encode
-bytes-file tol p ls =
-    let fs : List Lap = fitLaps tol p ls in
+bytes-file r p ls =
+    let fs : List Lap = fitLaps r p ls in
     let head = four 0x4c 0x41 0x50 0x53 [] (omega arith) (omega arith) (omega arith) (omega arith) none in
     both (mark ++ u32Bytes (length fs) ++ table (8 + 8 * length fs) fs) (bodies fs)
     (both (mark ++ u32Bytes (length fs)) (table (8 + 8 * length fs) fs) (both mark (u32Bytes (length fs)) head (whole (length fs))) (entries (8 + 8 * length fs) fs))
-    (laps tol p ls)
+    (laps r p ls)

@@ -11,7 +11,7 @@ use Rattle.geo.specs.declared.types.Point3D.{Point3D}
 use Rattle.geo.specs.declared.types.Command.{Command}
 use Rattle.geo.specs.Lent.{endOf}
 use Rattle.file.specs.Command.{commandsAt, decoded, enc}
-use Rattle.fitting.specs.Pieces.{lapsRule}
+use Rattle.fitting.specs.declared.fitting.Rule.{Rule}
 use Rattle.course.specs.Course.{joined, fitOn, mostOn, endOn, lentCourse}
 use Rattle.course.specs.Walks.{weightOf, weightsFrom}
 use Rattle.course.proofs.Accepted.{course-few}
@@ -23,35 +23,35 @@ use Rattle.laps.proofs.Whole.{whole-enc}
 use Rattle.lap_fit.specs.Fit.{lapEnd, fitLap, fitLaps, mostLap, lapsMost, fitNew}
 
 -- a fit writes no more than its most, and something where there is a command
-module _ (tol : Float) (pos : (+0 ≺ tol) ≡ true) (p : Point3D) where
-  pub fit-most : (l : Lap) → length (fitLap tol p l) ≤ mostLap tol p l
+module _ (r : Rule) (pos : (+0 ≺ r .tolerance) ≡ true) (p : Point3D) where
+  pub fit-most : (l : Lap) → length (fitLap r p l) ≤ mostLap (r .tolerance) p l
   unfolding fitLap mostLap
-  fit-most l = rw (length-map (fitOn (lapsRule tol) p (map decoded l)) enc) (course-few (lapsRule tol) pos p (map decoded l))
+  fit-most l = rw (length-map (fitOn r p (map decoded l)) enc) (course-few r pos p (map decoded l))
 
-  pub new-most : (ks : List ℕ) (ns : List Float) → length (fitNew tol p ks ns) ≤ mostOn tol p (lentCourse ks ns)
+  pub new-most : (ks : List ℕ) (ns : List Float) → length (fitNew r p ks ns) ≤ mostOn (r .tolerance) p (lentCourse ks ns)
   unfolding fitNew
-  new-most ks ns = rw (length-map (fitOn (lapsRule tol) p (lentCourse ks ns)) enc) (course-few (lapsRule tol) pos p (lentCourse ks ns))
+  new-most ks ns = rw (length-map (fitOn r p (lentCourse ks ns)) enc) (course-few r pos p (lentCourse ks ns))
 
-  pub fit-some : (l : Lap) → 0 < length l → 0 < length (fitLap tol p l)
+  pub fit-some : (l : Lap) → 0 < length l → 0 < length (fitLap r p l)
   unfolding fitLap
   fit-some l h =
       let d = length-map l decoded in
-      let s = some-fitted (lapsRule tol) pos p (map decoded l) (omega arith) in
-      rw (length-map (fitOn (lapsRule tol) p (map decoded l)) enc) s
+      let s = some-fitted r pos p (map decoded l) (omega arith) in
+      rw (length-map (fitOn r p (map decoded l)) enc) s
 
 -- each command of a fit has 73 bytes
-pub whole-fit : (tol : Float) (p : Point3D) (l : Lap) → EachFull (fitLap tol p l)
+pub whole-fit : (r : Rule) (p : Point3D) (l : Lap) → EachFull (fitLap r p l)
 unfolding fitLap
-whole-fit tol p l = whole-enc (fitOn (lapsRule tol) p (map decoded l))
+whole-fit r p l = whole-enc (fitOn r p (map decoded l))
 
-pub wholes-fit : (tol : Float) (p : Point3D) (ls : List Lap) → AllFull (fitLaps tol p ls)
+pub wholes-fit : (r : Rule) (p : Point3D) (ls : List Lap) → AllFull (fitLaps r p ls)
 unfolding fitLaps
-wholes-fit tol p [] = tt
-wholes-fit tol p (l ∷ ls) = (whole-fit tol p l, wholes-fit tol (lapEnd p l) ls)
+wholes-fit r p [] = tt
+wholes-fit r p (l ∷ ls) = (whole-fit r p l, wholes-fit r (lapEnd p l) ls)
 
-pub whole-new : (tol : Float) (p : Point3D) (ks : List ℕ) (ns : List Float) → EachFull (fitNew tol p ks ns)
+pub whole-new : (r : Rule) (p : Point3D) (ks : List ℕ) (ns : List Float) → EachFull (fitNew r p ks ns)
 unfolding fitNew
-whole-new tol p ks ns = whole-enc (fitOn (lapsRule tol) p (lentCourse ks ns))
+whole-new r p ks ns = whole-enc (fitOn r p (lentCourse ks ns))
 
 -- ---- the laps of a file, one by one
 pub mosts-step : (tol : Float) (p q : Point3D) (s : List ℕ) (j at l n : ℕ) → j < l → n ≡ countAt s j → q ≡ lapEnd p (commandsAt s at n)

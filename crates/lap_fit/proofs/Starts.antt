@@ -11,7 +11,7 @@ use Rattle.geo.specs.declared.types.Point3D.{Point3D}
 use Rattle.geo.specs.declared.types.Command.the-variants.{Move}
 use Rattle.geo.specs.Lent.{commandOf}
 use Rattle.file.specs.Command.{decoded, enc, pointFrom}
-use Rattle.fitting.specs.Pieces.{lapsRule}
+use Rattle.fitting.specs.declared.fitting.Rule.{Rule}
 use Rattle.course.proofs.Start as start
 use Rattle.laps.specs.File.{Lap, lacks}
 use Rattle.laps.proofs.ReadBack.{Somes}
@@ -36,13 +36,13 @@ unfolding lacks decoded commandOf
 has-move c l e = let k = eqb-true (getD c 0 0) 0 (not-false _ e) in rw k
 
 -- is fitted alike from any start
-pub start-not-asked : (tol : Float) (p q : Point3D) (l : Lap) → lacks l ≡ false → fitLap tol p l ≡ fitLap tol q l
+pub start-not-asked : (r : Rule) (p q : Point3D) (l : Lap) → lacks l ≡ false → fitLap r p l ≡ fitLap r q l
 unfolding fitLap
-start-not-asked tol p q [] e = ap (map enc) (start.fit-none (lapsRule tol) p ∙ sym (start.fit-none (lapsRule tol) q))
-start-not-asked tol p q (c ∷ l) e =
+start-not-asked r p q [] e = ap (map enc) (start.fit-none r p ∙ sym (start.fit-none r q))
+start-not-asked r p q (c ∷ l) e =
     let m = has-move c l e in
     let a = pointFrom c 1 in
-    rw m (ap (map enc) (start.fit-move (lapsRule tol) p a (map decoded l) ∙ sym (start.fit-move (lapsRule tol) q a (map decoded l))))
+    rw m (ap (map enc) (start.fit-move r p a (map decoded l) ∙ sym (start.fit-move r q a (map decoded l))))
 
 pub most-start-not-asked : (tol : Float) (p q : Point3D) (l : Lap) → lacks l ≡ false → mostLap tol p l ≡ mostLap tol q l
 unfolding mostLap
@@ -53,17 +53,17 @@ most-start-not-asked tol p q (c ∷ l) e =
     rw m (start.most-move tol p a (map decoded l) ∙ sym (start.most-move tol q a (map decoded l)))
 
 -- no commands come to nothing, and have no most
-pub fit-no-lap : (tol : Float) (p : Point3D) → fitLap tol p [] ≡ []
+pub fit-no-lap : (r : Rule) (p : Point3D) → fitLap r p [] ≡ []
 unfolding fitLap
-fit-no-lap tol p = ap (map enc) (start.fit-none (lapsRule tol) p)
+fit-no-lap r p = ap (map enc) (start.fit-none r p)
 
 pub most-no-lap : (tol : Float) (p : Point3D) → mostLap tol p [] ≡ 0
 unfolding mostLap
 most-no-lap tol p = start.most-none tol p
 
 -- the lap of index i of the fits is the fit of that lap from its start
-pub fit-at : (tol : Float) (p : Point3D) (ls : List Lap) (i : ℕ) → i < length ls → getD (fitLaps tol p ls) i [] ≡ fitLap tol (startFrom p ls i) (getD ls i [])
+pub fit-at : (r : Rule) (p : Point3D) (ls : List Lap) (i : ℕ) → i < length ls → getD (fitLaps r p ls) i [] ≡ fitLap r (startFrom p ls i) (getD ls i [])
 unfolding fitLaps startFrom
-fit-at tol p [] i h = absurd (omega arith)
-fit-at tol p (l ∷ ls) zero h = refl
-fit-at tol p (l ∷ ls) (suc i) h = fit-at tol (lapEnd p l) ls i (omega arith)
+fit-at r p [] i h = absurd (omega arith)
+fit-at r p (l ∷ ls) zero h = refl
+fit-at r p (l ∷ ls) (suc i) h = fit-at r (lapEnd p l) ls i (omega arith)

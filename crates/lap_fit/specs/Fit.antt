@@ -8,6 +8,7 @@ use Rattle.geo.specs.Lent.{origin}
 use Rattle.geo.specs.Domain.{tolerance}
 use Rattle.geo.specs.Outcome.{Row, row, refusal, Outcome, unless}
 use Rattle.file.specs.Command.{decoded, enc}
+use Rattle.fitting.specs.declared.fitting.Rule.{Rule}
 use Rattle.fitting.specs.Pieces.{lapsRule}
 use Rattle.course.specs.Course.{fitOn, mostOn, endOn, lentCourse}
 use Rattle.laps.specs.File.{Lap, lapCount, lapsOf, encode}
@@ -28,14 +29,13 @@ startFrom p (l ∷ ls) (suc i) = startFrom (lapEnd p l) ls i
 unfoldable pub startOf : ℕ → List Lap → Point3D
 startOf k ls = startFrom origin ls (k - 1)
 
--- ---- the fit of a lap that starts at p, and of laps, the first of which does
--- "The fit of a file is `fit_arcs` of each lap under a new table"
-unfoldable pub fitLap : Float → Point3D → Lap → Lap
-fitLap tol p l = map enc (fitOn (lapsRule tol) p (map decoded l))
+-- ---- the fit by the rule r of a lap that starts at p, and of laps, the first of which does
+unfoldable pub fitLap : Rule → Point3D → Lap → Lap
+fitLap r p l = map enc (fitOn r p (map decoded l))
 
-unfoldable pub fitLaps : Float → Point3D → List Lap → List Lap
-fitLaps tol p [] = []
-fitLaps tol p (l ∷ ls) = fitLap tol p l ∷ fitLaps tol (lapEnd p l) ls
+unfoldable pub fitLaps : Rule → Point3D → List Lap → List Lap
+fitLaps r p [] = []
+fitLaps r p (l ∷ ls) = fitLap r p l ∷ fitLaps r (lapEnd p l) ls
 
 -- "for a course, its Moves and Arcs plus that of each chain, Bezier steps counted"; of a file, all laps of it
 unfoldable pub mostLap : Float → Point3D → Lap → ℕ
@@ -46,12 +46,17 @@ lapsMost tol p [] = 0
 lapsMost tol p (l ∷ ls) = mostLap tol p l + lapsMost tol (lapEnd p l) ls
 
 -- the fit of commands that are lent as the kinds ks and the numbers ns
-unfoldable pub fitNew : Float → Point3D → List ℕ → List Float → Lap
-fitNew tol p ks ns = map enc (fitOn (lapsRule tol) p (lentCourse ks ns))
+unfoldable pub fitNew : Rule → Point3D → List ℕ → List Float → Lap
+fitNew r p ks ns = map enc (fitOn r p (lentCourse ks ns))
 
 -- ---- the fit of the file s into an output of `room` bytes
 unfoldable pub fileFitRows : List ℕ → Float → ℕ → List Row
 fileFitRows s tol room = fileRows s ++ (row 6 (not (tolerance tol)) ∷ sizeRows (lapCount s) (lapsMost tol origin (lapsOf s)) room)
 
-unfoldable pub fitFile : List ℕ → Float → ℕ → Outcome (List ℕ)
-fitFile s tol room = unless (refusal (fileFitRows s tol room)) (encode (fitLaps tol origin (lapsOf s)))
+-- by the rule r, under a new table
+unfoldable pub fitFileBy : Rule → List ℕ → ℕ → Outcome (List ℕ)
+fitFileBy r s room = unless (refusal (fileFitRows s (r .tolerance) room)) (encode (fitLaps r origin (lapsOf s)))
+
+-- "The fit of a file is `fit_arcs` of each lap under a new table"
+abbrev pub fitFile : List ℕ → Float → ℕ → Outcome (List ℕ)
+fitFile s tol room = fitFileBy (lapsRule tol) s room

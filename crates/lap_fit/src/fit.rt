@@ -1,4 +1,4 @@
-// The fit of a lap file: `fit_arcs` of each lap, under a new table.
+// The fit of a lap file: each lap by one rule, under a new table.
 use course::course::Walk;
 use course::course::add_capped;
 use course::course::fit_course;
@@ -30,7 +30,7 @@ ghost use Rattle.course.specs.Walks.{cap};
 ghost use Rattle.laps.specs.File.{lapCount, lapsOf, encode, tableOk, PutLap};
 ghost use Rattle.laps.specs.Rows.{fileSize};
 ghost use Rattle.geo.specs.Lent.{origin};
-ghost use Rattle.lap_fit.specs.Fit.{lapEnd, fitLap, fitLaps, mostLap, lapsMost, fitNew, fileFitRows, fitFile};
+ghost use Rattle.lap_fit.specs.Fit.{lapEnd, fitLap, fitLaps, mostLap, lapsMost, fitNew, fileFitRows, fitFileBy, fitFile};
 
 // Where the lap of the n commands from `at` on ends: with its last command, of whatever kind.
 pub fn lap_end(s: &[u8], at: usize, n: usize, start: Point3D) -> Point3D
@@ -88,17 +88,16 @@ fn fit_lent(
     kinds: &[u8],
     nums: &[f64],
     start: Point3D,
-    tolerance: f64,
+    rule: Rule,
     chain: &mut [f64],
     out_kinds: &mut [u8],
     out_nums: &mut [f64],
     out: &mut [u8],
     to: usize,
 ) -> usize
-    requires { ⌜ ((+0 ≺ tolerance) ≡ true) × (9 * length (now kinds) ≤ length (now nums)) × (mostOn tolerance start (lentCourse (now kinds) (now nums)) ≤ 800) × (to + 73 * length (fitNew tolerance start (now kinds) (now nums)) ≤ length (now out)) × (length (now «out_kinds») ≡ 800) × (length (now «out_nums») ≡ 7200) × (length (now chain) ≡ 2403) ⌝ }
-    ensures { λ r. ⌜ PutLap (fitNew tolerance start (now (kinds .entry)) (now (nums .entry))) (now (out .entry)) (now (out .exit)) to r ⌝ }
+    requires { ⌜ ((+0 ≺ rule .tolerance) ≡ true) × (9 * length (now kinds) ≤ length (now nums)) × (mostOn (rule .tolerance) start (lentCourse (now kinds) (now nums)) ≤ 800) × (to + 73 * length (fitNew rule start (now kinds) (now nums)) ≤ length (now out)) × (length (now «out_kinds») ≡ 800) × (length (now «out_nums») ≡ 7200) × (length (now chain) ≡ 2403) ⌝ }
+    ensures { λ r. ⌜ PutLap (fitNew rule start (now (kinds .entry)) (now (nums .entry))) (now (out .entry)) (now (out .exit)) to r ⌝ }
 {
-    let rule = Rule::of_laps(tolerance);
     let n = fit_course(kinds, nums, start, rule, chain, out_kinds, out_nums);
     write_commands(out_kinds, out_nums, n, out, to);
     n
@@ -109,12 +108,12 @@ pub fn fit_commands(
     kinds: &[u8],
     nums: &[f64],
     start: Point3D,
-    tolerance: f64,
+    rule: Rule,
     out: &mut [u8],
     to: usize,
 ) -> usize
-    requires { ⌜ ((+0 ≺ tolerance) ≡ true) × (9 * length (now kinds) ≤ length (now nums)) × (mostOn tolerance start (lentCourse (now kinds) (now nums)) ≤ 800) × (to + 73 * length (fitNew tolerance start (now kinds) (now nums)) ≤ length (now out)) ⌝ }
-    ensures { λ r. ⌜ PutLap (fitNew tolerance start (now (kinds .entry)) (now (nums .entry))) (now (out .entry)) (now (out .exit)) to r ⌝ }
+    requires { ⌜ ((+0 ≺ rule .tolerance) ≡ true) × (9 * length (now kinds) ≤ length (now nums)) × (mostOn (rule .tolerance) start (lentCourse (now kinds) (now nums)) ≤ 800) × (to + 73 * length (fitNew rule start (now kinds) (now nums)) ≤ length (now out)) ⌝ }
+    ensures { λ r. ⌜ PutLap (fitNew rule start (now (kinds .entry)) (now (nums .entry))) (now (out .entry)) (now (out .exit)) to r ⌝ }
 {
     let mut chain = [0.0; Walk::CHAIN];
     let mut out_kinds = [0u8; Walk::MOST];
@@ -123,7 +122,7 @@ pub fn fit_commands(
         kinds,
         nums,
         start,
-        tolerance,
+        rule,
         &mut chain,
         &mut out_kinds,
         &mut out_nums,
@@ -138,7 +137,7 @@ pub fn fit_lap(
     at: usize,
     n: usize,
     start: Point3D,
-    tolerance: f64,
+    rule: Rule,
     kinds: &mut [u8],
     nums: &mut [f64],
     chain: &mut [f64],
@@ -147,8 +146,8 @@ pub fn fit_lap(
     out: &mut [u8],
     to: usize,
 ) -> usize
-    requires { ⌜ ((+0 ≺ tolerance) ≡ true) × (at + 73 * n ≤ length (now s)) × (n ≤ 800) × (mostLap tolerance start (commandsAt (now s) at n) ≤ 800) × (to + 73 * length (fitLap tolerance start (commandsAt (now s) at n)) ≤ length (now out)) × (length (now kinds) ≡ 800) × (length (now nums) ≡ 7200) × (length (now «out_kinds») ≡ 800) × (length (now «out_nums») ≡ 7200) × (length (now chain) ≡ 2403) ⌝ }
-    ensures { λ r. ⌜ PutLap (fitLap tolerance start (commandsAt (now (s .entry)) at n)) (now (out .entry)) (now (out .exit)) to r ⌝ }
+    requires { ⌜ ((+0 ≺ rule .tolerance) ≡ true) × (at + 73 * n ≤ length (now s)) × (n ≤ 800) × (mostLap (rule .tolerance) start (commandsAt (now s) at n) ≤ 800) × (to + 73 * length (fitLap rule start (commandsAt (now s) at n)) ≤ length (now out)) × (length (now kinds) ≡ 800) × (length (now nums) ≡ 7200) × (length (now «out_kinds») ≡ 800) × (length (now «out_nums») ≡ 7200) × (length (now chain) ≡ 2403) ⌝ }
+    ensures { λ r. ⌜ PutLap (fitLap rule start (commandsAt (now (s .entry)) at n)) (now (out .entry)) (now (out .exit)) to r ⌝ }
 {
     read_commands(s, at, n, kinds, nums);
     let m = 9 * n;
@@ -156,7 +155,7 @@ pub fn fit_lap(
         &kinds[..n],
         &nums[..m],
         start,
-        tolerance,
+        rule,
         chain,
         out_kinds,
         out_nums,
@@ -166,9 +165,9 @@ pub fn fit_lap(
 }
 
 // Writes the fit of a file, the mark first, and returns how many bytes it has.
-fn fit_laps(s: &[u8], tolerance: f64, out: &mut [u8]) -> usize
-    requires { ⌜ ((+0 ≺ tolerance) ≡ true) × (8 ≤ length (now s)) × (tableOk (now s) ≡ true) × (lapsMost tolerance origin (lapsOf (now s)) ≤ 800) × (fileSize (lapCount (now s)) (lapsMost tolerance origin (lapsOf (now s))) ≤ length (now out)) ⌝ }
-    ensures { λ r. ⌜ (r ≡ length (encode (fitLaps tolerance origin (lapsOf (now (s .entry)))))) × (now (out .exit) ≡ encode (fitLaps tolerance origin (lapsOf (now (s .entry)))) ++ drop (length (encode (fitLaps tolerance origin (lapsOf (now (s .entry)))))) (now (out .entry))) ⌝ }
+fn fit_laps(s: &[u8], rule: Rule, out: &mut [u8]) -> usize
+    requires { ⌜ ((+0 ≺ rule .tolerance) ≡ true) × (8 ≤ length (now s)) × (tableOk (now s) ≡ true) × (lapsMost (rule .tolerance) origin (lapsOf (now s)) ≤ 800) × (fileSize (lapCount (now s)) (lapsMost (rule .tolerance) origin (lapsOf (now s))) ≤ length (now out)) ⌝ }
+    ensures { λ r. ⌜ (r ≡ length (encode (fitLaps rule origin (lapsOf (now (s .entry)))))) × (now (out .exit) ≡ encode (fitLaps rule origin (lapsOf (now (s .entry)))) ++ drop (length (encode (fitLaps rule origin (lapsOf (now (s .entry)))))) (now (out .entry))) ⌝ }
 {
     // filled here once, and lent for each lap
     let mut kinds = [0u8; Walk::MOST];
@@ -189,7 +188,7 @@ fn fit_laps(s: &[u8], tolerance: f64, out: &mut [u8]) -> usize
             at,
             n,
             start,
-            tolerance,
+            rule,
             &mut kinds,
             &mut nums,
             &mut chain,
@@ -221,13 +220,20 @@ fn check_fit(s: &[u8], tolerance: f64, room: usize) -> u32
     check_sizes(lap_count(s), most_of(s, tolerance), room)
 }
 
-// Fits each lap of a recorded file, and writes the fitted file to the front of out. A refusal changes nothing.
-pub fn fit_file(recorded: &[u8], tolerance: f64, out: &mut [u8]) -> Answer
-    ensures { λ r. ⌜ Wrote (λ (bytes : List ℕ). bytes) (fitFile (now (recorded .entry)) tolerance (length (now (out .entry)))) (now (out .entry)) (now (out .exit)) r ⌝ }
+// Fits each lap of a recorded file by a rule, and writes the fitted file to the front of out. A refusal changes nothing.
+fn fit_by(rule: Rule, recorded: &[u8], out: &mut [u8]) -> Answer
+    ensures { λ r. ⌜ Wrote (λ (bytes : List ℕ). bytes) (fitFileBy rule (now (recorded .entry)) (length (now (out .entry)))) (now (out .entry)) (now (out .exit)) r ⌝ }
 {
-    let refused = check_fit(recorded, tolerance, out.len());
+    let refused = check_fit(recorded, rule.tolerance, out.len());
     if refused != 0 {
         return Answer::Refused(refused);
     }
-    Answer::Written(fit_laps(recorded, tolerance, out))
+    Answer::Written(fit_laps(recorded, rule, out))
+}
+
+// The fit of a file: as `fit_arcs` fits each lap.
+pub fn fit_file(recorded: &[u8], tolerance: f64, out: &mut [u8]) -> Answer
+    ensures { λ r. ⌜ Wrote (λ (bytes : List ℕ). bytes) (fitFile (now (recorded .entry)) tolerance (length (now (out .entry)))) (now (out .entry)) (now (out .exit)) r ⌝ }
+{
+    fit_by(Rule::of_laps(tolerance), recorded, out)
 }

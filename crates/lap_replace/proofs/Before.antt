@@ -7,16 +7,17 @@ use lib.ListN.{getD}
 use lib.Ieee.{Float}
 use Rattle.geo.specs.declared.types.Point3D.{Point3D}
 use Rattle.geo.specs.Lent.{origin}
+use Rattle.fitting.specs.Pieces.{lapsRule}
 use Rattle.laps.specs.File.{Lap, lacks, formOk, lapOk, lapTested, lapsOk}
 use Rattle.lap_fit.specs.Fit.{lapEnd, fitLap, fitLaps, mostLap, lapsMost}
 use Rattle.lap_fit.proofs.Starts.{start-not-asked, most-start-not-asked}
 use Rattle.lap_replace.specs.Replace.{nextLacks}
 use Rattle.lap_replace.specs.Demand.{HaveMoves, fitsApart, mostApart, formedApart, NothingChanged}
 
-fits-apart : (tol : Float) (p : Point3D) (ls : List Lap) → HaveMoves ls → fitLaps tol p ls ≡ fitsApart tol ls
+fits-apart : (tol : Float) (p : Point3D) (ls : List Lap) → HaveMoves ls → fitLaps (lapsRule tol) p ls ≡ fitsApart tol ls
 unfolding fitLaps fitsApart
 fits-apart tol p [] h = refl
-fits-apart tol p (l ∷ ls) h = rw (start-not-asked tol p origin l (h .0), fits-apart tol (lapEnd p l) ls (h .1)) (unfold fitLap in refl)
+fits-apart tol p (l ∷ ls) h = rw (start-not-asked (lapsRule tol) p origin l (h .0), fits-apart tol (lapEnd p l) ls (h .1)) (unfold fitLap in refl)
 
 most-apart : (tol : Float) (p : Point3D) (ls : List Lap) → HaveMoves ls → lapsMost tol p ls ≡ mostApart tol ls
 unfolding lapsMost mostApart

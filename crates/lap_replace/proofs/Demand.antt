@@ -20,6 +20,7 @@ use Rattle.geo.proofs.Tolerance.{tolerance-positive}
 use Rattle.file.specs.Command.{decoded, enc, lentLap}
 use Rattle.file.proofs.Lent.{lent-commands, lent-length}
 use Rattle.fitting.specs.Pieces.{lapsRule}
+use Rattle.fitting.specs.declared.fitting.Rule.{Rule}
 use Rattle.course.specs.Course.{fitOn, endOn, lentCourse}
 use Rattle.course.proofs.Demand.{course-gives}
 use Rattle.laps.proofs.Canonical as form
@@ -34,7 +35,7 @@ use Rattle.laps.proofs.Whole.{whole-lent, length-encode}
 use Rattle.lap_fit.specs.Fit.{lapEnd, startOf, fitLap, fitLaps, lapsMost, fitNew}
 use Rattle.lap_fit.proofs.Accepted.{Accepted, accepted, Fitted, fitted}
 use Rattle.lap_fit.proofs.Starts.{one-back, fit-at}
-use Rattle.lap_replace.specs.Demand.{lapAt, courseWith, Canonical, ReadBack, OneCourse, LapsAreFitted, StartsAtTheEnd, EachLapGives, FitIsLapFile, Fresh, ReplacedIsFresh, OthersStay, NewIsFitted, LentAsCommands, CommandsReplaced}
+use Rattle.lap_replace.specs.Demand.{lapAt, courseWith, Canonical, ReadBack, OneCourse, LapsAreFittedBy, LapsAreFitted, StartsAtTheEndBy, StartsAtTheEnd, EachLapGivesBy, EachLapGives, FitIsLapFileBy, FitIsLapFile, Fresh, ReplacedIsFresh, OthersStay, NewIsFitted, LentAsCommands, CommandsReplaced}
 use Rattle.lap_replace.specs.Replace.{swap, swapBoth, nextLacks, nextLap, lentWhole, lentFormed, mostBoth, lentNew, mostWith, row1, row2, row3, row4, row5, row7, replaceRows, replacedLaps, replaceLap}
 use Rattle.lap_replace.proofs.New.{length-lent, lent-most, lent-fit, lent-end, lent-formed, lent-near}
 use Rattle.lap_replace.proofs.Replaced.{wholes-set, new-ok, new-some, new-in-total}
@@ -57,16 +58,16 @@ unfolding courseWith
 one-course s g k ks ns b h t e = sym (form.canonical g b h t) ∙ ap encode e
 
 -- ---- the fit
-lap-fitted : (s f : List ℕ) (tol : Float) → Fitted s tol f → (j : ℕ) → 1 ≤ j → j ≤ lapCount s
-    → lapAt f j ≡ map enc (fitOn (lapsRule tol) (startOf j (lapsOf s)) (map decoded (lapAt s j)))
+lap-fitted : (r : Rule) (s f : List ℕ) → Fitted r s f → (j : ℕ) → 1 ≤ j → j ≤ lapCount s
+    → lapAt f j ≡ map enc (fitOn r (startOf j (lapsOf s)) (map decoded (lapAt s j)))
 unfolding lapAt startOf fitLap
-lap-fitted s f tol q j a b =
+lap-fitted r s f q j a b =
     let n = length-laps-of s in
-    ap (λ (ls : List Lap). getD ls (j - 1) []) (q .laps) ∙ fit-at tol origin (lapsOf s) (j - 1) (omega arith)
+    ap (λ (ls : List Lap). getD ls (j - 1) []) (q .laps) ∙ fit-at r origin (lapsOf s) (j - 1) (omega arith)
 
 -- Each lap of an accepted fit is the fit of the recorded lap from its start, encoded, and there are as many.
-pub laps-are-fitted : LapsAreFitted
-laps-are-fitted s f tol room e = let q = fitted s tol room f (accepted s tol room f e) in (q .count, lap-fitted s f tol q)
+pub laps-are-fitted-by : (r : Rule) → LapsAreFittedBy r
+laps-are-fitted-by r s f room e = let q = fitted r s room f (accepted r s room f e) in (q .count, lap-fitted r s f q)
 
 last-end : (p : Point3D) (l : Lap) → 0 < length l → lapEnd p l ≡ endOf (decoded (getD l (length l - 1) []))
 unfolding lapEnd endOn
@@ -80,10 +81,10 @@ some-at (l ∷ ls) zero s h = s .0
 some-at (l ∷ ls) (suc i) s h = some-at ls i (s .1) (omega arith)
 
 -- A lap starts at the end of the last command of the lap before it.
-pub starts-at-the-end : StartsAtTheEnd
+pub starts-at-the-end-by : (r : Rule) → StartsAtTheEndBy r
 unfolding lapAt startOf
-starts-at-the-end s f tol room e j a b =
-    let t = accepted s tol room f e .passed .file .table in
+starts-at-the-end-by r s f room e j a b =
+    let t = accepted r s room f e .passed .file .table in
     let n = length-laps-of s in
     let z : j + 1 - 1 ≡ suc (j - 1) = omega arith in
     rw z
@@ -91,31 +92,31 @@ starts-at-the-end s f tol room e j a b =
     ∙ last-end origin (getD (lapsOf s) (j - 1) []) (some-at (lapsOf s) (j - 1) (somes-of s t) (omega arith)))
 
 -- Each lap of an accepted fit is, in order, the kept commands of the recorded lap and what each of its chains gives, as demand 3 says; it has a command, and finite numbers.
-pub each-lap-gives : EachLapGives
-each-lap-gives s f tol room e =
-    let a = accepted s tol room f e in
-    let q = fitted s tol room f a in
-    let pos = tolerance-positive tol (a .passed .within) in
+pub each-lap-gives-by : (r : Rule) → EachLapGivesBy r
+each-lap-gives-by r s f room e =
+    let a = accepted r s room f e in
+    let q = fitted r s room f a in
+    let pos = tolerance-positive (r .tolerance) (a .passed .within) in
     let n = length-laps-of s in
     let m = length-laps-of f in
     let c = q .count in (
       q .count,
       λ j g h. record {
-        commands = fitOn (lapsRule tol) (startOf j (lapsOf s)) (map decoded (lapAt s j));
-        bytes = lap-fitted s f tol q j g h;
-        parts = course-gives (lapsRule tol) pos (startOf j (lapsOf s)) (map decoded (lapAt s j));
+        commands = fitOn r (startOf j (lapsOf s)) (map decoded (lapAt s j));
+        bytes = lap-fitted r s f q j g h;
+        parts = course-gives r pos (startOf j (lapsOf s)) (map decoded (lapAt s j));
         some = unfold lapAt in some-at (lapsOf f) (j - 1) (somes-of f (q .table)) (omega arith);
-        finite = unfold lapAt startOf in lap-finite tol (lapsOf s) (j - 1) (a .passed .file .near) (a .passed .few) (omega arith);
+        finite = unfold lapAt startOf in lap-finite r (lapsOf s) (j - 1) (a .passed .file .near) (a .passed .few) (omega arith);
       },
     )
 
 -- An accepted fit is a lap file.
-pub fit-is-lap-file : FitIsLapFile
-fit-is-lap-file s f tol room e =
-    let a = accepted s tol room f e in
-    let q = fitted s tol room f a in
+pub fit-is-lap-file-by : (r : Rule) → FitIsLapFileBy r
+fit-is-lap-file-by r s f room e =
+    let a = accepted r s room f e in
+    let q = fitted r s room f a in
     record {
-      bytes = subst Bytes (a .bytes) (bytes-file tol origin (lapsOf s));
+      bytes = subst Bytes (a .bytes) (bytes-file r origin (lapsOf s));
       least = q .long;
       greatest = q .size;
       laps = subst (λ (n : ℕ). n ≤ 64) (sym (q .count)) (not-big s (a .passed .file .small) .1);
@@ -123,6 +124,19 @@ fit-is-lap-file s f tol room e =
       table = q .table;
       commands = few-commands f (q .table);
     }
+
+-- So of the fit of a file.
+pub laps-are-fitted : LapsAreFitted
+laps-are-fitted tol = laps-are-fitted-by (lapsRule tol)
+
+pub starts-at-the-end : StartsAtTheEnd
+starts-at-the-end tol = starts-at-the-end-by (lapsRule tol)
+
+pub each-lap-gives : EachLapGives
+each-lap-gives tol = each-lap-gives-by (lapsRule tol)
+
+pub fit-is-lap-file : FitIsLapFile
+fit-is-lap-file tol = fit-is-lap-file-by (lapsRule tol)
 
 -- ---- the course with lap k replaced is read back
 course-laps : (s : List ℕ) (k : ℕ) (ks : List ℕ) (ns : List Float) → tableOk s ≡ true → lapCount s ≤ 64 → length (courseWith s k ks ns) ≤ 65536
@@ -137,17 +151,17 @@ course-laps s k ks ns t h g =
 
 -- ---- what the two fits have
 module _ (s f : List ℕ) (tol : Float) (k : ℕ) (ks : List ℕ) (ns : List Float) (r : ℕ) (g : List ℕ) (w : Fresh s f tol k ks ns r g) where
-  old : Accepted s tol (w .room) f
-  old = accepted s tol (w .room) f (w .fit)
+  old : Accepted (lapsRule tol) s (w .room) f
+  old = accepted (lapsRule tol) s (w .room) f (w .fit)
 
-  new : Accepted (courseWith s k ks ns) tol r g
-  new = accepted (courseWith s k ks ns) tol r g (w .fresh)
+  new : Accepted (lapsRule tol) (courseWith s k ks ns) r g
+  new = accepted (lapsRule tol) (courseWith s k ks ns) r g (w .fresh)
 
   file : FilePassed s
   file = old .passed .file
 
-  is-fitted : Fitted s tol f
-  is-fitted = fitted s tol (w .room) f old
+  is-fitted : Fitted (lapsRule tol) s f
+  is-fitted = fitted (lapsRule tol) s (w .room) f old
 
   pos : (+0 ≺ tol) ≡ true
   pos = tolerance-positive tol (old .passed .within)
@@ -204,7 +218,7 @@ module _ (s f : List ℕ) (tol : Float) (k : ℕ) (ks : List ℕ) (ns : List Flo
   passes-7 = let h = w .first in rw (ne-eqb k 0 (λ z. omega arith), le-ltb (lapCount s) k (w .last))
 
   passed : NewPassed s f k (lentNew tol (lapsOf s) k ks ns) tol
-  passed = record { p1 = passes-1; p2 = passes-2; p3 = passes-3; p4 = passes-4; p5 = passes-5; p6 = old .passed .within; p7 = passes-7 }
+  passed = record { p1 = passes-1; p2 = passes-2; p3 = passes-3; counted = refl; p4 = passes-4; p5 = passes-5; p6 = old .passed .within; p7 = passes-7 }
 
   -- ---- its most is no more than the fresh fit's
   at-most : k ≤ length (lapsOf s)
@@ -217,7 +231,7 @@ module _ (s f : List ℕ) (tol : Float) (k : ℕ) (ks : List ℕ) (ns : List Flo
   unfolding mostWith mostBoth
   most-of-both =
       rw (is-fitted .laps, read .0, ← lent-most ks ns (w .held) tol (startOf k (lapsOf s)), ← lent-end ks ns (w .held) (startOf k (lapsOf s)))
-      (mosts-replaced tol k (lentLap ks ns) (lapsOf s) (w .first) at-most somes pos)
+      (mosts-replaced (lapsRule tol) k (lentLap ks ns) (lapsOf s) (w .first) at-most somes pos)
 
   not-refused : (r′ : ℕ) → r ≤ r′ → refusal (replaceRows s f k (lentNew tol (lapsOf s) k ks ns) tol r′) ≡ 0
   not-refused r′ h =
@@ -229,17 +243,17 @@ module _ (s f : List ℕ) (tol : Float) (k : ℕ) (ks : List ℕ) (ns : List Flo
       new-sizes s f k (lentNew tol (lapsOf s) k ks ns) tol r′ passed ∙ size-0 (lapCount f) (mostWith (lentNew tol (lapsOf s) k ks ns) k s f) r′ (omega arith) (omega arith)
 
   -- ---- its bytes are the fresh fit's
-  laps-of-both : replacedLaps tol k ks ns (lapsOf s) (lapsOf f) ≡ fitLaps tol origin (lapsOf (courseWith s k ks ns))
+  laps-of-both : replacedLaps (lapsRule tol) k ks ns (lapsOf s) (lapsOf f) ≡ fitLaps (lapsRule tol) origin (lapsOf (courseWith s k ks ns))
   unfolding replacedLaps
   laps-of-both =
-      rw (is-fitted .laps, read .0, ← lent-fit ks ns (w .held) tol (startOf k (lapsOf s)), ← lent-end ks ns (w .held) (startOf k (lapsOf s)))
-      (sym (fits-replaced tol k (lentLap ks ns) (lapsOf s) (w .first) at-most somes))
+      rw (is-fitted .laps, read .0, ← lent-fit ks ns (w .held) (lapsRule tol) (startOf k (lapsOf s)), ← lent-end ks ns (w .held) (startOf k (lapsOf s)))
+      (sym (fits-replaced (lapsRule tol) k (lentLap ks ns) (lapsOf s) (w .first) at-most somes))
 
-  same-bytes : encode (replacedLaps tol k ks ns (lapsOf s) (lapsOf f)) ≡ g
+  same-bytes : encode (replacedLaps (lapsRule tol) k ks ns (lapsOf s) (lapsOf f)) ≡ g
   same-bytes = ap encode laps-of-both ∙ new .bytes
 
-  fresh-laps : lapsOf g ≡ replacedLaps tol k ks ns (lapsOf s) (lapsOf f)
-  fresh-laps = fitted (courseWith s k ks ns) tol r g new .laps ∙ sym laps-of-both
+  fresh-laps : lapsOf g ≡ replacedLaps (lapsRule tol) k ks ns (lapsOf s) (lapsOf f)
+  fresh-laps = fitted (lapsRule tol) (courseWith s k ks ns) r g new .laps ∙ sym laps-of-both
 
   replaced : (r′ : ℕ) → r ≤ r′ → replaceLap s f k ks ns tol r′ ≡ gives g
   unfolding replaceLap
@@ -273,7 +287,7 @@ module _ (s f : List ℕ) (tol : Float) (k : ℕ) (ks : List ℕ) (ns : List Flo
       getD-set-other (set (lapsOf f) (k - 1) x) (k + 1 - 1) (k - 1) y [] (λ e. omega arith) ∙ getD-set-same (lapsOf f) (k - 1) x [] inside-fitted
   there-at false x y = getD-set-same (lapsOf f) (k - 1) x [] inside-fitted
 
-  there : lapAt g k ≡ fitNew tol (startOf k (lapsOf s)) ks ns
+  there : lapAt g k ≡ fitNew (lapsRule tol) (startOf k (lapsOf s)) ks ns
   unfolding lapAt replacedLaps
   there = ap (λ (ls : List Lap). getD ls (k - 1) []) fresh-laps ∙ there-at (nextLacks k (lapsOf s)) _ _
 
@@ -289,7 +303,7 @@ module _ (s f : List ℕ) (tol : Float) (k : ℕ) (ks : List ℕ) (ns : List Flo
   in-file (l ∷ ls) zero e = omega arith
   in-file (l ∷ ls) (suc i) e = let h = in-file ls i e in omega arith
 
-  behind : lacks (lapAt s (k + 1)) ≡ true → lapAt g (k + 1) ≡ fitLap tol (endOn (startOf k (lapsOf s)) (lentCourse ks ns)) (lapAt s (k + 1))
+  behind : lacks (lapAt s (k + 1)) ≡ true → lapAt g (k + 1) ≡ fitLap (lapsRule tol) (endOn (startOf k (lapsOf s)) (lentCourse ks ns)) (lapAt s (k + 1))
   unfolding lapAt replacedLaps nextLap nextLacks
   behind e =
       let z : k + 1 - 1 ≡ k = omega arith in

@@ -11,7 +11,7 @@ use Rattle.geo.specs.declared.types.Command.{Command}
 use Rattle.geo.specs.Lent.{origin, endOf}
 use Rattle.geo.specs.Domain.{commandIn}
 use Rattle.file.specs.Command.{decoded}
-use Rattle.fitting.specs.Pieces.{lapsRule}
+use Rattle.fitting.specs.declared.fitting.Rule.{Rule}
 use Rattle.course.specs.Course.{fitOn, endOn}
 use Rattle.course.specs.Finite.{FiniteNumbers, CommandsIn}
 use Rattle.course.proofs.FiniteCenters.{Placed}
@@ -55,9 +55,9 @@ most-at tol p [] i h = absurd (omega arith)
 most-at tol p (l ∷ ls) zero h = omega arith
 most-at tol p (l ∷ ls) (suc i) h = let a = most-at tol (lapEnd p l) ls i (omega arith) in omega (arith, a)
 
-pub lap-finite : (tol : Float) (ls : List Lap) (i : ℕ) → lapsOk domainOk true ls ≡ true → lapsMost tol origin ls ≤ 800 → i < length ls
-    → FiniteNumbers (fitOn (lapsRule tol) (startFrom origin ls i) (map decoded (getD ls i [])))
+pub lap-finite : (r : Rule) (ls : List Lap) (i : ℕ) → lapsOk domainOk true ls ≡ true → lapsMost (r .tolerance) origin ls ≤ 800 → i < length ls
+    → FiniteNumbers (fitOn r (startFrom origin ls i) (map decoded (getD ls i [])))
 unfolding mostLap
-lap-finite tol ls i e m h =
+lap-finite r ls i e m h =
     let a = at-in true origin ls i e (origin-placed 20) h in
-    let b = most-at tol origin ls i h in course-finite (lapsRule tol) (startFrom origin ls i) (map decoded (getD ls i [])) (a .0) (a .1) (omega (arith, b, m))
+    let b = most-at (r .tolerance) origin ls i h in course-finite r (startFrom origin ls i) (map decoded (getD ls i [])) (a .0) (a .1) (omega (arith, b, m))

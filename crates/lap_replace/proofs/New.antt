@@ -17,7 +17,7 @@ use Rattle.geo.specs.Domain.{everyFrom, formed, commandsFormed, commandIn, comm
 use Rattle.geo.proofs.Walk.{list-length}
 use Rattle.file.specs.Command.{decoded, wellFormed, laid, enc, lentBytes, lentLap, Held, HeldPoint}
 use Rattle.file.proofs.RoundTrip.{decoded-laid, formed-laid}
-use Rattle.fitting.specs.Pieces.{lapsRule}
+use Rattle.fitting.specs.declared.fitting.Rule.{Rule}
 use Rattle.course.specs.Course.{fitOn, mostOn, endOn, lentCourse}
 use Rattle.laps.specs.File.{lacks, placed, formOk, domainOk, lapOk, lapTested}
 use Rattle.laps.proofs.Here.{cond-false}
@@ -59,9 +59,9 @@ module _ (ks : List ℕ) (ns : List Float) (held : Held ns) where
   unfolding mostLap
   lent-most tol p = ap (mostOn tol p) lent-course
 
-  pub lent-fit : (tol : Float) (p : Point3D) → fitLap tol p (lentLap ks ns) ≡ fitNew tol p ks ns
+  pub lent-fit : (r : Rule) (p : Point3D) → fitLap r p (lentLap ks ns) ≡ fitNew r p ks ns
   unfolding fitLap fitNew
-  lent-fit tol p = ap (λ (cs : List Command). map enc (fitOn (lapsRule tol) p cs)) lent-course
+  lent-fit r p = ap (λ (cs : List Command). map enc (fitOn r p cs)) lent-course
 
   pub lent-end : (p : Point3D) → lapEnd p (lentLap ks ns) ≡ endOn p (lentCourse ks ns)
   unfolding lapEnd

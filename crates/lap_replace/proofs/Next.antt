@@ -16,6 +16,7 @@ use Rattle.file.specs.Command.{commandsAt}
 use Rattle.course.specs.Course.{mostOn, endOn}
 use Rattle.course.specs.Walks.{cap}
 use Rattle.course.proofs.Count.{cap-left}
+use Rattle.fitting.specs.declared.fitting.Rule.{Rule}
 use Rattle.laps.specs.File.{Lap, lapCount, offsetAt, countAt, lapsAt, lapsOf, body, tableOk, lacks, PutLap}
 use Rattle.laps.proofs.Here.{Here, step, start}
 use Rattle.laps.proofs.Laps.{somes-of}
@@ -83,7 +84,7 @@ pub next-not : (s : List ℕ) (k : ℕ) → lacks (getD (lapsOf s) k []) ≡ fal
 unfolding nextLap nextLacks commandsAt
 next-not s k e = rw e (refl, refl)
 
-pub next-end : (s : List ℕ) (k : ℕ) → k ≡ lapCount s → lacks (getD (lapsOf s) k []) ≡ false
+pub next-end : (s : List ℕ) (k : ℕ) → lapCount s ≤ k → lacks (getD (lapsOf s) k []) ≡ false
 unfolding lacks
 next-end s k e = let n = length-laps-of s in rw (past-end (lapsOf s) k (omega arith))
 
@@ -116,8 +117,8 @@ one-before j k h = either (eqb (j - 1) k) refl
     either false e = let q = eqb-false (j - 1) k e in e ∙ sym (ne-eqb j (k + 1) (λ z. q (omega arith)))
 
 -- the fit of no commands, which is not written
-pub put-none : (tol : Float) (p : Point3D) (s : List ℕ) (at n : ℕ) (out : List ℕ) (to : ℕ) → n ≡ 0 → PutLap (fitLap tol p (commandsAt s at n)) out out to 0
+pub put-none : (r : Rule) (p : Point3D) (s : List ℕ) (at n : ℕ) (out : List ℕ) (to : ℕ) → n ≡ 0 → PutLap (fitLap r p (commandsAt s at n)) out out to 0
 unfolding commandsAt body
-put-none tol p s at n out to e =
-    let z : fitLap tol p (commandsAt s at n) ≡ [] = rw e (fit-no-lap tol p) in
+put-none r p s at n out to e =
+    let z : fitLap r p (commandsAt s at n) ≡ [] = rw e (fit-no-lap r p) in
     subst (λ (l : Lap). PutLap l out out to 0) (sym z) (record { count = refl; bytes = refl })

@@ -37,12 +37,12 @@ use Rattle.course.specs.Parts.{closed, carried, partsFrom, partFit, partMost, f
 use Rattle.course.specs.Course.{joined, partsOn, fitOn, mostOn, endOn, inputRows, roomRows, arcsRows, arcsCall}
 use Rattle.laps.specs.File.{lapCount, offsetAt, countAt, lapsAt, lapsOf, body, bodies, table, encode, commandCount, short, big, hasMark, walk, tableOk, lacks, placed, formOk, domainOk, lapOk, lapTested, lapsOk}
 use Rattle.laps.specs.Rows.{fileRows, sizeRows}
-use Rattle.lap_fit.specs.Fit.{lapEnd, startFrom, startOf, fitLap, fitLaps, mostLap, lapsMost, fitNew, fileFitRows, fitFile}
-use Rattle.lap_replace.specs.Replace.{swapBoth, nextLacks, nextLap, lentWhole, movePlaced, lentFormed, mostBoth, row1, row2, row3, row4, row5, row7, newRows, mostWith, replaceRows, replacedLaps, replaceLap}
+use Rattle.lap_fit.specs.Fit.{lapEnd, startFrom, startOf, fitLap, fitLaps, mostLap, lapsMost, fitNew, fileFitRows, fitFileBy}
+use Rattle.lap_replace.specs.Replace.{swapBoth, nextLacks, nextLap, lentWhole, movePlaced, lentFormed, mostBoth, row1, row2, row3, row4, row5, row7, tableRows, lapRows, newRows, mostWith, replaceRows, replacedLaps, replaceLap}
 use Rattle.lap_replace.specs.Worked.{WorkedLaps, OutAndBack, centre-right}
 
 pub worked-laps : WorkedLaps
-unfolding centre-right span climb size odd units round neg sum add sub mul div lt eq le isNan ofInt ofFields ofBits absOf maxOf clampOf better rootIn wholeRoot rootFrom inUnits rootOf plain coordinate centre within pointIn point3In everyFrom numbersIn whole pointAt flat endOf kindOf numbersOf refusal unless lengthOf distanceSq distance fold listFrom turnAt crossSum clockwise farther farthestOf farthestIn toLine lineSq simplifyPolyline3d keptBy thinned thinnedPoints movedBy projected pointsRows nearTo besideOf allNear allBeside collinearBy collinear plus sumsOf axesOf cross3 dot3 scaled detOf inverseTimes solved matrixOf sidesOf centered kasaCenter areaOf turnOf center3 radiusFrom centerBy centerThree circleRound throughThree worse worst spokeOf cosine sagittaOf endsOf stepOf stepBetween arcDeviation offsetOf cross2 dot2 atCentre halfOf turned turnsOf justBehind justAhead passesBy awayFrom traverses sharpTurn sharpAt closedRange measuredBy goingRound ofMeasured trialRound trialOf ofCircle ofCenter trialThree trialLeast threeTried leastTried orElse tryArcs fitRows fitCall worstCall normalOf shaped pieceCommand fitIn worstStep pieceWorst worstIn rooted lineDeviation arcOrCut chooseBy choice follow piecesBy line.chordOf collin.endsChord ceilOf steps firstThird lastThird polygonLength stepCount stepsNeeded paramSteps toUnsigned vector.distance3 halfAt u32Bytes lapCount lapsAt lapsOf bodies table encode short big hasMark walk tableOk lapsOk fitLaps lapsMost fileRows sizeRows fileFitRows fitFile parameterOf offFoot segmentOn segmentSq
+unfolding centre-right span climb size odd units round neg sum add sub mul div lt eq le isNan ofInt ofFields ofBits absOf maxOf clampOf better rootIn wholeRoot rootFrom inUnits rootOf plain coordinate centre within pointIn point3In everyFrom numbersIn whole pointAt flat endOf kindOf numbersOf refusal unless lengthOf distanceSq distance fold listFrom turnAt crossSum clockwise farther farthestOf farthestIn toLine lineSq simplifyPolyline3d keptBy thinned thinnedPoints movedBy projected pointsRows nearTo besideOf allNear allBeside collinearBy collinear plus sumsOf axesOf cross3 dot3 scaled detOf inverseTimes solved matrixOf sidesOf centered kasaCenter areaOf turnOf center3 radiusFrom centerBy centerThree circleRound throughThree worse worst spokeOf cosine sagittaOf endsOf stepOf stepBetween arcDeviation offsetOf cross2 dot2 atCentre halfOf turned turnsOf justBehind justAhead passesBy awayFrom traverses sharpTurn sharpAt closedRange measuredBy goingRound ofMeasured trialRound trialOf ofCircle ofCenter trialThree trialLeast threeTried leastTried orElse tryArcs fitRows fitCall worstCall normalOf shaped pieceCommand fitIn worstStep pieceWorst worstIn rooted lineDeviation arcOrCut chooseBy choice follow piecesBy line.chordOf collin.endsChord ceilOf steps firstThird lastThird polygonLength stepCount stepsNeeded paramSteps toUnsigned vector.distance3 halfAt u32Bytes lapCount lapsAt lapsOf bodies table encode short big hasMark walk tableOk lapsOk fitLaps lapsMost fileRows sizeRows fileFitRows fitFileBy parameterOf offFoot segmentOn segmentSq
 worked-laps =
     record {
       root-of-25 = refl;
@@ -67,5 +67,5 @@ worked-laps =
 
 -- The out-and-back as a lap keeps its far turn.
 pub out-and-back : OutAndBack
-unfolding span climb size odd units round neg sum add sub mul div lt eq le isNan ofInt ofFields ofBits toBits absOf maxOf clampOf better rootIn wholeRoot rootFrom inUnits rootOf plain coordinate centre within isFinite isPlusZero pointIn point3In everyFrom numbersIn whole zero3 finite3 formed commandsFormed commandIn commandsIn pointAt flat endOf kindOf numbersOf commandOf commandAt commandsFrom refusal unless lengthOf distanceSq distance fold listFrom turnAt crossSum clockwise farther farthestOf farthestIn parameterOf offFoot segmentOn segmentSq keptBy thinned thinnedPoints movedBy projected nearTo besideOf allNear allBeside collinearBy collinear plus sumsOf axesOf cross3 dot3 scaled detOf inverseTimes solved matrixOf sidesOf centered kasaCenter areaOf turnOf center3 radiusFrom centerBy centerThree circleRound throughThree worse worst spokeOf cosine sagittaOf endsOf stepOf stepBetween arcDeviation offsetOf cross2 dot2 atCentre halfOf turned turnsOf justBehind justAhead passesBy awayFrom traverses sharpTurn sharpAt closedRange trialRound trialOf ofCircle ofCenter trialThree trialLeast orElse tryArcs normalOf shaped pieceCommand fitIn chainFit rooted lineDeviation arcOrCut chooseBy choice follow piecesBy line.chordOf collin.endsChord ceilOf toUnsigned vector.distance3 halfAt wordAt u32Bytes f64Bytes numberAt pointFrom decoded wellFormed commandsAt laid enc parts.mostOf closed carried partsFrom partFit partMost fitOf joined partsOn fitOn mostOn endOn inputRows roomRows arcsRows arcsCall lapCount offsetAt countAt lapsAt lapsOf body bodies table encode commandCount short big hasMark walk tableOk placed lacks formOk domainOk lapOk lapTested lapsOk fileRows sizeRows fitLap mostLap lapsMost lapEnd startFrom startOf fitLaps fitNew fileFitRows fitFile lentWhole movePlaced lentFormed row1 row2 row3 row4 row5 row7 newRows mostWith swapBoth nextLacks nextLap mostBoth replacedLaps replaceRows replaceLap
+unfolding span climb size odd units round neg sum add sub mul div lt eq le isNan ofInt ofFields ofBits toBits absOf maxOf clampOf better rootIn wholeRoot rootFrom inUnits rootOf plain coordinate centre within isFinite isPlusZero pointIn point3In everyFrom numbersIn whole zero3 finite3 formed commandsFormed commandIn commandsIn pointAt flat endOf kindOf numbersOf commandOf commandAt commandsFrom refusal unless lengthOf distanceSq distance fold listFrom turnAt crossSum clockwise farther farthestOf farthestIn parameterOf offFoot segmentOn segmentSq keptBy thinned thinnedPoints movedBy projected nearTo besideOf allNear allBeside collinearBy collinear plus sumsOf axesOf cross3 dot3 scaled detOf inverseTimes solved matrixOf sidesOf centered kasaCenter areaOf turnOf center3 radiusFrom centerBy centerThree circleRound throughThree worse worst spokeOf cosine sagittaOf endsOf stepOf stepBetween arcDeviation offsetOf cross2 dot2 atCentre halfOf turned turnsOf justBehind justAhead passesBy awayFrom traverses sharpTurn sharpAt closedRange trialRound trialOf ofCircle ofCenter trialThree trialLeast orElse tryArcs normalOf shaped pieceCommand fitIn chainFit rooted lineDeviation arcOrCut chooseBy choice follow piecesBy line.chordOf collin.endsChord ceilOf toUnsigned vector.distance3 halfAt wordAt u32Bytes f64Bytes numberAt pointFrom decoded wellFormed commandsAt laid enc parts.mostOf closed carried partsFrom partFit partMost fitOf joined partsOn fitOn mostOn endOn inputRows roomRows arcsRows arcsCall lapCount offsetAt countAt lapsAt lapsOf body bodies table encode commandCount short big hasMark walk tableOk placed lacks formOk domainOk lapOk lapTested lapsOk fileRows sizeRows fitLap mostLap lapsMost lapEnd startFrom startOf fitLaps fitNew fileFitRows fitFileBy lentWhole movePlaced lentFormed row1 row2 row3 row4 row5 row7 tableRows lapRows newRows mostWith swapBoth nextLacks nextLap mostBoth replacedLaps replaceRows replaceLap
 out-and-back = record { fitted = refl; replaced = refl; by-fit-arcs = refl }

@@ -17,7 +17,7 @@ use Rattle.course.specs.Course.{partsOn, fitOn, endOn, courseFit, courseMost, l
 use Rattle.course.specs.Demand.{PartsGive}
 use Rattle.course.specs.Finite.{FiniteNumbers}
 use Rattle.laps.specs.File.{Lap, lapCount, lapsOf, mark, encode, tableOk, Bytes, AllFull, commandCount, lacks, formOk, lapOk, lapsOk}
-use Rattle.lap_fit.specs.Fit.{startOf, fitLap, fitLaps, lapsMost, fitNew, fitFile}
+use Rattle.lap_fit.specs.Fit.{startOf, fitLap, fitLaps, lapsMost, fitNew, fitFileBy, fitFile}
 use Rattle.lap_replace.specs.Replace.{swap, nextLacks, replaceLap}
 
 -- lap number j of a file, its commands as they stand
@@ -42,25 +42,25 @@ abbrev pub OneCourse : Type 0
 OneCourse =
     (s g : List ℕ) (k : ℕ) (ks : List ℕ) (ns : List Float) → Bytes g → 8 ≤ length g → tableOk g ≡ true → lapsOf g ≡ swap k (lentLap ks ns) 1 (lapsOf s) → g ≡ courseWith s k ks ns
 
--- ---- the fit
+-- ---- the fit by a rule: `fitFile s tol room` is that by `lapsRule tol`
 -- "Each lap of an accepted fit is document 01's fit of the recorded lap": the fit has as many laps, and each is the fit of the lap of that number from its start, encoded
-abbrev pub LapsAreFitted : Type 0
-LapsAreFitted =
-    (s f : List ℕ) (tol : Float) (room : ℕ) → fitFile s tol room ≡ gives f
+abbrev pub LapsAreFittedBy : Rule → Type 0
+LapsAreFittedBy r =
+    (s f : List ℕ) (room : ℕ) → fitFileBy r s room ≡ gives f
     → (lapCount f ≡ lapCount s)
-    × ((j : ℕ) → 1 ≤ j → j ≤ lapCount s → lapAt f j ≡ map enc (fitOn (lapsRule tol) (startOf j (lapsOf s)) (map decoded (lapAt s j))))
+    × ((j : ℕ) → 1 ≤ j → j ≤ lapCount s → lapAt f j ≡ map enc (fitOn r (startOf j (lapsOf s)) (map decoded (lapAt s j))))
 
 -- A lap "starts at the previous lap's last recorded end" (document 02, §13), whatever that command is, and whether or not that lap carries on itself.
-abbrev pub StartsAtTheEnd : Type 0
-StartsAtTheEnd =
-    (s f : List ℕ) (tol : Float) (room : ℕ) → fitFile s tol room ≡ gives f
+abbrev pub StartsAtTheEndBy : Rule → Type 0
+StartsAtTheEndBy r =
+    (s f : List ℕ) (room : ℕ) → fitFileBy r s room ≡ gives f
     → (j : ℕ) → 1 ≤ j → j < lapCount s → startOf (j + 1) (lapsOf s) ≡ endOf (decoded (getD (lapAt s j) (length (lapAt s j) - 1) []))
 
 -- "and in it each chain gives, in order, one Line or new Arc for each of its pieces; each step of each thinned chain lies in exactly one piece; a Line's or new Arc's
 -- computed deviation over its piece is below the tolerance; each thinned-out point is, as computed, within it of the line through its kept neighbours; and a range is cut
 -- exactly when its Line and both arc trials fail": a fitted lap is the bytes of commands which are, in order, the recorded lap's kept commands and what each of its chains
 -- gives, as `ChainFitted` of `course/specs/Demand.antt` says sentence by sentence; the first chain starts at p, where the lap does. "The kept-neighbour distance and the Line
--- deviation [..] are then to the segment" (document 02, §4): both are by the distance of `lapsRule`
+-- deviation [..] are then to the segment" (document 02, §4): both are by the rule's distance
 pub record LapGives (r : Rule) (p : Point3D) (recorded fitted : Lap) : Type 0 where
   pub commands : List Command
   pub bytes : fitted ≡ map enc commands
@@ -69,10 +69,36 @@ pub record LapGives (r : Rule) (p : Point3D) (recorded fitted : Lap) : Type 0 wh
   pub some : 0 < length fitted
   pub finite : FiniteNumbers commands
 
+abbrev pub EachLapGivesBy : Rule → Type 0
+EachLapGivesBy r =
+    (s f : List ℕ) (room : ℕ) → fitFileBy r s room ≡ gives f
+    → (lapCount f ≡ lapCount s) × ((j : ℕ) → 1 ≤ j → j ≤ lapCount s → LapGives r (startOf j (lapsOf s)) (lapAt s j) (lapAt f j))
+
+-- an accepted fit is a lap file: bytes within document 01's limits, with the mark and a right table
+pub record IsLapFile (f : List ℕ) : Type 0 where
+  pub bytes : Bytes f
+  pub least : 8 ≤ length f
+  pub greatest : length f ≤ 65536
+  pub laps : lapCount f ≤ 64
+  pub marked : take 4 f ≡ mark
+  pub table : tableOk f ≡ true
+  pub commands : commandCount (lapsOf f) ≤ 800
+
+abbrev pub FitIsLapFileBy : Rule → Type 0
+FitIsLapFileBy r = (s f : List ℕ) (room : ℕ) → fitFileBy r s room ≡ gives f → IsLapFile f
+
+-- ---- so of the fit of a file, at every tolerance
+abbrev pub LapsAreFitted : Type 0
+LapsAreFitted = (tol : Float) → LapsAreFittedBy (lapsRule tol)
+
+abbrev pub StartsAtTheEnd : Type 0
+StartsAtTheEnd = (tol : Float) → StartsAtTheEndBy (lapsRule tol)
+
 abbrev pub EachLapGives : Type 0
-EachLapGives =
-    (s f : List ℕ) (tol : Float) (room : ℕ) → fitFile s tol room ≡ gives f
-    → (lapCount f ≡ lapCount s) × ((j : ℕ) → 1 ≤ j → j ≤ lapCount s → LapGives (lapsRule tol) (startOf j (lapsOf s)) (lapAt s j) (lapAt f j))
+EachLapGives = (tol : Float) → EachLapGivesBy (lapsRule tol)
+
+abbrev pub FitIsLapFile : Type 0
+FitIsLapFile = (tol : Float) → FitIsLapFileBy (lapsRule tol)
 
 -- ---- laps that all have their Move (document 02, §13, changes nothing for them)
 abbrev pub HaveMoves : List Lap → Type 0
@@ -93,26 +119,13 @@ formedApart (l ∷ ls) = if lapOk formOk true l then formedApart ls else false
 
 -- they agree with today's, and no replacement fits a next lap again
 pub record AsBefore (tol : Float) (ls : List Lap) : Type 0 where
-  pub fits : fitLaps tol origin ls ≡ fitsApart tol ls
+  pub fits : fitLaps (lapsRule tol) origin ls ≡ fitsApart tol ls
   pub most : lapsMost tol origin ls ≡ mostApart tol ls
   pub formed : lapsOk formOk true ls ≡ formedApart ls
   pub alone : (k : ℕ) → nextLacks k ls ≡ false
 
 abbrev pub NothingChanged : Type 0
 NothingChanged = (tol : Float) (ls : List Lap) → HaveMoves ls → AsBefore tol ls
-
--- an accepted fit is a lap file: bytes within document 01's limits, with the mark and a right table
-pub record IsLapFile (f : List ℕ) : Type 0 where
-  pub bytes : Bytes f
-  pub least : 8 ≤ length f
-  pub greatest : length f ≤ 65536
-  pub laps : lapCount f ≤ 64
-  pub marked : take 4 f ≡ mark
-  pub table : tableOk f ≡ true
-  pub commands : commandCount (lapsOf f) ≤ 800
-
-abbrev pub FitIsLapFile : Type 0
-FitIsLapFile = (s f : List ℕ) (tol : Float) (room : ℕ) → fitFile s tol room ≡ gives f → IsLapFile f
 
 -- ---- the replacement
 -- f is the fit of the file s at tol, k is one of its laps, and the new commands are lent as ks and ns. A fresh fit at tol, into r bytes, accepts the course with lap k
@@ -143,8 +156,8 @@ OthersStay =
 abbrev pub NewIsFitted : Type 0
 NewIsFitted =
     (s f : List ℕ) (tol : Float) (k : ℕ) (ks : List ℕ) (ns : List Float) (r : ℕ) (g : List ℕ) → Fresh s f tol k ks ns r g
-    → (lapAt g k ≡ fitNew tol (startOf k (lapsOf s)) ks ns)
-    × (lacks (lapAt s (k + 1)) ≡ true → lapAt g (k + 1) ≡ fitLap tol (endOn (startOf k (lapsOf s)) (lentCourse ks ns)) (lapAt s (k + 1)))
+    → (lapAt g k ≡ fitNew (lapsRule tol) (startOf k (lapsOf s)) ks ns)
+    × (lacks (lapAt s (k + 1)) ≡ true → lapAt g (k + 1) ≡ fitLap (lapsRule tol) (endOn (startOf k (lapsOf s)) (lentCourse ks ns)) (lapAt s (k + 1)))
 
 -- the lent form says it of each list of commands: they are lent by their kinds and numbers, and the file has their bytes
 abbrev pub LentAsCommands : Type 0

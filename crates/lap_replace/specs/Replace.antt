@@ -2,15 +2,19 @@
 use Prim.Native.Nat.{ℕ, _+_, _-_, _*_}
 use mathlib.Core.Bool.{Bool, true, not, _&&_, _||_}
 use mathlib.Core.List.{List, [], _∷_, _++_}
-use lib.ListN.{length, getD, set}
+use mathlib.Core.Path.{_≡_}
+use lib.ListN.{length, getD, set, drop}
 use lib.Dec.{ltb, leb, eqb}
 use lib.Ieee.{Float}
 use Rattle.floats.specs.Ops.{if_then_else_}
 use Rattle.geo.specs.declared.types.Command.{Command}
 use Rattle.geo.specs.Domain.{tolerance, everyFrom, commandsFormed, commandsIn}
 use Rattle.geo.specs.Outcome.{Row, row, refusal, Outcome, unless}
+use Rattle.file.specs.Command.{commandsAt}
+use Rattle.fitting.specs.declared.fitting.Rule.{Rule}
+use Rattle.fitting.specs.Pieces.{lapsRule}
 use Rattle.course.specs.Course.{mostOn, endOn, lentCourse}
-use Rattle.laps.specs.File.{Lap, lapCount, lapsOf, encode, commandCount, short, big, tableOk, lacks, placed, formOk, domainOk, lapsOk}
+use Rattle.laps.specs.File.{Lap, lapCount, lapsOf, body, encode, commandCount, short, big, tableOk, lacks, placed, formOk, domainOk, lapsOk}
 use Rattle.laps.specs.Rows.{sizeRows}
 use Rattle.lap_fit.specs.Fit.{startOf, fitLap, mostLap, fitNew}
 
@@ -36,6 +40,8 @@ pub record NewLap : Type 0 where
   pub whole : Bool
   -- row 2: they are at most 800
   pub few : Bool
+  -- row 3: they are as many as their ticket tells (document 02, §13); new commands have no ticket
+  pub counted : Bool
   -- row 4: they are a lap
   pub formed : Bool
   -- row 5: their numbers are in the domain
@@ -62,7 +68,14 @@ mostBoth tol ls k cs = mostOn tol (startOf k ls) cs + mostLap tol (endOn (startO
 -- new commands may lack their Move for every lap but the first; lap 0, which row 7 refuses, counts as that
 abbrev pub lentNew : Float → List Lap → ℕ → List ℕ → List Float → NewLap
 lentNew tol ls k ks ns =
-    record { whole = lentWhole ks ns; few = leb (length ks) 800; formed = lentFormed (leb k 1) ks ns; near = commandsIn ks ns; most = mostBoth tol ls k (lentCourse ks ns) }
+    record {
+      whole = lentWhole ks ns;
+      few = leb (length ks) 800;
+      counted = true;
+      formed = lentFormed (leb k 1) ks ns;
+      near = commandsIn ks ns;
+      most = mostBoth tol ls k (lentCourse ks ns);
+    }
 
 -- ---- the rows: s is the recorded file, f its fitted file, k the lap's number
 -- "A slice is not whole points or commands; a file under 8 bytes"
@@ -89,17 +102,17 @@ row5 s near = not (lapsOk domainOk true (lapsOf s)) || not near
 unfoldable pub row7 : ℕ → List ℕ → Bool
 row7 k s = eqb k 0 || ltb (lapCount s) k
 
--- rows 1 to 7
+-- rows 1 to 3 of both files and of how many commands the new lap has
+unfoldable pub tableRows : List ℕ → List ℕ → Bool → Bool → List Row
+tableRows s f whole few = row 1 (row1 s f whole) ∷ row 2 (row2 s f few) ∷ row 3 (row3 s f) ∷ []
+
+-- rows 4 to 7 of the recorded laps, the new lap's commands, the tolerance and the lap's number
+unfoldable pub lapRows : List ℕ → ℕ → Bool → Bool → Float → List Row
+lapRows s k formed near tol = row 4 (row4 s formed) ∷ row 5 (row5 s near) ∷ row 6 (not (tolerance tol)) ∷ row 7 (row7 k s) ∷ []
+
+-- rows 1 to 7: of a replacement, of its asking and of its commit, each with its own new lap
 unfoldable pub newRows : List ℕ → List ℕ → ℕ → NewLap → Float → List Row
-newRows s f k new tol =
-    row 1 (row1 s f (new .whole))
-    ∷ row 2 (row2 s f (new .few))
-    ∷ row 3 (row3 s f)
-    ∷ row 4 (row4 s (new .formed))
-    ∷ row 5 (row5 s (new .near))
-    ∷ row 6 (not (tolerance tol))
-    ∷ row 7 (row7 k s)
-    ∷ []
+newRows s f k new tol = tableRows s f (new .whole) (new .few) ++ (row 3 (not (new .counted)) ∷ lapRows s k (new .formed) (new .near) tol)
 
 -- "for a replacement, the new lap's most and the fitted file's command count in all other laps": in those that are not fitted again
 unfoldable pub mostWith : NewLap → ℕ → List ℕ → List ℕ → ℕ
@@ -109,11 +122,27 @@ unfoldable pub replaceRows : List ℕ → List ℕ → ℕ → NewLap → Float 
 replaceRows s f k new tol room = newRows s f k new tol ++ sizeRows (lapCount f) (mostWith new k s f) room
 
 -- ---- the call: the new commands are lent as ks and ns, the output has `room` bytes
+-- the fit of the new commands, and that of the next lap from their end; no commands where it is not fitted again
+abbrev pub newFit : Rule → List Lap → ℕ → List ℕ → List Float → Lap
+newFit r ls k ks ns = fitNew r (startOf k ls) ks ns
+
+abbrev pub nextFit : Rule → List Lap → ℕ → List ℕ → List Float → Lap
+nextFit r ls k ks ns = fitLap r (endOn (startOf k ls) (lentCourse ks ns)) (nextLap k ls)
+
 -- "It writes the new lap's fit and copies every other lap's body from the fitted file as it stands", but for the next lap where that is fitted again
-unfoldable pub replacedLaps : Float → ℕ → List ℕ → List Float → List Lap → List Lap → List Lap
-replacedLaps tol k ks ns ls fs =
-    swapBoth (nextLacks k ls) k (fitNew tol (startOf k ls) ks ns) (fitLap tol (endOn (startOf k ls) (lentCourse ks ns)) (nextLap k ls)) fs
+unfoldable pub replacedLaps : Rule → ℕ → List ℕ → List Float → List Lap → List Lap → List Lap
+replacedLaps r k ks ns ls fs = swapBoth (nextLacks k ls) k (newFit r ls k ks ns) (nextFit r ls k ks ns) fs
+
+-- the same where both laps stand in a buffer: the first n commands of it, and the m behind them
+unfoldable pub storedLaps : ℕ → List Lap → List ℕ → ℕ → ℕ → List Lap → List Lap
+storedLaps k ls buffer n m fs = swapBoth (nextLacks k ls) k (commandsAt buffer 0 n) (commandsAt buffer (73 * n) m) fs
+
+-- what a function that writes both laps to the front of a buffer, of n and m commands, leaves
+pub record PutBoth (new next : Lap) (buffer buffer′ : List ℕ) (n m : ℕ) : Type 0 where
+  pub count : n ≡ length new
+  pub behind : m ≡ length next
+  pub bytes : buffer′ ≡ (body new ++ body next) ++ drop (length (body new ++ body next)) buffer
 
 unfoldable pub replaceLap : List ℕ → List ℕ → ℕ → List ℕ → List Float → Float → ℕ → Outcome (List ℕ)
 replaceLap s f k ks ns tol room =
-    unless (refusal (replaceRows s f k (lentNew tol (lapsOf s) k ks ns) tol room)) (encode (replacedLaps tol k ks ns (lapsOf s) (lapsOf f)))
+    unless (refusal (replaceRows s f k (lentNew tol (lapsOf s) k ks ns) tol room)) (encode (replacedLaps (lapsRule tol) k ks ns (lapsOf s) (lapsOf f)))

@@ -4,6 +4,7 @@ use course::course::add_capped;
 use course::course::course_end;
 use course::course::course_most;
 use file::command::COMMAND_BYTES;
+use fitting::fitting::Rule;
 use geo::domain::commands_formed;
 use geo::domain::commands_in;
 use geo::domain::is_tolerance;
@@ -41,7 +42,7 @@ ghost use Rattle.course.specs.Walks.{cap};
 ghost use Rattle.laps.specs.File.{lapCount, lapsOf, encode, tableOk, commandCount, PutLap};
 ghost use Rattle.laps.specs.Rows.{fileSize};
 ghost use Rattle.lap_fit.specs.Fit.{startOf, fitLap, mostLap};
-ghost use Rattle.lap_replace.specs.Replace.{swapBoth, nextLacks, nextLap, lentWhole, movePlaced, lentFormed, mostBoth, lentNew, row1, row2, row3, row4, row5, row7, newRows, mostWith, replaceRows, replacedLaps, replaceLap};
+ghost use Rattle.lap_replace.specs.Replace.{swapBoth, nextLacks, nextLap, lentWhole, movePlaced, lentFormed, mostBoth, lentNew, row1, row2, row3, row4, row5, row7, tableRows, lapRows, newRows, mostWith, replaceRows, newFit, nextFit, replacedLaps, storedLaps, PutBoth, replaceLap};
 
 // The body of 800 commands.
 const BODY_BYTES: usize = 58400;
@@ -141,10 +142,10 @@ fn start_of(s: &[u8], k: usize) -> Point3D
 }
 
 // The lap behind lap k of a recorded file, where it is fitted again; else no commands.
-struct Next {
-    both: bool,
-    at: usize,
-    count: usize,
+pub struct Next {
+    pub both: bool,
+    pub at: usize,
+    pub count: usize,
 }
 
 impl Next {
@@ -159,11 +160,11 @@ impl Next {
     }
 }
 
-fn next_of(s: &[u8], k: usize) -> Next
-    requires { ⌜ (8 ≤ length (now s)) × (tableOk (now s) ≡ true) × (k ≤ lapCount (now s)) ⌝ }
+pub fn next_of(s: &[u8], k: usize) -> Next
+    requires { ⌜ (8 ≤ length (now s)) × (tableOk (now s) ≡ true) ⌝ }
     ensures { λ r. ⌜ (r .both ≡ nextLacks k (lapsOf (now (s .entry)))) × (commandsAt (now (s .entry)) (r .at) (r .count) ≡ nextLap k (lapsOf (now (s .entry)))) × (r .at + 73 * r .count ≤ length (now (s .entry))) × (r .count ≤ 800) ⌝ }
 {
-    if k == lap_count(s) {
+    if lap_count(s) <= k {
         return Next::none();
     }
     let at = offset_at(s, k);
@@ -184,12 +185,12 @@ fn fit_alone(
     at: usize,
     n: usize,
     start: Point3D,
-    tolerance: f64,
+    rule: Rule,
     out: &mut [u8],
     to: usize,
 ) -> usize
-    requires { ⌜ ((+0 ≺ tolerance) ≡ true) × (at + 73 * n ≤ length (now s)) × (n ≤ 800) × (mostLap tolerance start (commandsAt (now s) at n) ≤ 800) × (to + 73 * length (fitLap tolerance start (commandsAt (now s) at n)) ≤ length (now out)) ⌝ }
-    ensures { λ r. ⌜ PutLap (fitLap tolerance start (commandsAt (now (s .entry)) at n)) (now (out .entry)) (now (out .exit)) to r ⌝ }
+    requires { ⌜ ((+0 ≺ rule .tolerance) ≡ true) × (at + 73 * n ≤ length (now s)) × (n ≤ 800) × (mostLap (rule .tolerance) start (commandsAt (now s) at n) ≤ 800) × (to + 73 * length (fitLap rule start (commandsAt (now s) at n)) ≤ length (now out)) ⌝ }
+    ensures { λ r. ⌜ PutLap (fitLap rule start (commandsAt (now (s .entry)) at n)) (now (out .entry)) (now (out .exit)) to r ⌝ }
 {
     let mut kinds = [0u8; Walk::MOST];
     let mut nums = [0.0f64; Walk::NUMBERS];
@@ -201,7 +202,7 @@ fn fit_alone(
         at,
         n,
         start,
-        tolerance,
+        rule,
         &mut kinds,
         &mut nums,
         &mut chain,
@@ -218,41 +219,80 @@ fn fit_next(
     at: usize,
     n: usize,
     start: Point3D,
-    tolerance: f64,
+    rule: Rule,
     out: &mut [u8],
     to: usize,
 ) -> usize
-    requires { ⌜ ((+0 ≺ tolerance) ≡ true) × (at + 73 * n ≤ length (now s)) × (n ≤ 800) × (mostLap tolerance start (commandsAt (now s) at n) ≤ 800) × (to + 73 * length (fitLap tolerance start (commandsAt (now s) at n)) ≤ length (now out)) ⌝ }
-    ensures { λ r. ⌜ PutLap (fitLap tolerance start (commandsAt (now (s .entry)) at n)) (now (out .entry)) (now (out .exit)) to r ⌝ }
+    requires { ⌜ ((+0 ≺ rule .tolerance) ≡ true) × (at + 73 * n ≤ length (now s)) × (n ≤ 800) × (mostLap (rule .tolerance) start (commandsAt (now s) at n) ≤ 800) × (to + 73 * length (fitLap rule start (commandsAt (now s) at n)) ≤ length (now out)) ⌝ }
+    ensures { λ r. ⌜ PutLap (fitLap rule start (commandsAt (now (s .entry)) at n)) (now (out .entry)) (now (out .exit)) to r ⌝ }
 {
     if n == 0 {
         return 0;
     }
-    fit_alone(s, at, n, start, tolerance, out, to)
+    fit_alone(s, at, n, start, rule, out, to)
 }
 
-// Fits the new commands, and behind them the next lap where that is fitted again, into a buffer of its own; then writes the
-// fitted file with these laps.
+// How many commands the fit of the new commands has, and that of the next lap, 0 where it is not fitted again.
+pub struct Refit {
+    pub count: usize,
+    pub next: usize,
+}
+
+// Fits the new commands, and behind them the next lap where that is fitted again, to the front of a buffer.
+pub fn fit_both(
+    recorded: &[u8],
+    k: usize,
+    kinds: &[u8],
+    nums: &[f64],
+    rule: Rule,
+    buffer: &mut [u8],
+) -> Refit
+    requires { ⌜ ((+0 ≺ rule .tolerance) ≡ true) × (9 * length (now kinds) ≤ length (now nums)) × (8 ≤ length (now recorded)) × (tableOk (now recorded) ≡ true) × (1 ≤ k) × (k ≤ lapCount (now recorded)) × (mostBoth (rule .tolerance) (lapsOf (now recorded)) k (lentCourse (now kinds) (now nums)) ≤ 800) × (73 * mostBoth (rule .tolerance) (lapsOf (now recorded)) k (lentCourse (now kinds) (now nums)) ≤ length (now buffer)) ⌝ }
+    ensures { λ r. ⌜ PutBoth (newFit rule (lapsOf (now (recorded .entry))) k (now (kinds .entry)) (now (nums .entry))) (nextFit rule (lapsOf (now (recorded .entry))) k (now (kinds .entry)) (now (nums .entry))) (now (buffer .entry)) (now (buffer .exit)) (r .count) (r .next) ⌝ }
+{
+    let start = start_of(recorded, k);
+    let lap = next_of(recorded, k);
+    let count = fit_commands(kinds, nums, start, rule, buffer, 0);
+    let end = course_end(kinds, nums, start);
+    let to = COMMAND_BYTES * count;
+    let next = fit_next(recorded, lap.at, lap.count, end, rule, buffer, to);
+    Refit { count, next }
+}
+
+// Writes the fitted file with the first n commands of a buffer as lap k and, where the next lap is fitted again, the m behind
+// them as that lap.
+pub fn put_part(
+    recorded: &[u8],
+    fitted: &[u8],
+    k: usize,
+    buffer: &[u8],
+    n: usize,
+    m: usize,
+    out: &mut [u8],
+) -> usize
+    requires { ⌜ (1 ≤ k) × (8 ≤ length (now recorded)) × (tableOk (now recorded) ≡ true) × (8 ≤ length (now fitted)) × (tableOk (now fitted) ≡ true) × (73 * (n + m) ≤ length (now buffer)) × (commandCount (storedLaps k (lapsOf (now recorded)) (now buffer) n m (lapsOf (now fitted))) ≤ 800) × (fileSize (lapCount (now fitted)) (commandCount (storedLaps k (lapsOf (now recorded)) (now buffer) n m (lapsOf (now fitted)))) ≤ length (now out)) ⌝ }
+    ensures { λ r. ⌜ (r ≡ length (encode (storedLaps k (lapsOf (now (recorded .entry))) (now (buffer .entry)) n m (lapsOf (now (fitted .entry)))))) × (now (out .exit) ≡ encode (storedLaps k (lapsOf (now (recorded .entry))) (now (buffer .entry)) n m (lapsOf (now (fitted .entry)))) ++ drop (length (encode (storedLaps k (lapsOf (now (recorded .entry))) (now (buffer .entry)) n m (lapsOf (now (fitted .entry)))))) (now (out .entry))) ⌝ }
+{
+    let next = next_of(recorded, k);
+    put_file(fitted, k, next.both, buffer, n, m, out)
+}
+
+// Fits the laps that are fitted again into a buffer of its own; then writes the fitted file with them.
 fn replace_laps(
     recorded: &[u8],
     fitted: &[u8],
     k: usize,
     kinds: &[u8],
     nums: &[f64],
-    tolerance: f64,
+    rule: Rule,
     out: &mut [u8],
 ) -> usize
-    requires { ⌜ ((+0 ≺ tolerance) ≡ true) × (9 * length (now kinds) ≤ length (now nums)) × (1 ≤ k) × (8 ≤ length (now fitted)) × (tableOk (now fitted) ≡ true) × (mostWith (lentNew tolerance (lapsOf (now recorded)) k (now kinds) (now nums)) k (now recorded) (now fitted) ≤ 800) × (fileSize (lapCount (now fitted)) (mostWith (lentNew tolerance (lapsOf (now recorded)) k (now kinds) (now nums)) k (now recorded) (now fitted)) ≤ length (now out)) × (8 ≤ length (now recorded)) × (tableOk (now recorded) ≡ true) × (k ≤ lapCount (now recorded)) ⌝ }
-    ensures { λ r. ⌜ (r ≡ length (encode (replacedLaps tolerance k (now (kinds .entry)) (now (nums .entry)) (lapsOf (now (recorded .entry))) (lapsOf (now (fitted .entry)))))) × (now (out .exit) ≡ encode (replacedLaps tolerance k (now (kinds .entry)) (now (nums .entry)) (lapsOf (now (recorded .entry))) (lapsOf (now (fitted .entry)))) ++ drop (length (encode (replacedLaps tolerance k (now (kinds .entry)) (now (nums .entry)) (lapsOf (now (recorded .entry))) (lapsOf (now (fitted .entry)))))) (now (out .entry))) ⌝ }
+    requires { ⌜ ((+0 ≺ rule .tolerance) ≡ true) × (9 * length (now kinds) ≤ length (now nums)) × (1 ≤ k) × (8 ≤ length (now fitted)) × (tableOk (now fitted) ≡ true) × (mostWith (lentNew (rule .tolerance) (lapsOf (now recorded)) k (now kinds) (now nums)) k (now recorded) (now fitted) ≤ 800) × (fileSize (lapCount (now fitted)) (mostWith (lentNew (rule .tolerance) (lapsOf (now recorded)) k (now kinds) (now nums)) k (now recorded) (now fitted)) ≤ length (now out)) × (8 ≤ length (now recorded)) × (tableOk (now recorded) ≡ true) × (k ≤ lapCount (now recorded)) ⌝ }
+    ensures { λ r. ⌜ (r ≡ length (encode (replacedLaps rule k (now (kinds .entry)) (now (nums .entry)) (lapsOf (now (recorded .entry))) (lapsOf (now (fitted .entry)))))) × (now (out .exit) ≡ encode (replacedLaps rule k (now (kinds .entry)) (now (nums .entry)) (lapsOf (now (recorded .entry))) (lapsOf (now (fitted .entry)))) ++ drop (length (encode (replacedLaps rule k (now (kinds .entry)) (now (nums .entry)) (lapsOf (now (recorded .entry))) (lapsOf (now (fitted .entry)))))) (now (out .entry))) ⌝ }
 {
-    let mut body = [0u8; BODY_BYTES];
-    let start = start_of(recorded, k);
-    let next = next_of(recorded, k);
-    let n = fit_commands(kinds, nums, start, tolerance, &mut body, 0);
-    let end = course_end(kinds, nums, start);
-    let to = COMMAND_BYTES * n;
-    let m = fit_next(recorded, next.at, next.count, end, tolerance, &mut body, to);
-    put_file(fitted, k, next.both, &body, n, m, out)
+    let mut buffer = [0u8; BODY_BYTES];
+    let fit = fit_both(recorded, k, kinds, nums, rule, &mut buffer);
+    put_part(recorded, fitted, k, &buffer, fit.count, fit.next, out)
 }
 
 // The commands of a lap of n, if it is not fitted again.
@@ -278,8 +318,17 @@ fn others_of(fitted: &[u8], k: usize, both: bool) -> usize
     m
 }
 
+// The laps that are fitted again with `own` commands, and the commands in all other laps.
+pub fn with_others(s: &[u8], f: &[u8], k: usize, own: usize) -> usize
+    requires { ⌜ (8 ≤ length (now s)) × (tableOk (now s) ≡ true) × (8 ≤ length (now f)) × (tableOk (now f) ≡ true) × (1 ≤ k) × (own ≤ 801) ⌝ }
+    ensures { λ r. ⌜ r ≡ own + commandCount (swapBoth (nextLacks k (lapsOf (now (s .entry)))) k [] [] (lapsOf (now (f .entry)))) ⌝ }
+{
+    let next = next_of(s, k);
+    own + others_of(f, k, next.both)
+}
+
 // What the new commands, and the next lap where that is fitted again, could become at most, 801 for all above 800.
-fn most_new(s: &[u8], k: usize, kinds: &[u8], nums: &[f64], tolerance: f64) -> usize
+pub fn most_new(s: &[u8], k: usize, kinds: &[u8], nums: &[f64], tolerance: f64) -> usize
     requires { ⌜ (9 * length (now kinds) ≤ length (now nums)) × (8 ≤ length (now s)) × (tableOk (now s) ≡ true) × (1 ≤ k) × (k ≤ lapCount (now s)) ⌝ }
     ensures { λ r. ⌜ r ≡ cap (mostBoth tolerance (lapsOf (now (s .entry))) k (lentCourse (now (kinds .entry)) (now (nums .entry)))) ⌝ }
 {
@@ -424,23 +473,31 @@ fn is_lap(must: bool, kinds: &[u8], nums: &[f64]) -> bool
     commands_formed(kinds, nums)
 }
 
-// The first of the rows 1 to 7 that a replacement falls under, or 0.
-fn check_new(s: &[u8], f: &[u8], k: usize, kinds: &[u8], nums: &[f64], tolerance: f64) -> u32
-    ensures { λ r. ⌜ r ≡ refusal (newRows (now (s .entry)) (now (f .entry)) k (lentNew tolerance (lapsOf (now (s .entry))) k (now (kinds .entry)) (now (nums .entry))) tolerance) ⌝ }
+// The first of the rows 1 to 3 that two files and a new lap, whole commands and few or not, fall under, or 0.
+pub fn check_tables(s: &[u8], f: &[u8], whole: bool, few: bool) -> u32
+    ensures { λ r. ⌜ r ≡ refusal (tableRows (now (s .entry)) (now (f .entry)) whole few) ⌝ }
 {
-    if fails_1(s, f, is_whole(kinds, nums)) {
+    if fails_1(s, f, whole) {
         return 1;
     }
-    if fails_2(s, f, kinds.len() <= MOST_COMMANDS) {
+    if fails_2(s, f, few) {
         return 2;
     }
     if fails_3(s, f) {
         return 3;
     }
-    if fails_4(s, is_lap(k <= 1, kinds, nums)) {
+    0
+}
+
+// The first of the rows 4 to 7 that they fall under, or 0.
+pub fn check_laps(s: &[u8], k: usize, formed: bool, near: bool, tolerance: f64) -> u32
+    requires { ⌜ (8 ≤ length (now s)) × (tableOk (now s) ≡ true) ⌝ }
+    ensures { λ r. ⌜ r ≡ refusal (lapRows (now (s .entry)) k formed near tolerance) ⌝ }
+{
+    if fails_4(s, formed) {
         return 4;
     }
-    if fails_5(s, commands_in(kinds, nums)) {
+    if fails_5(s, near) {
         return 5;
     }
     if !is_tolerance(tolerance) {
@@ -450,6 +507,18 @@ fn check_new(s: &[u8], f: &[u8], k: usize, kinds: &[u8], nums: &[f64], tolerance
         return 7;
     }
     0
+}
+
+// The first of the rows 1 to 7 that a replacement, or its asking, falls under, or 0.
+pub fn check_new(s: &[u8], f: &[u8], k: usize, kinds: &[u8], nums: &[f64], tolerance: f64) -> u32
+    ensures { λ r. ⌜ r ≡ refusal (newRows (now (s .entry)) (now (f .entry)) k (lentNew tolerance (lapsOf (now (s .entry))) k (now (kinds .entry)) (now (nums .entry))) tolerance) ⌝ }
+{
+    let refused = check_tables(s, f, is_whole(kinds, nums), kinds.len() <= MOST_COMMANDS);
+    if refused != 0 {
+        return refused;
+    }
+    let formed = is_lap(k <= 1, kinds, nums);
+    check_laps(s, k, formed, commands_in(kinds, nums), tolerance)
 }
 
 // The number of the first row that a replacement falls under, or 0.
@@ -468,9 +537,8 @@ fn check_replacement(
     if refused != 0 {
         return refused;
     }
-    let next = next_of(s, k);
-    let most = most_new(s, k, kinds, nums, tolerance) + others_of(f, k, next.both);
-    check_sizes(lap_count(f), most, room)
+    let own = most_new(s, k, kinds, nums, tolerance);
+    check_sizes(lap_count(f), with_others(s, f, k, own), room)
 }
 
 // Writes the fitted file with lap number `lap` replaced by the fit of the new commands, and the next lap fitted again where it
@@ -490,5 +558,6 @@ pub fn replace_lap(
     if refused != 0 {
         return Answer::Refused(refused);
     }
-    Answer::Written(replace_laps(recorded, fitted, lap, kinds, nums, tolerance, out))
+    let rule = Rule::of_laps(tolerance);
+    Answer::Written(replace_laps(recorded, fitted, lap, kinds, nums, rule, out))
 }

@@ -115,7 +115,7 @@ refused-alike s tol room room′ h k = alike s tol room room′ h k (refusal (fi
 pub each-is-listed : EachIsListed
 unfolding listFile
 each-is-listed s f tol room room′ e h =
-    let q = accepted s tol room′ f e .passed in
+    let q = accepted (lapsRule tol) s room′ f e .passed in
     let m = q .few in
     unless-gives (refusal (textRows s tol room)) _ (text-0 s tol room (q .file) (ap not (q .within)) m (omega arith))
 
@@ -130,7 +130,7 @@ pub kinds-of-the-fit : KindsOfTheFit
 unfolding lapRows
 kinds-of-the-fit s f tol room e k a b =
     let cs = map decoded (lapAt s k) in
-    let l = laps-are-fitted s f tol room e .1 k a b in
+    let l = laps-are-fitted tol s f room e .1 k a b in
     course-kinds (lapsRule tol) (startOf k (lapsOf s)) cs ∙ sym (ap (map kindByte) l ∙ kind-bytes (fitOn (lapsRule tol) (startOf k (lapsOf s)) cs))
 
 -- ---- steps
@@ -147,7 +147,7 @@ rows-of-a-chain tol points = refl
 -- The steps that they give are, together, those of the lap's chains.
 pub steps-of-the-chains : StepsOfTheChains
 unfolding lapRows
-steps-of-the-chains s f tol room e k a b = course-steps (lapsRule tol) (tolerance-positive tol (accepted s tol room f e .passed .within)) (startOf k (lapsOf s)) (map decoded (lapAt s k))
+steps-of-the-chains s f tol room e k a b = course-steps (lapsRule tol) (tolerance-positive tol (accepted (lapsRule tol) s room f e .passed .within)) (startOf k (lapsOf s)) (map decoded (lapAt s k))
 
 -- ---- the sum under the listing
 -- a file that is listed passes the rows, and the text is its listing

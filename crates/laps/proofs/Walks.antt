@@ -32,11 +32,15 @@ pub lap-end : (test : Bool → List ℕ → Bool) (first : Bool) (s : List ℕ) 
 unfolding lapOk commandsAt
 lap-end test first s b n i t h v = (let e : n - i ≡ zero = omega arith in sym (rw e)) ∙ v
 
--- the first command is tested as the lap's Move is asked for
-pub lap-begin : (test : Bool → List ℕ → Bool) (must first without : Bool) (s : List ℕ) (at n : ℕ) → without ≡ lacks (commandsAt s at n) → first ≡ (must || not without)
-    → lapOk test first (commandsAt s at (n - 0)) ≡ lapTested test must (commandsAt s at n)
+-- the first command is tested first
+pub lap-begin : (test : Bool → List ℕ → Bool) (first : Bool) (s : List ℕ) (at n : ℕ) → lapOk test first (commandsAt s at (n - 0)) ≡ lapOk test first (commandsAt s at n)
+lap-begin test first s at n = let z : n - 0 ≡ n = omega arith in rw z
+
+-- of a lap, as its Move is asked for
+pub lap-asked : (test : Bool → List ℕ → Bool) (must first without : Bool) (s : List ℕ) (at n : ℕ) → without ≡ lacks (commandsAt s at n) → first ≡ (must || not without)
+    → lapOk test first (commandsAt s at n) ≡ lapTested test must (commandsAt s at n)
 unfolding lapTested
-lap-begin test must first without s at n e f = let z : n - 0 ≡ n = omega arith in rw (z, f, e)
+lap-asked test must first without s at n e f = rw (f, e)
 
 -- whether a lap lacks its Move is told by its first byte
 pub lacks-none : (s : List ℕ) (at n : ℕ) → n ≡ 0 → false ≡ lacks (commandsAt s at n)

@@ -7,11 +7,11 @@ use lib.ListN.{length, getD}
 use lib.Seq.{sets}
 use lib.Dec.{ltb, eqb}
 use Rattle.floats.specs.Ops.{if_then_else_}
-use Rattle.geo.specs.Domain.{commandIn}
+use Rattle.geo.specs.Domain.{finite3, commandIn}
 use Rattle.file.specs.Bytes.{halfAt, u32Bytes}
 use Rattle.laps.specs.declared.lap_file.Check.{Check}
-use Rattle.laps.specs.declared.lap_file.Check.the-variants.{Form, Domain}
-use Rattle.file.specs.Command.{commandsAt, decoded, wellFormed}
+use Rattle.laps.specs.declared.lap_file.Check.the-variants.{Form, Domain, Fitted, Finite}
+use Rattle.file.specs.Command.{commandsAt, decoded, pointFrom, wellFormed}
 
 -- the commands of a lap, each of 73 bytes
 abbrev pub Lap : Type 0
@@ -128,6 +128,17 @@ formOk first c = placed first (getD c 0 0) && wellFormed c
 unfoldable pub domainOk : Bool → List ℕ → Bool
 domainOk first c = commandIn (decoded c)
 
+-- row 4 of a command of a fitted lap: no fit writes a Bezier, so "a Bezier gives 4" (document 02, §9)
+unfoldable pub fittedOk : Bool → List ℕ → Bool
+fittedOk first c = formOk first c && not (eqb (getD c 0 0) 3)
+
+-- row 5 of a command of a fitted lap: "its numbers need only be finite", since a fit may write a number just above 1,000,000
+unfoldable pub finiteNumbers : List ℕ → Bool
+finiteNumbers c = finite3 (pointFrom c 1) && finite3 (pointFrom c 25) && finite3 (pointFrom c 49)
+
+unfoldable pub finiteOk : Bool → List ℕ → Bool
+finiteOk first c = finiteNumbers c
+
 -- a test of each command of a lap, of which the first is to be a Move or none is
 unfoldable pub lapOk : (Bool → List ℕ → Bool) → Bool → Lap → Bool
 lapOk test first [] = true
@@ -142,7 +153,9 @@ unfoldable pub lapsOk : (Bool → List ℕ → Bool) → Bool → List Lap → B
 lapsOk test must [] = true
 lapsOk test must (l ∷ ls) = if lapTested test must l then lapsOk test false ls else false
 
--- the two tests, as the code names them
+-- the tests, as the code names them
 unfoldable pub tested : Check → Bool → List ℕ → Bool
 tested Form = formOk
 tested Domain = domainOk
+tested Fitted = fittedOk
+tested Finite = finiteOk

@@ -1,10 +1,12 @@
 // The lap file: its head, its table and its rows.
 use file::command::COMMAND_BYTES;
 use file::command::is_well_formed;
+use file::command::point_from;
 use file::command::read_command;
 use file::words::half_at;
 use file::words::put_u32;
 use geo::domain::command_in;
+use geo::domain::is_finite3;
 ghost use mathlib.Core.Path.{_≡_};
 ghost use mathlib.Core.Bool.{true, not, _||_};
 ghost use mathlib.Core.List.{_++_};
@@ -14,7 +16,7 @@ ghost use lib.Seq.{sets};
 ghost use Rattle.geo.specs.Outcome.{refusal};
 ghost use Rattle.file.specs.Bytes.{u32Bytes};
 ghost use Rattle.file.specs.Command.{commandsAt};
-ghost use Rattle.laps.specs.File.{lapCount, offsetAt, countAt, lapsOf, mark, short, big, hasMark, walk, tableOk, placed, formOk, lacks, tested, lapTested, lapsOk};
+ghost use Rattle.laps.specs.File.{lapCount, offsetAt, countAt, lapsOf, mark, short, big, hasMark, walk, tableOk, placed, formOk, fittedOk, finiteNumbers, lacks, tested, lapOk, lapTested, lapsOk};
 ghost use Rattle.laps.specs.Rows.{fileRows, sizeRows};
 
 // The most that a file may have: "The lap count L, 0 to 64", "At most 800 commands and 65,536 bytes".
@@ -24,12 +26,19 @@ pub const MOST_COMMANDS: usize = 800;
 
 pub const MOST_BYTES: usize = 65536;
 
+// The kind of a Bezier.
+const BEZIER: u8 = 3;
+
 // What is asked of each command of a lap.
 pub enum Check {
     // row 4: its kind, its unused numbers, and where a Move stands
     Form,
     // row 5: its numbers
     Domain,
+    // row 4 of a fitted lap: the same as Form, and it has no Bezier
+    Fitted,
+    // row 5 of a fitted lap: each of its numbers is finite
+    Finite,
 }
 
 // The lap count.
@@ -153,6 +162,33 @@ fn has_form(first: bool, c: &[u8]) -> bool
     false
 }
 
+// Row 4 of a fitted command.
+fn has_fitted_form(first: bool, c: &[u8]) -> bool
+    requires { ⌜ 73 ≤ length (now c) ⌝ }
+    ensures { λ r. ⌜ r ≡ fittedOk first (now (c .entry)) ⌝ }
+{
+    if has_form(first, c) {
+        return c[0] != BEZIER;
+    }
+    false
+}
+
+// Row 5 of a fitted command: "its numbers need only be finite" (document 02, §9).
+fn has_finite_numbers(c: &[u8]) -> bool
+    requires { ⌜ 73 ≤ length (now c) ⌝ }
+    ensures { λ r. ⌜ r ≡ finiteNumbers (now (c .entry)) ⌝ }
+{
+    let p = point_from(c, 1);
+    let q = point_from(c, 25);
+    let r = point_from(c, 49);
+    if is_finite3(p) {
+        if is_finite3(q) {
+            return is_finite3(r);
+        }
+    }
+    false
+}
+
 // Row 4 or row 5 of a command.
 fn passes(check: Check, first: bool, c: &[u8]) -> bool
     requires { ⌜ 73 ≤ length (now c) ⌝ }
@@ -161,6 +197,8 @@ fn passes(check: Check, first: bool, c: &[u8]) -> bool
     match check {
         Check::Form => has_form(first, c),
         Check::Domain => command_in(read_command(c)),
+        Check::Fitted => has_fitted_form(first, c),
+        Check::Finite => has_finite_numbers(c),
     }
 }
 
@@ -185,12 +223,12 @@ fn opens(must: bool, without: bool) -> bool
     !without
 }
 
-// Row 4 or row 5 of the n commands from `at` on, a lap that must have its Move or may lack it.
-fn lap_passes(check: Check, must: bool, s: &[u8], at: usize, n: usize) -> bool
+// Row 4 or row 5 of the n commands from `at` on, of which the first is to be a Move or none is.
+pub fn commands_pass(check: Check, opening: bool, s: &[u8], at: usize, n: usize) -> bool
     requires { ⌜ at + 73 * n ≤ length (now s) ⌝ }
-    ensures { λ r. ⌜ r ≡ lapTested (tested check) must (commandsAt (now (s .entry)) at n) ⌝ }
+    ensures { λ r. ⌜ r ≡ lapOk (tested check) opening (commandsAt (now (s .entry)) at n) ⌝ }
 {
-    let mut first = opens(must, lacks_move(s, at, n));
+    let mut first = opening;
     let mut i = 0;
     let mut b = at;
     while i < n {
@@ -203,6 +241,14 @@ fn lap_passes(check: Check, must: bool, s: &[u8], at: usize, n: usize) -> bool
         i += 1;
     }
     true
+}
+
+// The same of a lap, which must have its Move or may lack it.
+pub fn lap_passes(check: Check, must: bool, s: &[u8], at: usize, n: usize) -> bool
+    requires { ⌜ at + 73 * n ≤ length (now s) ⌝ }
+    ensures { λ r. ⌜ r ≡ lapTested (tested check) must (commandsAt (now (s .entry)) at n) ⌝ }
+{
+    commands_pass(check, opens(must, lacks_move(s, at, n)), s, at, n)
 }
 
 // The same of all laps. Only the first must have its Move.

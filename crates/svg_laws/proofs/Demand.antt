@@ -26,7 +26,8 @@ use Rattle.laps.specs.Rows.{fileRows, fileSize, sizeRows}
 use Rattle.laps.proofs.Whole.{length-encode}
 use Rattle.laps.proofs.ReadBack.{Somes, laps-encode, table-encode, lap-count-encode}
 use Rattle.laps.proofs.Rows.{file-passed, behind-file}
-use Rattle.lap_fit.specs.Fit.{fitLaps, lapsMost, fileFitRows, fitFile}
+use Rattle.fitting.specs.Pieces.{lapsRule}
+use Rattle.lap_fit.specs.Fit.{fitLaps, lapsMost, fileFitRows, fitFileBy}
 use Rattle.svg_text.specs.Thousandths.{floatOf, TenDigits}
 use Rattle.svg_text.specs.Path.{Drawn, move, line, curve, named}
 use Rattle.svg_text.specs.Drawing.{place, drawn}
@@ -314,10 +315,10 @@ late false false false f n e = no-refusal f n e
 
 -- The fit of a file that was read is refused by none of 1 to 5.
 pub fit-takes-course : FitTakesCourse
-unfolding fitFile fileFitRows sizeRows
+unfolding fitFileBy fileFitRows sizeRows
 fit-takes-course t room f tol space n e h =
     let p = file-passed f (refusal (fileRows f)) refl (result-is-course t room f e .right) in
-    let fitted = encode (fitLaps tol origin (lapsOf f)) in
+    let fitted = encode (fitLaps (lapsRule tol) origin (lapsOf f)) in
     let rows = row 6 (not (tolerance tol)) ∷ sizeRows (lapCount f) (lapsMost tol origin (lapsOf f)) space in
     late (not (tolerance tol)) (ltb 800 (lapsMost tol origin (lapsOf f))) (ltb space (fileSize (lapCount f) (lapsMost tol origin (lapsOf f)))) fitted n
     (sym (ap (λ (k : ℕ). unless k fitted) (behind-file f rows p)) ∙ h)

@@ -29,8 +29,8 @@ fit-lent-requires : tie.Need-fit-lent-requires
 fit-lent-requires c κs = let a = c .before .before .before .before .before .before .before .before .before .before .before .before .before .before .before .before .before .before .before .before .args in let p = c .before .before .before .before .before .before .before .before .before .before .before .before .before .before .before .before .before .before .before .before .pre in let r = c .before .before .before .before .before .before .before .before .before .before .read-commands .ensures in
     let x = long-kinds (a .s .now) (a .at) (a .n) _ _ _ _ (omega (arith, p)) (omega (arith, p)) (r .0) (r .1) in
     let y = long-numbers (a .s .now) (a .at) (a .n) _ _ _ _ (omega (arith, p)) (omega (arith, p)) (r .0) (r .1) in
-    let z = most-read (a .s .now) (a .at) (a .n) _ _ _ _ (omega (arith, p)) (omega (arith, p)) (r .0) (r .1) (a .tolerance) (a .start) in
-    let w = ap length (fit-read (a .s .now) (a .at) (a .n) _ _ _ _ (omega (arith, p)) (omega (arith, p)) (r .0) (r .1) (a .tolerance) (a .start)) in
+    let z = most-read (a .s .now) (a .at) (a .n) _ _ _ _ (omega (arith, p)) (omega (arith, p)) (r .0) (r .1) (a .rule) (a .start) in
+    let w = ap length (fit-read (a .s .now) (a .at) (a .n) _ _ _ _ (omega (arith, p)) (omega (arith, p)) (r .0) (r .1) (a .rule) (a .start)) in
     (p .0, omega arith, omega (arith, p .3), omega (arith, p .4), p .7, p .8, p .9)
 
 same-length : tie.Need-same-length
@@ -53,7 +53,7 @@ same-length-6 c = search needs
 
 returns : tie.Need-returns
 returns c = let a = c .before .before .before .before .before .before .before .before .before .before .before .before .before .before .before .before .before .before .before .before .before .before .before .before .before .before .before .before .before .args in let p = c .before .before .before .before .before .before .before .before .before .before .before .before .before .before .before .before .before .before .before .before .before .before .before .before .before .before .before .before .before .pre in let r = c .before .before .before .before .before .before .before .before .before .before .before .before .before .before .before .before .before .before .before .read-commands .ensures in
-    put-same _ _ _ _ _ _ (fit-read (a .s .now) (a .at) (a .n) _ _ _ _ (omega (arith, p)) (omega (arith, p)) (r .0) (r .1) (a .tolerance) (a .start)) (c .before .before .before .before .before .before .before .before .fit-lent .ensures)
+    put-same _ _ _ _ _ _ (fit-read (a .s .now) (a .at) (a .n) _ _ _ _ (omega (arith, p)) (omega (arith, p)) (r .0) (r .1) (a .rule) (a .start)) (c .before .before .before .before .before .before .before .before .fit-lent .ensures)
 
 pub fit-lap-spec : {M : Type 1} → statement M
 fit-lap-spec =

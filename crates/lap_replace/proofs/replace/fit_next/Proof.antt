@@ -5,7 +5,7 @@ use Rattle.lap_replace.proofs.replace.fit_next.Statement.{statement}
 use Rattle.lap_replace.proofs.replace.fit_next.Tie as tie
 
 returns : tie.Need-returns
-returns c = let a = c .before .before .before .args in put-none (a .tolerance) (a .start) (a .s .now) (a .at) (a .n) _ (a .to) (c .if1 .taken)
+returns c = let a = c .before .before .before .args in put-none (a .rule) (a .start) (a .s .now) (a .at) (a .n) _ (a .to) (c .if1 .taken)
 
 fit-alone-requires : tie.Need-fit-alone-requires
 fit-alone-requires c κs = search needs

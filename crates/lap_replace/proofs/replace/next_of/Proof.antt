@@ -15,7 +15,7 @@ none-requires : tie.Need-none-requires
 none-requires c κs = search needs
 
 returns : tie.Need-returns
-returns c = let a = c .before .before .before .before .args in let w = next-not (a .s .now) (a .k) (next-end (a .s .now) (a .k) (c .before .if1 .taken ∙ c .before .before .lap-count .ensures .0)) in rw (c .none .ensures) (w .0, w .1, omega arith, omega arith)
+returns c = let a = c .before .before .before .before .args in let w = next-not (a .s .now) (a .k) (next-end (a .s .now) (a .k) (omega (arith, c .before .if1 .taken, c .before .before .lap-count .ensures .0))) in rw (c .none .ensures) (w .0, w .1, omega arith, omega arith)
 
 offset-at-requires : tie.Need-offset-at-requires
 offset-at-requires c κs = let t = table-fits (c .before .before .before .args .s .now) (c .before .before .before .pre .1) in omega (arith, t, c .before .before .before .pre, c .if1 .left, c .before .lap-count .ensures .0)

@@ -18,18 +18,21 @@ returns : tie.Need-returns
 unfolding replaceLap
 returns c = wrote-refused _ _ (c .before .check-replacement .ensures) _ _ _ (c .if1 .taken)
 
+of-laps-requires : tie.Need-of-laps-requires
+of-laps-requires c κs = search needs
+
 replace-laps-requires : tie.Need-replace-laps-requires
-replace-laps-requires c κs = let a = c .before .before .before .before .before .before .before .before .args in let p = replace-passed (a .recorded .now) (a .fitted .now) (a .lap) (lentNew (a .tolerance) (lapsOf (a .recorded .now)) (a .lap) (a .kinds .now) (a .nums .now)) (a .tolerance) _ (sym (c .before .if1 .left) ∙ c .before .before .check-replacement .ensures) in
+replace-laps-requires c κs = let a = c .before .before .before .before .before .before .before .before .before .args in let p = replace-passed (a .recorded .now) (a .fitted .now) (a .lap) (lentNew (a .tolerance) (lapsOf (a .recorded .now)) (a .lap) (a .kinds .now) (a .nums .now)) (a .tolerance) _ (sym (c .before .before .if1 .left) ∙ c .before .before .before .check-replacement .ensures) in
     let q = past-1 (a .recorded .now) (a .fitted .now) _ (p .0 .p1) in
     let e = lent-nine (a .kinds .now) (a .nums .now) (q .2) in
-    (tolerance-positive (a .tolerance) (p .0 .p6), omega (arith, e), past-7 (a .lap) (a .recorded .now) (p .0 .p7) .0, q .1, past-3 (a .recorded .now) (a .fitted .now) (p .0 .p3) .1, p .1, p .2, q .0, past-3 (a .recorded .now) (a .fitted .now) (p .0 .p3) .0, past-7 (a .lap) (a .recorded .now) (p .0 .p7) .1)
+    rw (c .before .of-laps .ensures) (tolerance-positive (a .tolerance) (p .0 .p6), omega (arith, e), past-7 (a .lap) (a .recorded .now) (p .0 .p7) .0, q .1, past-3 (a .recorded .now) (a .fitted .now) (p .0 .p3) .1, p .1, p .2, q .0, past-3 (a .recorded .now) (a .fitted .now) (p .0 .p3) .0, past-7 (a .lap) (a .recorded .now) (p .0 .p7) .1)
 
 same-length : tie.Need-same-length
 same-length c = search needs
 
 returns-2 : tie.Need-returns-2
 unfolding replaceLap
-returns-2 c = wrote-bytes _ _ (c .before .before .before .before .before .check-replacement .ensures) (c .before .before .before .before .if1 .left) _ _ _ _ (c .before .before .replace-laps .ensures)
+returns-2 c = wrote-bytes _ _ (c .before .before .before .before .before .before .check-replacement .ensures) (c .before .before .before .before .before .if1 .left) _ _ _ _ (rw (c .before .before .before .before .of-laps .ensures) at (c .before .before .replace-laps .ensures))
 
 pub replace-lap-spec : {M : Type 1} → statement M
 replace-lap-spec =
@@ -37,6 +40,7 @@ replace-lap-spec =
     (tie.spec
     check-replacement-requires
     returns
+    of-laps-requires
     replace-laps-requires
     same-length
     returns-2)

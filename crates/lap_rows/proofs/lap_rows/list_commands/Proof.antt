@@ -38,7 +38,7 @@ fit-course-with-steps-requires : tie.Need-fit-course-with-steps-requires
 fit-course-with-steps-requires c κs = let a = c .before .before .before .before .before .before .before .before .before .before .before .before .before .before .before .before .before .before .before .before .before .args in let p = c .before .before .before .before .before .before .before .before .before .before .before .before .before .before .before .before .before .before .before .before .before .pre in let r = c .before .before .before .before .before .before .before .before .before .before .before .read-commands .ensures in
     let x = long-kinds (a .s .now) (a .at) (a .n) _ _ _ _ (p .2) (p .3) (r .0) (r .1) in
     let y = long-numbers (a .s .now) (a .at) (a .n) _ _ _ _ (p .2) (p .3) (r .0) (r .1) in
-    let z = most-read (a .s .now) (a .at) (a .n) _ _ _ _ (p .2) (p .3) (r .0) (r .1) (a .tolerance) (a .start) in
+    let z = most-read (a .s .now) (a .at) (a .n) _ _ _ _ (p .2) (p .3) (r .0) (r .1) (lapsRule (a .tolerance)) (a .start) in
     rw (c .before .before .before .before .before .before .of-laps .ensures) (p .0, (omega arith, omega (arith, p .4), omega (arith, p .5), omega (arith, p .6), p .7))
 
 same-length : tie.Need-same-length

@@ -1,0 +1,2 @@
+// Look first, then store: the asking for a lap's replacement, and its commit.
+pub mod session;
