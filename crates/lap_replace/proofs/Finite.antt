@@ -26,7 +26,7 @@ unfolding lapOk domainOk
 near-from first [] e = tt
 near-from first (c ∷ l) e = let a = cond-false (commandIn (decoded c)) _ e in (a .0, near-from _ l (a .1))
 
-near : (must : Bool) (l : Lap) → lapTested domainOk must l ≡ true → CommandsIn (map decoded l)
+pub near : (must : Bool) (l : Lap) → lapTested domainOk must l ≡ true → CommandsIn (map decoded l)
 unfolding lapTested
 near must l e = near-from _ l e
 
@@ -36,12 +36,12 @@ unfolding endOn
 ends-placed p [] P h = P
 ends-placed p (c ∷ cs) P h = ends-placed (endOf c) cs (end-placed c (h .0)) (h .1)
 
-lap-placed : (p : Point3D) (l : Lap) → Placed 20 p → CommandsIn (map decoded l) → Placed 20 (lapEnd p l)
+pub lap-placed : (p : Point3D) (l : Lap) → Placed 20 p → CommandsIn (map decoded l) → Placed 20 (lapEnd p l)
 unfolding lapEnd
 lap-placed p l P h = ends-placed p (map decoded l) P h
 
 -- each lap, and its start
-at-in : (must : Bool) (p : Point3D) (ls : List Lap) (i : ℕ) → lapsOk domainOk must ls ≡ true → Placed 20 p → i < length ls → Placed 20 (startFrom p ls i) × CommandsIn (map decoded (getD ls i []))
+pub at-in : (must : Bool) (p : Point3D) (ls : List Lap) (i : ℕ) → lapsOk domainOk must ls ≡ true → Placed 20 p → i < length ls → Placed 20 (startFrom p ls i) × CommandsIn (map decoded (getD ls i []))
 unfolding lapsOk startFrom
 at-in must p [] i e P h = absurd (omega arith)
 at-in must p (l ∷ ls) zero e P h = (P, near must l (cond-false (lapTested domainOk must l) _ e .0))

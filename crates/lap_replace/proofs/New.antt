@@ -33,15 +33,15 @@ module _ (ks : List ℕ) (ns : List Float) (held : Held ns) where
   unfolding pointAt
   point-held i = (held (3 * i), held (3 * i + 1), held (3 * i + 2))
 
-  decoded-lent : (i : ℕ) → decoded (lentBytes ks ns i) ≡ commandAt ks ns i
+  pub decoded-lent : (i : ℕ) → decoded (lentBytes ks ns i) ≡ commandAt ks ns i
   unfolding lentBytes commandAt
   decoded-lent i = decoded-laid (getD ks i 0) (pointAt ns (3 * i)) (pointAt ns (3 * i + 1)) (pointAt ns (3 * i + 2)) (point-held (3 * i)) (point-held (3 * i + 1)) (point-held (3 * i + 2))
 
-  formed-lent : (i : ℕ) → wellFormed (lentBytes ks ns i) ≡ formed (getD ks i 0) (pointAt ns (3 * i + 1)) (pointAt ns (3 * i + 2))
+  pub formed-lent : (i : ℕ) → wellFormed (lentBytes ks ns i) ≡ formed (getD ks i 0) (pointAt ns (3 * i + 1)) (pointAt ns (3 * i + 2))
   unfolding lentBytes
   formed-lent i = formed-laid (getD ks i 0) (pointAt ns (3 * i)) (pointAt ns (3 * i + 1)) (pointAt ns (3 * i + 2)) (point-held (3 * i + 1)) (point-held (3 * i + 2))
 
-  kind-lent : (i : ℕ) → getD (lentBytes ks ns i) 0 0 ≡ getD ks i 0
+  pub kind-lent : (i : ℕ) → getD (lentBytes ks ns i) 0 0 ≡ getD ks i 0
   unfolding lentBytes laid
   kind-lent i = refl
 
@@ -96,7 +96,7 @@ module _ (ks : List ℕ) (ns : List Float) (held : Held ns) where
       let c = formed-from m n (i + 1) false z (a .1) in
       (every-more _ n i (ap (λ (t : Bool). placed t (getD ks i 0)) (sym q) ∙ b .0) (c .0), every-more _ n i (b .1) (c .1))
 
-  lacks-lent : (n : ℕ) → 0 < n → not (lacks (listFrom (lentBytes ks ns) n 0)) ≡ eqb (getD ks 0 0) 0
+  pub lacks-lent : (n : ℕ) → 0 < n → not (lacks (listFrom (lentBytes ks ns) n 0)) ≡ eqb (getD ks 0 0) 0
   unfolding lacks listFrom
   lacks-lent zero h = absurd (omega arith)
   lacks-lent (suc n) h = ap (λ (k : ℕ). not (not (eqb k 0))) (kind-lent 0) ∙ twice (eqb (getD ks 0 0) 0)

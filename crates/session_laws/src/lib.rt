@@ -1,0 +1,1 @@
+// What is shown of asking, committing and replacing; no code stands here.
