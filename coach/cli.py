@@ -13,7 +13,7 @@ ABOUT = """Recorded laps as straights and bends, for the coach and the student.
 
 WORKOUT is a recording: GPX, a table (CSV), or the workout's own text, one position a line: lap time x y z, in seconds and
 metres. A lap file (.laps) is what the watch holds. A COURSE is SVG path data. TOLERANCE is in metres. '-' stands for standard input or output. No
-file is replaced without --force, and no input ever. Every fitted byte comes from the proved functions, by
+file is replaced without --force, and no input ever, but by store, which is for that. Every fitted byte comes from the proved functions, by
 target/coach/laptool (coach/build makes it). Lengths are in the plane."""
 
 
@@ -96,6 +96,10 @@ COMMANDS = {
             ("workout", "lap", "tolerance", "drawing"), ("reading", "force")),
     "replace": (commands.replace, "put another recording in the place of a lap, and fit it",
                 ("lap", "new_lap", "tolerance", "workout", "fitted", "new_workout", "new_fitted"), ("reading", "force")),
+    "look": (commands.look, "how a corrected lap turns out, old beside new, before a file changes; keeps a ticket to store it by",
+             ("lap", "new_lap", "tolerance", "workout", "fitted", "ticket", "picture"), ("limits", "to", "force")),
+    "store": (commands.store, "store what a look showed: the workout and its fit change where they are, both or neither",
+              ("ticket", "workout", "fitted"), ("force",)),
     "lines": (commands.lines, "a fitted file for older screens: every Arc as Lines", ("tolerance", "fitted", "lines"), ("force",)),
     "text": (commands.text, "a lap file's commands as text", ("file",), ("to", "force")),
     "gpx": (commands.gpx, "a lap file as GPX", ("file", "gpx"), ("reading", "force")),
@@ -113,6 +117,7 @@ MEANINGS = {
     "counts": "counted strides, a line each: lap, bend1 or straight1 or whole, strides",
     "lap": "the number of a lap, from 1",
     "new_lap": "a recording of one lap",
+    "ticket": "the ticket of a look, written by look and taken by store",
     "new_workout": "the corrected workout's text, to be written",
     "new_fitted": "its fit, to be written",
     "lines": "the lap file with every Arc as Lines, to be written",

@@ -6,7 +6,7 @@ from advice import TRIED, advice_text
 from bends import Limits
 from drawing import course_line, drawing_of
 from earth import Plane
-from files import label
+from files import STREAM, label, one_at_a_time
 from fitting import check_fit, count, fit_line, fitted_pieces
 from geometry import strokes_of
 from gpx import gpx_text
@@ -16,12 +16,13 @@ from maps import map_of
 from page import page_of
 from pathdata import path_data
 from picture import picture_of, svg_of
-from pieces import lap_pieces
-from proved import course_bytes, fitted_bytes, lines_bytes, replaced_bytes
+from pieces import lap_pieces, pieces_of
+from proved import asked, committed, course_bytes, fitted_bytes, lines_bytes, replaced_bytes
 from rows import part_rows, piece_rows
+from session import Ticket, edits_of, read_ticket, session_of, session_text, ticket_text
 from strides import read_counts, sheet, strides_text
 from trouble import Refused, Trouble
-from workout import Choices, Workout, check_laps, read_workout, workout_text
+from workout import Choices, Workout, check_laps, own_text, read_workout, workout_text
 
 
 def recording(files, name, words):
@@ -140,17 +141,76 @@ def replace(files, words):
     if not 1 <= words.lap <= len(workout.laps):
         raise Refused(7)
     check_fit(workout, words.tolerance, label(words.workout), given, label(words.fitted))
-    choices = Choices(alone=True, part_of=workout)
-    new = read_workout(files.read(words.new_lap), label(words.new_lap), choices)
-    laps = workout.recorded[:words.lap - 1] + new.recorded + workout.recorded[words.lap:]
-    check_laps(laps, label(words.new_lap))
-    corrected = Workout(laps, workout.origin, workout.start, workout.carries_on)
-    carry_on = corrected.carries_on
-    body = body_of(corrected.laps[words.lap - 1], carry_on and words.lap > 1)
-    fitted = replaced_bytes(file_of(workout.laps, carry_on), given, words.lap, joined([body]), words.tolerance, words.workout)
-    line = fit_line(commands_of(file_of(corrected.laps, carry_on), words.new_lap), commands_of(fitted, words.new_lap))
+    corrected = with_lap(workout, words.lap, one_lap(files, words.new_lap, workout), label(words.new_lap))
+    new_lap = lap_alone(corrected, words.lap)
+    fitted = replaced_bytes(recorded_file(workout), given, words.lap, new_lap, words.tolerance, words.workout)
+    line = fit_line(commands_of(recorded_file(corrected), words.new_lap), commands_of(fitted, words.new_lap))
     files.save((words.new_workout, workout_text(corrected).encode()), (words.new_fitted, fitted))
     return told(line, words.new_workout, words.new_fitted)
+
+
+def recorded_file(workout):
+    return file_of(workout.laps, workout.carries_on)
+
+
+def one_lap(files, name, workout):
+    """The positions of a recording of one lap of a workout."""
+    return read_workout(files.read(name), label(name), Choices(alone=True, part_of=workout)).recorded[0]
+
+
+def with_lap(workout, lap, positions, name):
+    """The workout with other positions in the place of a lap."""
+    laps = workout.recorded[:lap - 1] + [positions] + workout.recorded[lap:]
+    check_laps(laps, name)
+    return Workout(laps, workout.origin, workout.start, workout.carries_on)
+
+
+def lap_alone(workout, lap):
+    """A lap as a lap file of its own, without its Move where it carries on."""
+    return joined([body_of(workout.laps[lap - 1], workout.carries_on and lap > 1)])
+
+
+def desk(files, words):
+    """A workout, its fitted file and the edit number of that: files that a store changes where they are."""
+    if STREAM in (words.workout, words.fitted):
+        raise Trouble("a store changes the workout and the fitted file where they are, and '-' is no such place")
+    return own_text(files.read(words.workout), words.workout), files.read(words.fitted), edits_of(files, words.fitted)
+
+
+def look(files, words):
+    """A corrected lap as it would turn out, as it was beside it, and a ticket by which `store` stores it; nothing else is written."""
+    with one_at_a_time(words.fitted):
+        workout, fitted, edits = desk(files, words)
+    if not 1 <= words.lap <= len(workout.laps):
+        raise Refused(7)
+    check_fit(workout, words.tolerance, label(words.workout), fitted, label(words.fitted))
+    corrected = with_lap(workout, words.lap, one_lap(files, words.new_lap, workout), label(words.new_lap))
+    numbers, part = asked(recorded_file(workout), fitted, words.lap, lap_alone(corrected, words.lap), words.tolerance, edits, words.new_lap)
+    ticket = Ticket(*numbers, part, corrected.recorded[words.lap - 1])
+    before = commands_of(fitted, label(words.fitted))
+    old = workout, pieces_of(workout.laps, started(before))
+    new = corrected, pieces_of(corrected.laps, started(ticket.shown_in(before)))
+    limits = limits_of(words)
+    rows = [[row for row in part_rows(whole.laps, pieces, words.tolerance, limits) if ticket.lap <= row.lap <= ticket.last]
+            for whole, pieces in (old, new)]
+    shape = page_of if words.picture.lower().endswith((".html", ".htm")) else svg_of
+    picture = shape(picture_of(*new, words.tolerance, limits, old))
+    line = f"nothing is stored yet: store {words.ticket} {words.workout} {words.fitted} makes it edit {edits + 1} of that file\n"
+    files.save((words.ticket, ticket_text(ticket)), (words.picture, picture.encode()), (words.to, (listing.old_and_new(*rows) + line).encode()))
+
+
+def store(files, words):
+    """Commits the ticket of a look: the fitted file, the workout and the edit number change together where they are, or none does."""
+    with one_at_a_time(words.fitted):
+        workout, fitted, edits = desk(files, words)
+        ticket = read_ticket(files.read(words.ticket), label(words.ticket))
+        stored, edits = committed(recorded_file(workout), fitted, ticket.part, edits, ticket.numbers, label(words.ticket))
+        corrected = with_lap(workout, ticket.lap, ticket.positions, label(words.ticket))
+        check_fit(corrected, ticket.tolerance, label(words.workout), stored, label(words.ticket))
+        # The edit number first: alone, it makes a ticket old, and no file wrong.
+        files.renew((session_of(words.fitted), session_text(edits)), (words.fitted, stored), (words.workout, workout_text(corrected).encode()))
+    line = fit_line(commands_of(recorded_file(corrected), words.workout), commands_of(stored, words.fitted))
+    return told(f"stored, edit {edits} of {words.fitted}; {line}")
 
 
 def lines(files, words):

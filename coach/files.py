@@ -3,6 +3,7 @@
 Only a loss of power or a kill between two renames can part two files; what takes both then finds that the fit is not the
 workout's (fitting.check_fit)."""
 import contextlib
+import fcntl
 import os
 import shutil
 import signal
@@ -40,19 +41,24 @@ class Files:
         except OSError as error:
             raise Trouble(f"{label(name)}: {error.strerror}") from error
 
+    def read_if_there(self, name):
+        """The bytes of a file; None where there is none."""
+        return self.read(name) if os.path.lexists(name) else None
+
     def save(self, *outputs):
         """Writes pairs of name and bytes: all of them, or none."""
         streams = [pair for pair in outputs if is_stream(pair[0])]
         places = [Place(*pair) for pair in outputs if not is_stream(pair[0])]
         self.turn_down(streams, places)
-        with contextlib.ExitStack() as stack:
-            for place in places:
-                stack.callback(place.clear)
-                place.stage()
-            for name, data in streams:
-                write_stream(name, data)
-            with signals_held():
-                publish(places)
+        write(streams, places)
+
+    def renew(self, *outputs):
+        """Writes new contents where files are, which may have been read: all of them, or none. Of those that a failure of the machine
+        can part, the first is the one that does no harm alone."""
+        for name, _ in outputs:
+            if is_stream(name) or os.path.isdir(name):
+                raise NotWritten(f"{label(name)}: is no file that can be changed where it is")
+        write([], [Place(*pair) for pair in outputs])
 
     def is_input(self, real):
         """Whether a place holds a file that was read, by whatever name."""
@@ -72,6 +78,30 @@ class Files:
                 raise NotWritten(f"{place.name}: is a folder")
             if os.path.exists(place.real) and not self.force:
                 raise NotWritten(f"{place.name}: is there already; --force replaces it")
+
+
+def write(streams, places):
+    """Writes what cannot be renamed to, and then all files together."""
+    with contextlib.ExitStack() as stack:
+        for place in places:
+            stack.callback(place.clear)
+            place.stage()
+        for name, data in streams:
+            write_stream(name, data)
+        with signals_held():
+            publish(places)
+
+
+@contextlib.contextmanager
+def one_at_a_time(name):
+    """Lets one command at a time change files in a file's folder; others wait. Where the system has no locks, none waits."""
+    folder = os.path.dirname(os.path.realpath(name))
+    with contextlib.ExitStack() as stack:
+        with contextlib.suppress(OSError):
+            handle = os.open(folder, os.O_RDONLY)
+            stack.callback(os.close, handle)
+            fcntl.flock(handle, fcntl.LOCK_EX)
+        yield
 
 
 def is_stream(name):

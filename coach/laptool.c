@@ -2,6 +2,10 @@
      laptool [--force] fit TOLERANCE RECORDED FITTED
      laptool [--force] hills TOLERANCE RECORDED FITTED                        (straights alone, by x, y and z)
      laptool [--force] replace RECORDED FITTED LAP NEW_LAP TOLERANCE OUT      (NEW_LAP: a lap file of one lap)
+     laptool ask RECORDED FITTED LAP NEW_LAP TOLERANCE EDITS                  (standard output: a line 'lap tolerance edit count next',
+                                  which is the ticket, and then the part, whose bytes a commit takes)
+     laptool commit RECORDED FITTED PART EDITS LAP TOLERANCE EDIT COUNT NEXT  (standard output: a line with the edit number from then
+                                  on, and then the fitted file)
      laptool live TOLERANCE      (standard input: lines 'x y z', or 'tolerance' alone for a new one; standard output: a line for
                                   each end, 'call x y z', the calls counted from 1, with the close behind the last line)
      laptool [--force] lines TOLERANCE FITTED OUT                             (every Arc as Lines)
@@ -209,6 +213,56 @@ static int replace(char **words, int force)
     return refused ? (int)refused : write_file(words[5], force, out, count);
 }
 
+/* A whole number of a ticket or a session, as it stands: forged ones are the commit's to refuse. */
+static unsigned long long whole(const char *word)
+{
+    char *end;
+    errno = 0;
+    unsigned long long value = strtoull(word, &end, 10);
+    if (*word < '0' || *word > '9' || *end || errno) {
+        fail("is no whole number", word);
+    }
+    return value;
+}
+
+/* An edit number; where a word has none of 32 bits, the greatest, which no session of the coach's reaches. */
+static uint32_t edit_number(const char *word)
+{
+    unsigned long long value = whole(word);
+    return value > UINT32_MAX ? UINT32_MAX : (uint32_t)value;
+}
+
+static int ask(char **words)
+{
+    static uint8_t kinds[PZ_MOST_COMMANDS];
+    static double nums[9 * PZ_MOST_COMMANDS];
+    size_t size = read_file(words[0], recorded), fitted_size = read_file(words[1], fitted);
+    size_t lap = lap_number(words[2]), commands = one_lap(words[3], kinds, nums);
+    pz_session session = {edit_number(words[5])};
+    pz_ticket ticket;
+    uint32_t refused = pz_session_ask(&session, recorded, size, fitted, fitted_size, lap,
+        kinds, commands, nums, 9 * commands, number(words[4]), out, sizeof out, &ticket);
+    if (refused) {
+        return (int)refused;
+    }
+    printf("%zu %.17g %lu %zu %zu\n", ticket.lap, ticket.tolerance, (unsigned long)ticket.edit, ticket.count, ticket.next);
+    return write_stream(stdout, "standard output", out, pz_part_bytes(&ticket));
+}
+
+static int commit(char **words)
+{
+    static unsigned char part[ROOM];
+    size_t size = read_file(words[0], recorded), fitted_size = read_file(words[1], fitted), part_size = read_file(words[2], part), count;
+    pz_session session = {edit_number(words[3])};
+    pz_ticket ticket = {whole(words[4]), number(words[5]), edit_number(words[6]), whole(words[7]), whole(words[8])};
+    uint32_t refused = pz_session_commit(&session, &ticket, recorded, size, fitted, fitted_size, part, part_size, out, sizeof out, &count);
+    if (refused) {
+        return (int)refused;
+    }
+    printf("%lu\n", (unsigned long)session.edits);
+    return write_stream(stdout, "standard output", out, count);
+}
+
 static void print_ends(size_t call, const double *ends, size_t handed)
 {
     for (size_t i = 0; i < handed; i++, ends += 3) {
@@ -378,6 +432,12 @@ int main(int argc, char **argv)
     if (argc == 8 && !strcmp(argv[1], "replace")) {
         return replace(argv + 2, force);
     }
+    if (argc == 8 && !strcmp(argv[1], "ask")) {
+        return ask(argv + 2);
+    }
+    if (argc == 11 && !strcmp(argv[1], "commit")) {
+        return commit(argv + 2);
+    }
     if (argc == 3 && !strcmp(argv[1], "live")) {
         return live(argv + 2);
     }
@@ -393,6 +453,8 @@ int main(int argc, char **argv)
     fprintf(stderr, "laptool [--force] fit TOLERANCE RECORDED FITTED\n"
         "laptool [--force] hills TOLERANCE RECORDED FITTED\n"
         "laptool [--force] replace RECORDED FITTED LAP NEW_LAP TOLERANCE OUT\n"
+        "laptool ask RECORDED FITTED LAP NEW_LAP TOLERANCE EDITS\n"
+        "laptool commit RECORDED FITTED PART EDITS LAP TOLERANCE EDIT COUNT NEXT\n"
         "laptool live TOLERANCE\n"
         "laptool straights TOLERANCE BUDGET\n"
         "laptool [--force] lines TOLERANCE FITTED OUT\n"

@@ -51,6 +51,20 @@ def beside(rows):
     return "\n".join(lines) + "\n"
 
 
+def old_and_new(old, new):
+    """The rows of a lap as it was, and beside them those of the corrected one."""
+    def cells(r):
+        return f"{r.length:8.2f} {r.time:7.2f} {clock(r.pace):>8} {clock(r.pace_error):>7}" if r else f"{'-':>8} {'-':>7} {'-':>8} {'-':>7}"
+    head = "  length    time  pace/km  +-pace"
+    lines = [f"{'':17}{'as it was':>33}   {'corrected':>33}", f"lap  part        {head}   {head}"]
+    before, after = ({(r.lap, r.part): r for r in rows} for rows in (old, new))
+    for lap in sorted({r.lap for r in [*old, *new]}):
+        own = [r for r in [*old, *new] if r.lap == lap]
+        for part in dict.fromkeys(sorted((r.part for r in own), key=order(own))):
+            lines.append(f"{lap:3}  {part:12}{cells(before.get((lap, part)))}   {cells(after.get((lap, part)))}")
+    return "\n".join(lines) + "\n"
+
+
 def limits_line(limits, tolerance):
     """What counted as a bend."""
     return (f"a bend turns by {limits.turn:g} degrees or more, on a radius of {limits.flat:g} m at most; what is shorter than "

@@ -65,6 +65,31 @@ def replaced_bytes(recorded, fitted, lap, new_lap, tolerance, name):
         return laptool(["replace", "-", second, lap, third, tolerance, "-"], recorded, place_in(recorded, name))
 
 
+def asked(recorded, fitted, lap, new_lap, tolerance, edits, name):
+    """The ticket of a look, lap, tolerance, edit number and both counts, and the part that it fits; the new lap is a lap file of one
+    lap."""
+    with tempfile.TemporaryDirectory() as folder:
+        second, third = Path(folder) / "fitted", Path(folder) / "new"
+        second.write_bytes(fitted)
+        third.write_bytes(new_lap)
+        written = laptool(["ask", "-", second, lap, third, tolerance, edits], recorded, place_in(recorded, name))
+    line, part = written.split(b"\n", 1)
+    number, kept, *counts = line.split()
+    return [int(number), float(kept), *map(int, counts)], part
+
+
+def committed(recorded, fitted, part, edits, ticket, name):
+    """The fitted file with the part in it, and the edit number from then on. What is refused is told of the ticket."""
+    old = f" (it was given at edit {ticket[2]}, and the file stands at {edits})"
+    with tempfile.TemporaryDirectory() as folder:
+        second, third = Path(folder) / "fitted", Path(folder) / "part"
+        second.write_bytes(fitted)
+        third.write_bytes(part)
+        written = laptool(["commit", "-", second, third, edits, *ticket], recorded, lambda number: (name, old if number == 12 else ""))
+    line, stored = written.split(b"\n", 1)
+    return stored, int(line)
+
+
 def live_ends(tolerance, calls, name):
     """The ends that the live thinner hands out: a call is a place that is fed, or one number, a new tolerance. For each end the call
     that handed it out, counted from 0, the close being behind the last one, and where it is."""

@@ -12,6 +12,8 @@ REFUSALS = {
     8: "the fit could have more than 800 commands",
     9: "the output has not enough room",
     11: "an Arc that cannot be drawn by Lines: its normal, its offset or its radii are none of a circle's at this tolerance",
+    12: "the ticket is old: this look, or another, was stored since; nothing was changed, look again",
+    13: "a fitted file is stored in 1,000,000 times at most; nothing was changed, fit the workout into another file",
     14: "the path data breaks its rules",
 }
 

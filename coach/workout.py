@@ -11,7 +11,8 @@ from table import Table
 from times import iso, seconds
 from trouble import Refused, Trouble
 
-CARRIES_ON = "laps carry on"  # a remark of the workout's own text
+OWN = "# lap time x y z"  # how the workout's own text starts
+CARRIES_ON = "laps carry on"  # a remark of it
 SLOWEST = 0.01  # metres a second: whoever moves less has recorded degrees, where 0.01 is a kilometre
 TOO_MANY = "; --laps-at FROM..TO,.. takes the repetitions alone"
 
@@ -237,9 +238,16 @@ def check_laps(laps, name):
             raise Trouble(f"{name}: lap {number} ends at {lap[-1].time:g} s, after lap {number + 1} starts, {after[0].time:g} s")
 
 
+def own_text(data, name):
+    """The workout of its own text, which can be written where it is; a recording of another shape cannot."""
+    if not data.startswith(OWN.encode()):
+        raise Trouble(f"{name}: is no workout's own text, which starts with '{OWN}' and is what a store changes; read makes one of a recording")
+    return read_workout(data, name)
+
+
 def workout_text(workout):
     """The workout's own text, one position a line."""
-    lines = ["# lap time x y z"]
+    lines = [OWN]
     if workout.origin:
         lines.append("# origin " + " ".join(map(repr, workout.origin)))
     if workout.start is not None:

@@ -31,6 +31,9 @@ static uint32_t worst[PZ_MOST_POINTS];
 static char text[PZ_MOST_TEXT_BYTES];
 static size_t text_size;
 static pz_thinner thinner;
+static pz_session session;
+static pz_ticket ticket;
+static uint8_t part[PZ_COMMAND_BYTES * PZ_MOST_COMMANDS];
 static uint32_t answer;
 
 /* One of n points. The farthest point of a zigzag is always the one beside an end, so each cut takes one point off; bends are
@@ -71,7 +74,7 @@ static void draw(enum shape shape)
     }
 }
 
-/* The lap as a file, and its fit; a text with as many curves. */
+/* The lap as a file, and its fit; the lap asked for in its own place; a text with as many curves. */
 static void write_files(void)
 {
     memcpy(file, "LAPS\1\0\0\0\20\0\0\0", 12);
@@ -83,6 +86,9 @@ static void write_files(void)
     }
     file_size = pz_file_bytes(1, (size_t)commands);
     pz_fit_file(file, file_size, TOLERANCE, fitted, sizeof fitted, &fitted_size);
+    session.edits = 0;
+    pz_session_ask(&session, file, file_size, fitted, fitted_size, 1,
+        kinds, (size_t)commands, nums, 9 * (size_t)commands, TOLERANCE, part, sizeof part, &ticket);
     text_size = (size_t)sprintf(text, "M 0 0");
     for (int i = 1; i < n && i < PZ_MOST_COMMANDS; i++) {
         text_size += (size_t)sprintf(text + text_size, " C -1.25 2 3 4 5 6.125");
@@ -166,6 +172,20 @@ static void *replace(void *a)
 {
     answer = pz_replace_lap(file, file_size, fitted, fitted_size, 1,
         kinds, (size_t)commands, nums, 9 * (size_t)commands, TOLERANCE, out, sizeof out, &count);
+    return a;
+}
+
+static void *ask(void *a)
+{
+    answer = pz_session_ask(&session, file, file_size, fitted, fitted_size, 1,
+        kinds, (size_t)commands, nums, 9 * (size_t)commands, TOLERANCE, part, sizeof part, &ticket);
+    return a;
+}
+
+static void *commit(void *a)
+{
+    answer = pz_session_commit(&session, &ticket, file, file_size, fitted, fitted_size, part, pz_part_bytes(&ticket),
+        out, sizeof out, &count);
     return a;
 }
 
@@ -335,6 +355,8 @@ int main(void)
     row("pz_fit_file", fit_file, PZ_MOST_COMMANDS);
     row("pz_fit_hills", fit_hills, PZ_MOST_COMMANDS);
     row("pz_replace_lap", replace, PZ_MOST_COMMANDS);
+    row("pz_ask_lap", ask, PZ_MOST_COMMANDS);
+    row("pz_commit_lap", commit, PZ_MOST_COMMANDS);
     row("pz_fewest_straights", find_straights, PZ_MOST_STRAIGHT_POINTS);
     row("pz_flatten_arc", draw_arc, 2);
     row("pz_read_course", read_course, PZ_MOST_COMMANDS);

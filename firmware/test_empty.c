@@ -68,6 +68,23 @@ static void test_files(void)
     check(memcmp(out, empty, 8) == 0, "eight bytes");
 }
 
+/* A ticket, a part and a buffer of nothing. */
+static void test_sessions(void)
+{
+    const uint8_t empty[8] = "LAPS", kind = PZ_MOVE;
+    const uint8_t one[16 + PZ_COMMAND_BYTES] = {'L', 'A', 'P', 'S', 1, 0, 0, 0, 16, 0, 0, 0, 1};
+    const double nums[9] = {0};
+    pz_session session = {0};
+    pz_ticket ticket = {.lap = UNTOUCHED}, none = {1, 1, 0, 0, 0};
+    check(pz_session_ask(&session, NULL, 0, NULL, 0, 1, NULL, 0, NULL, 0, 1, NULL, 0, &ticket) == PZ_NOT_WHOLE, "no files to look at");
+    check(pz_session_ask(&session, empty, 8, empty, 8, 1, NULL, 0, NULL, 0, 1, NULL, 0, &ticket) == PZ_BAD_COMMAND, "no commands");
+    check(pz_session_ask(&session, one, sizeof one, one, sizeof one, 1, &kind, 1, nums, 9, 1, NULL, 0, &ticket) == PZ_NO_ROOM, "no buffer");
+    check(ticket.lap == UNTOUCHED, "and no ticket");
+    check_count(pz_session_commit(&session, &none, NULL, 0, NULL, 0, NULL, 0, NULL, 0, &count), PZ_NOT_WHOLE, 0, "no files to store in");
+    check_count(pz_session_commit(&session, &none, one, sizeof one, one, sizeof one, NULL, 0, NULL, 0, &count), PZ_BAD_FILE, 0, "no part");
+    check(session.edits == 0, "no edit");
+}
+
 static void test_curves(void)
 {
     check_count(pz_linearize_bezier(0, 0, 0, 1, 1, 1, 2, 2, 2, 3, 3, 3, 1, NULL, 0, &count), PZ_NO_ROOM, 0, "no room for a step");
@@ -94,6 +111,7 @@ int main(void)
     test_found();
     test_commands();
     test_files();
+    test_sessions();
     test_curves();
     test_others();
     printf("firmware, lists without elements: %d checks, %d wrong\n", checks, failures);

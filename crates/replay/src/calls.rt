@@ -71,6 +71,27 @@ pub fn call(
         30 => svg::reading::read_course(recorded, bytes),
         31 => crate::straights::fewest_straights(numbers, t, h.first, h.second, out),
         32 => lap_fit::fit::fit_hills(recorded, t, bytes),
+        33 => crate::sessions::ask(
+            recorded,
+            fitted,
+            h.second as u64,
+            h.first,
+            kinds,
+            numbers,
+            t,
+            bytes,
+            out,
+        ),
+        34 => crate::sessions::commit(
+            recorded,
+            fitted,
+            h.second as u64,
+            h.first,
+            kinds,
+            t,
+            bytes,
+            out,
+        ),
         _ => Answer::Refused(DAMAGED),
     }
 }

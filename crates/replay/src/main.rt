@@ -7,6 +7,7 @@ mod circles;
 mod curves;
 mod drawings;
 mod fits;
+mod sessions;
 mod straights;
 mod thinner;
 

@@ -10,6 +10,7 @@ geometry fewest COUNT SEED | geometry bench-fewest
 geometry course COUNT SEED | geometry laps COUNT SEED | geometry grid-course | geometry bench-laps
 geometry hills COUNT SEED | geometry bench-hills
 geometry lapfit COUNT SEED | geometry bench-lapfit
+geometry session COUNT SEED
 geometry live COUNT SEED | geometry bench-live
 geometry svg COUNT SEED | geometry svg-numbers END | geometry bench-svg
 geometry list COUNT SEED";
@@ -19,7 +20,7 @@ geometry list COUNT SEED";
 fn run(words: &[String]) -> Option<bool> {
     use oracle::geometry::{
         arc, bench_bezier, bench_fewest, bench_fit, bench_flatten, bench_laps, bench_live, bench_simplify, bezier, course, fewest, fit,
-        flatten, frame, grid, grid_course, grid_fit, grid_simplify, hills, laps, list, listing, live, simplify, svg,
+        flatten, frame, grid, grid_course, grid_fit, grid_simplify, hills, laps, list, listing, live, session, simplify, svg,
     };
     use std::io::{BufWriter, stdout};
 
@@ -38,6 +39,7 @@ fn run(words: &[String]) -> Option<bool> {
         ("hills", [count, seed]) => Some(frame::run(&hills::FUNCTIONS, *count, *seed)),
         ("lapfit", [count, seed]) => Some(frame::run(&listing::FUNCTIONS, *count, *seed)),
         ("live", [count, seed]) => Some(frame::run(&live::FUNCTIONS, *count, *seed)),
+        ("session", [count, seed]) => Some(frame::run(&session::FUNCTIONS, *count, *seed)),
         ("bench-live", []) => Some(bench_live::run()),
         ("svg", [count, seed]) => Some(svg::run(*count, *seed)),
         ("svg-numbers", [end]) => Some(svg::numbers(*end)),

@@ -371,5 +371,44 @@ unsafe extern "C" {
         count: *mut usize,
     ) -> u32;
 
+    pub fn pz_ask_lap(
+        recorded: *const u8,
+        length: usize,
+        fitted: *const u8,
+        length_fitted: usize,
+        edits: u32,
+        lap: usize,
+        kinds: *const u8,
+        count_kinds: usize,
+        nums: *const f64,
+        count_nums: usize,
+        tolerance: f64,
+        buffer: *mut u8,
+        room: usize,
+        ticket_lap: *mut usize,
+        ticket_tolerance: *mut f64,
+        ticket_edit: *mut u32,
+        ticket_count: *mut usize,
+        ticket_next: *mut usize,
+    ) -> u32;
+
+    pub fn pz_commit_lap(
+        lap: usize,
+        tolerance: f64,
+        edit: u32,
+        count: usize,
+        next: usize,
+        edits: *mut u32,
+        recorded: *const u8,
+        length: usize,
+        fitted: *const u8,
+        length_fitted: usize,
+        part: *const u8,
+        length_part: usize,
+        out: *mut u8,
+        room: usize,
+        written: *mut usize,
+    ) -> u32;
+
     pub fn pz_read_course(text: *const u8, length: usize, out: *mut u8, room: usize, count: *mut usize) -> u32;
 }

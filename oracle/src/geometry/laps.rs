@@ -26,7 +26,7 @@ pub const FUNCTIONS: [Function; 3] = [draw_fit, draw_replacement, draw_again];
 const MARK: &[u8] = b"LAPS";
 
 /// A kind and nine numbers.
-const COMMAND: usize = 73;
+pub const COMMAND: usize = 73;
 
 fn u32_at(bytes: &[u8], at: usize) -> Option<usize> {
     let four = bytes.get(at..at + 4)?;
@@ -65,7 +65,7 @@ pub fn file(bodies: &[Vec<u8>]) -> Vec<u8> {
     bytes
 }
 
-fn commands(body: &[u8]) -> Commands {
+pub fn commands(body: &[u8]) -> Commands {
     let number = |eight: &[u8]| f64::from_le_bytes(eight.try_into().expect("eight bytes"));
     let numbers = body.chunks_exact(COMMAND).flat_map(|one| one[1..].chunks_exact(8).map(number));
     Commands { kinds: body.chunks_exact(COMMAND).map(|one| one[0]).collect(), numbers: numbers.collect() }
@@ -91,7 +91,7 @@ pub fn laps_of(bytes: &[u8]) -> Option<Vec<Commands>> {
 
 // ---- laps that carry on
 
-fn carries_on(lap: &Commands) -> bool {
+pub fn carries_on(lap: &Commands) -> bool {
     lap.kinds.first().is_some_and(|kind| *kind != 0)
 }
 
@@ -132,26 +132,26 @@ pub fn started(laps: &[Commands]) -> Vec<Started> {
 
 // ---- the table
 
-fn short(bytes: &[u8]) -> bool {
+pub fn short(bytes: &[u8]) -> bool {
     bytes.len() < 8
 }
 
-fn big(bytes: &[u8]) -> bool {
+pub fn big(bytes: &[u8]) -> bool {
     bytes.len() > 65_536 || u32_at(bytes, 4).is_some_and(|laps| laps > 64)
 }
 
 /// Row 4 of a lap: a command at least, no Move but in front, where a first lap must have one, and commands that are well formed.
-fn formed(lap: &Commands, first: bool) -> bool {
+pub fn formed(lap: &Commands, first: bool) -> bool {
     let moves: Vec<usize> = (0..lap.kinds.len()).filter(|i| lap.kinds[*i] == 0).collect();
     let placed = moves == [0] || (moves.is_empty() && !first && !lap.kinds.is_empty());
     placed && lap.each(table::formed)
 }
 
-fn all_formed(laps: &[Commands]) -> bool {
+pub fn all_formed(laps: &[Commands]) -> bool {
     laps.iter().enumerate().all(|(i, lap)| formed(lap, i == 0))
 }
 
-fn within(lap: &Commands) -> bool {
+pub fn within(lap: &Commands) -> bool {
     lap.each(table::command)
 }
 
@@ -165,7 +165,7 @@ fn most_of(laps: &[Commands], tolerance: f64) -> f64 {
 }
 
 /// Rows 8 and 9.
-fn size_rows(laps: usize, most: f64, room: usize) -> [Row; 2] {
+pub fn size_rows(laps: usize, most: f64, room: usize) -> [Row; 2] {
     [table::too_much(most), (9, (room as f64) < size(laps, most))]
 }
 
@@ -185,6 +185,7 @@ pub fn fit_rows(bytes: &[u8], tolerance: f64, room: usize) -> Vec<Row> {
 }
 
 /// What a replacement takes.
+#[derive(Clone)]
 pub struct Replacement {
     pub recorded: Vec<u8>,
     pub fitted: Vec<u8>,
@@ -204,12 +205,29 @@ impl Replacement {
         started(&laps).into_iter().enumerate().skip(new).take(1 + next as usize).collect()
     }
 
-    /// The mosts of the laps that are fitted again, and the commands in all other laps of the fitted file.
+    /// The mosts of the laps that are fitted again.
+    pub fn own_most(&self) -> f64 {
+        self.refitted().iter().map(|lap| lap.1.most(self.tolerance)).sum()
+    }
+
+    /// These, and the commands in all other laps of the fitted file.
     fn most(&self) -> f64 {
         let (all, refitted) = (bodies(&self.fitted).unwrap_or_default(), self.refitted());
         let others = all.iter().enumerate().filter(|(i, _)| refitted.iter().all(|lap| lap.0 != *i));
         let copied: usize = others.map(|(_, body)| body.len() / COMMAND).sum();
-        refitted.iter().map(|lap| lap.1.most(self.tolerance)).sum::<f64>() + copied as f64
+        self.own_most() + copied as f64
+    }
+
+    /// The fits of the laps that are fitted again, in order.
+    pub fn refits(&self) -> Vec<Made> {
+        self.refitted().iter().map(|lap| fit_of_lap(&lap.1, self.tolerance)).collect()
+    }
+
+    /// Rows 1 to 8.
+    pub fn checks(&self) -> Vec<Row> {
+        let mut rows = self.rows();
+        rows.pop();
+        rows
     }
 
     fn rows(&self) -> Vec<Row> {
@@ -235,7 +253,7 @@ impl Replacement {
 // ---- both sides
 
 /// A lap as it is to be written, and where its fit stands.
-type Made = (Vec<u8>, Stands);
+pub type Made = (Vec<u8>, Stands);
 
 /// A fit of lap files: its name, the proved function, and the Rust's fit of a lap's commands, with where that stands.
 pub struct FileFit {
@@ -390,7 +408,7 @@ pub fn replacement_of(r: &Replacement) -> Judged {
 }
 
 /// The proved fit of a file; nothing where it is refused.
-fn proved_fit(recorded: &[u8], tolerance: f64, room: usize) -> Option<Vec<u8>> {
+pub fn proved_fit(recorded: &[u8], tolerance: f64, room: usize) -> Option<Vec<u8>> {
     let (mut out, mut count) = (vec![0; room], 0);
     // SAFETY: the lengths are those of both slices
     let number =
@@ -569,7 +587,7 @@ fn put(bytes: &mut [u8], at: usize, n: u32) {
 }
 
 /// Damages a file.
-fn damage(draw: &mut Draw, bytes: &mut Vec<u8>) {
+pub fn damage(draw: &mut Draw, bytes: &mut Vec<u8>) {
     if bytes.is_empty() {
         return;
     }
@@ -692,7 +710,7 @@ fn any_bodies(draw: &mut Draw, laps: usize, commands: usize) -> Vec<Vec<u8>> {
 }
 
 /// A file to stand for the fitted one.
-fn fitted_for(draw: &mut Draw, laps: &[Commands], recorded: &[u8], tolerance: f64) -> Vec<u8> {
+pub fn fitted_for(draw: &mut Draw, laps: &[Commands], recorded: &[u8], tolerance: f64) -> Vec<u8> {
     match draw.below(12) {
         0 => {
             draw.label("fitted: bodies of any bytes");
@@ -754,7 +772,7 @@ fn new_lap_with_move(draw: &mut Draw) -> Commands {
 }
 
 /// A new lap, now and then with something wrong.
-fn any_new_lap(draw: &mut Draw) -> Commands {
+pub fn any_new_lap(draw: &mut Draw) -> Commands {
     let mut new = new_lap(draw);
     match draw.below(24) {
         0 => {
@@ -777,7 +795,7 @@ fn any_new_lap(draw: &mut Draw) -> Commands {
 }
 
 /// A lap's number.
-fn number(draw: &mut Draw, laps: usize) -> usize {
+pub fn number(draw: &mut Draw, laps: usize) -> usize {
     if laps == 0 || draw.one_in(12) {
         return draw.edge(&[
             (0, "lap 0"),

@@ -5,8 +5,8 @@
 //! |---|---|
 //! | 0 | the function: its place in `NAMES` |
 //! | 1 | the pattern of the tolerance, of a Bezier's parameter or of its resolution; 0 where there is none |
-//! | 2 | the start of a range, the step count, the depth, the lap, a live thinner's count, a budget; 1 where a tolerance is given, or arcs are fitted |
-//! | 3 | the end of a range, a live thinner's flag; of `fit_points_with_primitives` the ranges examined, of `fewest_straights` the pairs tested |
+//! | 2 | the start of a range, the step count, the depth, the lap, of a ticket too, a live thinner's count, a budget; 1 where a tolerance is given, or arcs are fitted |
+//! | 3 | the end of a range, a live thinner's flag, a session's edit number; of `fit_points_with_primitives` the ranges examined, of `fewest_straights` the pairs tested |
 //! | 4 | how many numbers are lent |
 //! | 5 | how many kinds |
 //! | 6 | how many bytes of a recorded file, of a text, or of the list of worst steps that a fit of points leaves |
@@ -23,17 +23,20 @@
 //!
 //! Of a deviation from an arc, word 11 is the worst step.
 //!
+//! Of an asking the five numbers of its ticket are written, and its part; a commit takes, where kinds stand, the ticket's edit number and
+//! both its counts, eight bytes each, and then the part, and writes the edit number from then on, and the file.
+//!
 //! A centre or a circle stands among the numbers where it stands among the arguments: before the points of an arc, behind those
 //! of a chord.
 use super::frame::Compared;
 use super::laps::first_bytes;
 use super::lent::{Lent, Purpose};
 use super::{
-    list_bezier, list_course, list_fewest, list_fit, list_flatten, list_hills, list_laps, list_live, list_simplify, list_svg,
+    list_bezier, list_course, list_fewest, list_fit, list_flatten, list_hills, list_laps, list_live, list_session, list_simplify, list_svg,
 };
 use std::io::{Result, Write};
 
-const NAMES: [&str; 33] = [
+const NAMES: [&str; 35] = [
     "get_midpoint_3d",
     "get_bezier_point_at",
     "split_bezier",
@@ -67,6 +70,8 @@ const NAMES: [&str; 33] = [
     "read_course",
     "fewest_straights",
     "fit_hills",
+    "ask_lap",
+    "commit_lap",
 ];
 
 const VALUES: [&str; 4] = ["t", "tolerance_sq", "resolution", "tolerance"];
@@ -164,7 +169,7 @@ pub fn filled(mut records: Vec<Record>, count: usize, mut drawn: impl FnMut(usiz
 type Layer = fn(usize, u64) -> Vec<Record>;
 
 /// The layers, each with its share of a list.
-const LAYERS: [(usize, Layer); 10] = [
+const LAYERS: [(usize, Layer); 11] = [
     (200, list_bezier::records),
     (100, list_simplify::records),
     (100, list_fit::records),
@@ -175,6 +180,7 @@ const LAYERS: [(usize, Layer); 10] = [
     (16, list_svg::records),
     (10, list_fewest::records),
     (12, list_hills::records),
+    (20, list_session::records),
 ];
 
 /// Writes `count` records, layer by layer, each from the seed.
