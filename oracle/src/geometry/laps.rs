@@ -220,7 +220,7 @@ impl Replacement {
 
     /// The fits of the laps that are fitted again, in order.
     pub fn refits(&self) -> Vec<Made> {
-        self.refitted().iter().map(|lap| fit_of_lap(&lap.1, self.tolerance)).collect()
+        self.refitted().iter().map(|lap| fit_of_lap(&FLAT, &lap.1, self.tolerance)).collect()
     }
 
     /// Rows 1 to 8.
