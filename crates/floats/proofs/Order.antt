@@ -145,7 +145,7 @@ pub and-right : (p q : Bool) → (p && q) ≡ true → q ≡ true
 and-right true q h = h
 and-right false q h = clash h
 
--- and of "or"
+-- ---- one of two flags
 pub or-false : (p q : Bool) → (p || q) ≡ false → (p ≡ false) × (q ≡ false)
 or-false true q h = clash (sym h)
 or-false false q h = (refl, h)
