@@ -81,16 +81,7 @@ pub fn call(
             bytes,
             out,
         ),
-        33 => crate::sessions::commit(
-            recorded,
-            fitted,
-            h.second as u64,
-            h.first,
-            kinds,
-            t,
-            bytes,
-            out,
-        ),
+        33 => crate::sessions::commit(recorded, fitted, h.second as u64, h.first, kinds, t, bytes),
         _ => Answer::Refused(DAMAGED),
     }
 }
