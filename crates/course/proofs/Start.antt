@@ -42,6 +42,10 @@ pub fit-none : (r : Rule) (p : Point3D) → fitOn r p [] ≡ []
 unfolding fitOn partsOn partsFrom fitOf
 fit-none r p = flat-one (partFit (chainFit r)) (chain (triple p)) ∙ (unfold partFit in one-point r p)
 
+pub most-none : (tol : Float) (p : Point3D) → mostOn tol p [] ≡ 0
+unfolding mostOn partsOn partsFrom mostOf partMost
+most-none tol p = refl
+
 -- ---- where commands end
 -- some commands end where they do from any start
 pub end-some : (p q : Point3D) (cs : List Command) → 0 < length cs → endOn p cs ≡ endOn q cs

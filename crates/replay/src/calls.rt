@@ -82,16 +82,7 @@ pub fn call(
             bytes,
             out,
         ),
-        34 => crate::sessions::commit(
-            recorded,
-            fitted,
-            h.second as u64,
-            h.first,
-            kinds,
-            t,
-            bytes,
-            out,
-        ),
+        34 => crate::sessions::commit(recorded, fitted, h.second as u64, h.first, kinds, t, bytes),
         _ => Answer::Refused(DAMAGED),
     }
 }

@@ -1,6 +1,6 @@
-// Replays recorded calls of every geometric function, of those of lap files, of the live thinner, of an Arc's drawing, of path data and of
-// the fewest straights, and compares each with what the given Rust, or a plain model, answered. Standard input has the records, up to
-// 1,000,000 of them, made by `oracle/run geometry list 5490 1`. The program prints how many were compared, and how many differ; a damaged
+// Replays recorded calls of every geometric function, of those of lap files and of sessions, of the live thinner, of an Arc's drawing, of
+// path data and of the fewest straights, and compares each with what the given Rust, or a plain model, answered. Standard input has the records, up to
+// 1,000,000 of them, made by `oracle/run geometry list 5690 1`. The program prints how many were compared, and how many differ; a damaged
 // one differs and ends the run.
 mod calls;
 mod circles;

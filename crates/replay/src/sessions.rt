@@ -1,44 +1,46 @@
-// Look first, then store, on a lap and a session's edit number among the whole ones. Of an asking the ticket's five numbers are written, and
-// its part. A commit is lent, where kinds are, the ticket's edit number and both its counts, a word each, and then the part; written are
-// the edit number from then on, and the file.
+// Look first, then store, on a lap and a session's edit number among the whole ones. Of an asking the ticket's tolerance is written, and its
+// part; its lap and its edit number have to be those that it was asked with, and the count is that of the lap's commands and 1,024 times
+// that of the next one's. A commit is lent, where kinds are, the ticket's edit number and both its counts, a word each, and then the part;
+// written is the file, and the session has to be one edit further, or as it came where the commit is refused.
 use crate::calls::DAMAGED;
-use file::command::COMMAND_BYTES;
 use file::words::word_at;
 use geo::types::Answer;
 use lap_session::session::Asked;
 use lap_session::session::Session;
 use lap_session::session::Ticket;
-use laps::lap_file::MOST_COMMANDS;
 
 // The greatest edit number that can be lent.
 const GREATEST: u64 = 4294967295;
 
-// The numbers of a ticket, and the bytes of those that stand before a part.
-const TICKET_NUMBERS: usize = 5;
+// A lap has fewer commands than this.
+const COUNTS: usize = 1024;
 
+// The bytes of a ticket that stand before a part.
 const TICKET_BYTES: usize = 24;
 
 fn wide(n: u32) -> u64 {
     n as u64
 }
 
-// Writes a ticket; answers how many bytes its part has.
-fn written(ticket: Ticket, out: &mut [f64]) -> Answer {
-    if out.len() < TICKET_NUMBERS {
+// What a ticket comes to, of a lap and an edit number.
+fn told(ticket: Ticket, lap: usize, edits: u64, out: &mut [f64]) -> Answer {
+    if out.len() < 1 {
         return Answer::Refused(DAMAGED);
     }
-    if MOST_COMMANDS < ticket.count {
+    if ticket.lap != lap {
         return Answer::Refused(DAMAGED);
     }
-    if MOST_COMMANDS < ticket.next {
+    if wide(ticket.edit) != edits {
         return Answer::Refused(DAMAGED);
     }
-    out[0] = ticket.lap as f64;
-    out[1] = ticket.tolerance;
-    out[2] = wide(ticket.edit) as f64;
-    out[3] = ticket.count as f64;
-    out[4] = ticket.next as f64;
-    Answer::Written(COMMAND_BYTES * (ticket.count + ticket.next))
+    if COUNTS <= ticket.count {
+        return Answer::Refused(DAMAGED);
+    }
+    if COUNTS <= ticket.next {
+        return Answer::Refused(DAMAGED);
+    }
+    out[0] = ticket.tolerance;
+    Answer::Written(ticket.count + COUNTS * ticket.next)
 }
 
 pub fn ask(
@@ -69,19 +71,21 @@ pub fn ask(
         buffer,
     );
     match a {
-        Asked::Given(ticket) => written(ticket, out),
+        Asked::Given(ticket) => told(ticket, lap, edits, out),
         Asked::Refused(n) => Answer::Refused(n),
     }
 }
 
-// A commit's answer; its session has to be the one that came where it is refused.
-fn answer_of(a: Answer, before: u64, after: u64, out: &mut [f64]) -> Answer {
-    if out.len() < 1 {
-        return Answer::Refused(DAMAGED);
-    }
+// A commit's answer, where the session is right behind it.
+fn answer_at(a: Answer, before: u64, after: u64) -> Answer {
     match a {
         Answer::Written(n) => {
-            out[0] = after as f64;
+            if after <= before {
+                return Answer::Refused(DAMAGED);
+            }
+            if after - before != 1 {
+                return Answer::Refused(DAMAGED);
+            }
             Answer::Written(n)
         }
         Answer::Refused(n) => {
@@ -100,8 +104,7 @@ pub fn commit(
     lap: usize,
     lent: &[u8],
     tolerance: f64,
-    file: &mut [u8],
-    out: &mut [f64],
+    out: &mut [u8],
 ) -> Answer {
     if lent.len() < TICKET_BYTES {
         return Answer::Refused(DAMAGED);
@@ -129,8 +132,10 @@ pub fn commit(
         recorded,
         fitted,
         &lent[TICKET_BYTES..],
-        file,
+        out,
     );
-    let after = c.session;
-    answer_of(c.answer, edits, wide(after.edits), out)
+    let a = c.answer;
+    let next = c.session;
+    let after = next.edits;
+    answer_at(a, edits, wide(after))
 }

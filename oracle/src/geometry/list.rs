@@ -23,13 +23,13 @@
 //!
 //! Of a deviation from an arc, word 11 is the worst step.
 //!
-//! Of an asking the five numbers of its ticket are written, and its part; a commit takes, where kinds stand, the ticket's edit number and
-//! both its counts, eight bytes each, and then the part, and writes the edit number from then on, and the file.
+//! Of an asking the tolerance of its ticket is written, and its part, and word 11 is the ticket's first count and 1,024 times its second; a
+//! commit takes, where kinds stand, the ticket's edit number and both its counts, eight bytes each, and then the part.
 //!
 //! A centre or a circle stands among the numbers where it stands among the arguments: before the points of an arc, behind those
 //! of a chord.
 use super::frame::Compared;
-use super::laps::first_bytes;
+use super::laps::{COMMAND, first_bytes};
 use super::lent::{Lent, Purpose};
 use super::{
     list_bezier, list_course, list_fewest, list_fit, list_flatten, list_hills, list_laps, list_live, list_session, list_simplify, list_svg,
@@ -120,6 +120,17 @@ fn worst_bytes(call: &Compared, list: &Lent) -> Vec<u8> {
     bytes
 }
 
+/// What the two counts of a ticket are joined by (`crates/replay/src/sessions.rt`).
+pub const COUNTS: usize = 1_024;
+
+/// How many bytes a call stored.
+fn stored_bytes(call: &Compared) -> usize {
+    match (call.function, call.count() as usize) {
+        ("ask_lap", count) => COMMAND * (count % COUNTS + count / COUNTS),
+        (_, count) => count,
+    }
+}
+
 pub fn record(call: &Compared) -> Record {
     let function = NAMES.iter().position(|name| *name == call.function).expect("a function with a place");
     let numbers: Vec<u64> =
@@ -130,7 +141,7 @@ pub fn record(call: &Compared) -> Record {
     let fitted = file(argument(call, &["fitted"]));
     let answer = call.lent(Purpose::Answer);
     let written = answer.map_or(&[][..], |lent| lent.front());
-    let stored = call.lent(Purpose::Kinds).map_or(vec![], |lent| first_bytes(lent, call.count() as usize));
+    let stored = call.lent(Purpose::Kinds).map_or(vec![], |lent| first_bytes(lent, stored_bytes(call)));
     let [start, end] = wholes(call);
     let head = [
         function as u64,

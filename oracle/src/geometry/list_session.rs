@@ -3,7 +3,7 @@ use super::draw::Draw;
 use super::frame::{Compared, Outcome};
 use super::laps::{Replacement, argument, carry_on, recording};
 use super::lent::{Lent, patterns};
-use super::list::{Record, filled, record};
+use super::list::{COUNTS, Record, filled, record};
 use super::margins::Margins;
 use super::session::{Commit, Step, Ticket, ask_of, commit_of, steps};
 use super::simplify::Commands;
@@ -15,18 +15,19 @@ const LONG: usize = 6_000;
 /// Room for every file, and for every part.
 const ROOM: usize = 58_920;
 
-/// What is listed of a call: the numbers and the bytes that it writes.
+/// What is listed of a call: the numbers and the bytes that it writes, each with its room, and the count.
 fn listed(
     function: &'static str,
     arguments: Vec<(&'static str, Vec<u64>)>,
     number: u32,
     numbers: (usize, &[f64]),
     bytes: (usize, &[u8]),
+    count: usize,
 ) -> Compared {
     let lent = vec![
         Lent::room(numbers.0).written(&patterns(numbers.1)),
         Lent::byte_room(bytes.0, bytes.1),
-        Lent::count().written(&[bytes.1.len() as u64]),
+        Lent::count().written(&[count as u64]),
     ];
     let outcome = Outcome { number, lent };
     Compared { function, arguments, proved: outcome.clone(), given: outcome }
@@ -48,10 +49,10 @@ fn asking(r: &Replacement, edits: u32) -> Option<(Compared, Option<(Ticket, Vec<
         ("numbers", patterns(&r.new.numbers)),
         ("rooms", vec![r.room as u64]),
     ];
-    let five = |t: &Ticket| vec![t.lap as f64, t.tolerance, t.edit as f64, t.count as f64, t.next as f64];
-    let numbers = given.as_ref().map_or(vec![], |(ticket, _)| five(ticket));
+    let numbers = given.as_ref().map_or(vec![], |(ticket, _)| vec![ticket.tolerance]);
     let part = given.as_ref().map_or(&[][..], |(_, part)| part);
-    let call = listed("ask_lap", arguments, judged.call.given.number, (5, &numbers), (r.room, part));
+    let count = given.as_ref().map_or(0, |(ticket, _)| ticket.count + COUNTS * ticket.next);
+    let call = listed("ask_lap", arguments, judged.call.given.number, (1, &numbers), (r.room, part), count);
     Some((call, given))
 }
 
@@ -69,8 +70,7 @@ fn commit(c: &Commit) -> Compared {
         ("rooms", vec![c.room as u64]),
     ];
     let stored = super::laps::first_bytes(&call.given.lent[0], call.count() as usize);
-    let numbers = if call.given.number == 0 { vec![c.edits as f64 + 1.0] } else { vec![] };
-    listed("commit_lap", arguments, call.given.number, (1, &numbers), (c.room, &stored))
+    listed("commit_lap", arguments, call.given.number, (0, &[]), (c.room, &stored), stored.len())
 }
 
 /// Lines to these places, the first a Move.
