@@ -8,7 +8,7 @@ use Rattle.floats.specs.Root.{better, rootIn, wholeRoot, rootFrom, inUnits, roo
 use Rattle.geo.specs.Domain.{coordinate, centre, within, isFinite, isPlusZero, pointIn, point3In, everyFrom, numbersIn, whole, zero3, finite3, formed, commandsFormed, commandIn, commandsIn}
 use Rattle.geo.specs.Lent.{pointAt, flat, endOf, kindOf, numbersOf, commandOf, commandAt, commandsFrom}
 use Rattle.geo.specs.Outcome.{refusal, unless}
-use Rattle.geo.specs.Vector.{lengthOf, distanceSq, distance}
+use Rattle.geo.specs.Vector.{lengthOf, distanceSq, distance, cross3, dot3}
 use Rattle.geo.specs.Walk.{fold, listFrom}
 use Rattle.arc.specs.Direction.{turnAt, crossSum, clockwise}
 use Rattle.segment.specs.Segment.{parameterOf, offFoot, segmentOn, segmentSq, spaceSq}
@@ -16,7 +16,7 @@ use Rattle.simplify.specs.Farthest.{farther, farthestOf, farthestIn}
 use Rattle.simplify.specs.Thin.{keptBy, thinned, thinnedPoints}
 use Rattle.circle.specs.Bisector.{movedBy, projected}
 use Rattle.circle.specs.Collinear.{nearTo, besideOf, allNear, allBeside, collinearBy, collinear}
-use Rattle.circle.specs.Kasa.{plus, sumsOf, axesOf, cross3, dot3, scaled, detOf, inverseTimes, solved, matrixOf, sidesOf, centered, kasaCenter}
+use Rattle.circle.specs.Kasa.{plus, sumsOf, axesOf, scaled, detOf, inverseTimes, solved, matrixOf, sidesOf, centered, kasaCenter}
 use Rattle.circle.specs.Three.{areaOf, turnOf, center3, radiusFrom, centerBy, centerThree, circleRound, throughThree}
 use Rattle.circle.specs.Worst.{worse, worst}
 use Rattle.trial.specs.Deviation.{spokeOf, cosine, sagittaOf, endsOf, stepOf, stepBetween, arcDeviation}

@@ -16,7 +16,7 @@ use Rattle.course.specs.Walks.{cap}
 use Rattle.course.proofs.Count.{cap-few}
 use Rattle.laps.specs.File.{Lap, lapCount, lapsOf, big, commandCount}
 use Rattle.laps.specs.Rows.{fileSize, sizeRows}
-use Rattle.laps.proofs.Rows.{or-false, refused-front}
+use Rattle.laps.proofs.Rows.{refused-front}
 use Rattle.lap_fit.proofs.Cap.{told-more, told-below}
 use Rattle.lap_replace.specs.Replace.{swapBoth, nextLacks, NewLap, row2, newRows, mostWith, replaceRows, PutBoth}
 use Rattle.lap_replace.proofs.Rows.{NewPassed, new-passed-with, behind-new, new-refused, new-sizes, sizes-with, replace-passed}
@@ -25,6 +25,7 @@ use Rattle.lap_session.specs.declared.session.Ticket.{Ticket}
 use Rattle.lap_session.specs.declared.session.Asked.the-variants as asked
 use Rattle.lap_session.specs.declared.session.Committed.{Committed}
 use Rattle.lap_session.specs.Session.{raised, mostEdits, askRows, Answered, ticketFor, answerFor, askedAs, bytesAsked, Answers, partNew, commitRows, Stored, bytesStored, sessionAfter, Commits}
+use Rattle.floats.proofs.Order.{or-false}
 
 -- ---- an asking
 module _ (s f : List ℕ) (k : ℕ) (new : NewLap) (tol : Float) (room : ℕ) where

@@ -10,7 +10,7 @@ use lib.Seq.{drop-nil}
 use lib.Dec.{eqb, leb}
 use lib.Ieee.{Float}
 use Rattle.floats.specs.Ops.{_≺_, +0}
-use Rattle.floats.proofs.Order.{clash, and-left, and-right}
+use Rattle.floats.proofs.Order.{clash, and-left, and-right, or-false}
 use Rattle.geo.specs.declared.types.Point3D.{Point3D}
 use Rattle.geo.specs.Lent.{origin}
 use Rattle.geo.specs.Domain.{whole, point3In, commandsFormed, commandsIn, tolerance}
@@ -28,7 +28,7 @@ use Rattle.course.proofs.FinitePoints.{point-in}
 use Rattle.laps.specs.File.{Lap, lapCount, lapsOf, body, encode, short, big, lacks, formOk, domainOk, fittedOk, finiteOk, lapOk, lapTested, lapsOk, EachFull, commandCount}
 use Rattle.laps.specs.Rows.{fileSize}
 use Rattle.laps.proofs.Here.{cond-false}
-use Rattle.laps.proofs.Rows.{or-false, size-0}
+use Rattle.laps.proofs.Rows.{size-0}
 use Rattle.laps.proofs.Turns.{length-laps-of}
 use Rattle.laps.proofs.Whole.{length-body}
 use Rattle.lap_fit.specs.Fit.{lapEnd, startFrom, startOf, fitLap, mostLap}
