@@ -137,6 +137,11 @@ fn forged() -> Vec<Compared> {
     let mut calls = vec![at(999_999), at(1_000_000), at(1_000_001), at(u32::MAX)];
     calls.extend([(0, own + next), (own + next, 0), (own + 1, next), (own, next - 1), (usize::MAX, own + next + 1)].map(|(a, b)| counts(a, b)));
     calls.extend([0, 2, 3, 4, 64, usize::MAX].map(|lap| with(&|c| c.ticket.lap = lap)));
+    calls.push(with(&|c| {
+        // lap 0 of a file whose first lap lacks its Move: 4, since what follows lap 0 is no next lap
+        (c.ticket.lap, c.ticket.next, c.recorded[32]) = (0, 0, 1);
+        c.part.truncate(73 * own);
+    }));
     calls.extend([(0, 1), (1, 0), (1, 3), (1, 4), (own, 0), (own, 3), (own, 2)].map(|(place, new)| kind(place, new)));
     calls.extend([f64::NAN, f64::INFINITY, 1e300, -0.0].map(|x| number(73 + 1, x)));
     calls.extend([1 + 24, 73 + 1 + 64, 73 * own + 1 + 16].map(|place| number(place, f64::NEG_INFINITY)));

@@ -403,10 +403,11 @@ impl Desk {
         let held = self.ticket(draw);
         let (mut ticket, mut part) = (held.ticket, held.part.clone());
         let (mut recorded, mut fitted) = (self.recorded.clone(), self.fitted.clone());
-        match draw.below(8) {
-            0 | 1 => forged(draw, &mut ticket, self.edits, self.lap_count()),
-            2 | 3 => damaged_part(draw, &mut part, &mut ticket),
-            4 => damaged(draw, &mut recorded, &mut fitted),
+        match draw.below(16) {
+            0..4 => forged(draw, &mut ticket, self.edits, self.lap_count()),
+            4..8 => damaged_part(draw, &mut part, &mut ticket),
+            8 | 9 => damaged(draw, &mut recorded, &mut fitted),
+            10 => before_the_first(draw, &mut recorded, &mut ticket, &mut part),
             _ => {}
         }
         let mut c = Commit { ticket, edits: self.edits, recorded, fitted, part, room: ROOM };
@@ -525,6 +526,17 @@ fn damaged(draw: &mut Draw, recorded: &mut Vec<u8>, fitted: &mut Vec<u8>) {
         let file = if draw.flag() { recorded } else { fitted };
         laps::damage(draw, file);
     }
+}
+
+/// Lap 0 of a file whose first lap lacks its Move: what follows lap 0 is no next lap.
+fn before_the_first(draw: &mut Draw, recorded: &mut [u8], t: &mut Ticket, part: &mut Vec<u8>) {
+    draw.label("ticket: lap 0, and a first lap without its Move");
+    let first = 8 + 8 * laps_of(recorded).map_or(0, |laps| laps.len());
+    if let Some(kind) = recorded.get_mut(first) {
+        *kind = 1;
+    }
+    (t.lap, t.next) = (0, 0);
+    part.truncate(COMMAND * t.count);
 }
 
 /// Changes a field of a ticket, or two.
