@@ -56,13 +56,14 @@ def columns(word):
 
 def parents():
     """Options that several commands share, by a name."""
-    shared = {name: argparse.ArgumentParser(add_help=False) for name in ("reading", "fit", "limits", "to", "shape", "force")}
+    shared = {name: argparse.ArgumentParser(add_help=False) for name in ("reading", "fit", "hills", "limits", "to", "shape", "force")}
     add = shared["reading"].add_argument
     add("--columns", type=columns, metavar="NAMES", help="the columns of a table: lap,time,x,y,z or lap,time,lat,lon,z; - skips one")
     add("--laps-at", type=listed, default=[], metavar="TIMES", help="laps by times: FROM..TO, or FROM alone, with commas between")
     add("--renumber", action="store_true", help="count the laps anew where one is missing")
     add("--carry-on", action="store_true", help="each lap behind the first starts where the last one ended, as on a track")
     shared["fit"].add_argument("--fit", metavar="FITTED.laps", help="check that this file is the fit of the workout")
+    shared["hills"].add_argument("--hills", action="store_true", help="fit for hills: straights alone, by the distance in x, y and z")
     add, limits = shared["limits"].add_argument, Limits()
     add("--flat", type=float, default=limits.flat, help="the greatest radius of a bend, in metres (default %(default)s)")
     add("--turn", type=float, default=limits.turn, help="the least turn of a bend, in degrees (default %(default)s)")
@@ -80,13 +81,13 @@ def parents():
 COMMANDS = {
     "read": (commands.read, "a watch's recording as a workout's text", ("recording", "workout"), ("reading", "force")),
     "make": (commands.make, "a workout as a recorded lap file", ("workout", "recorded"), ("reading", "force")),
-    "fit": (commands.fit, "fit each lap of a lap file", ("tolerance", "recorded", "fitted"), ("force",)),
+    "fit": (commands.fit, "fit each lap of a lap file", ("tolerance", "recorded", "fitted"), ("hills", "force")),
     "list": (commands.list_pieces, "each fitted piece's length, time and pace", ("workout", "tolerance"),
-             ("reading", "fit", "shape", "to", "force")),
+             ("reading", "fit", "hills", "shape", "to", "force")),
     "bends": (commands.bends, "each bend's and straight's pace as a person sees them, and the laps side by side",
-              ("workout", "tolerance"), ("reading", "fit", "limits", "shape", "to", "force")),
+              ("workout", "tolerance"), ("reading", "fit", "hills", "limits", "shape", "to", "force")),
     "strides": (commands.strides, "counted strides against the fitted and the track's lengths",
-                ("workout", "tolerance", "counts"), ("reading", "fit", "limits", "to", "force")),
+                ("workout", "tolerance", "counts"), ("reading", "fit", "hills", "limits", "to", "force")),
     "sheet": (commands.print_sheet, "a sheet to count strides on", (), ("to", "force")),
     "advise": (commands.advise, "which tolerance to take, from the receiver's noise", ("workout",), ("reading", "to", "force")),
     "live": (commands.live, "play a recording as the watch draws it: where each end of a straight came out, and how late",
@@ -99,7 +100,7 @@ COMMANDS = {
     "text": (commands.text, "a lap file's commands as text", ("file",), ("to", "force")),
     "gpx": (commands.gpx, "a lap file as GPX", ("file", "gpx"), ("reading", "force")),
     "draw": (commands.draw, "the repetitions as a picture, .svg or .html", ("workout", "tolerance", "picture"),
-             ("reading", "fit", "limits", "force")),
+             ("reading", "fit", "hills", "limits", "force")),
     "course": (commands.course, "a course of SVG path data: read, fitted and drawn", ("course", "tolerance", "drawing"), ("force",)),
 }
 KINDS = {"tolerance": float, "lap": int}

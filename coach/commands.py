@@ -54,8 +54,8 @@ def make(files, words):
 
 def fit(files, words):
     recorded = files.read(words.recorded)
-    fitted = fitted_bytes(words.tolerance, recorded, label(words.recorded))
-    line = fit_line(commands_of(recorded, words.recorded), commands_of(fitted, words.recorded))
+    fitted = fitted_bytes(words.tolerance, recorded, label(words.recorded), words.hills)
+    line = fit_line(commands_of(recorded, words.recorded), commands_of(fitted, words.recorded), words.hills)
     files.save((words.fitted, fitted))
     return told(line, words.fitted)
 
@@ -64,8 +64,8 @@ def seen(files, words):
     """The workout and the pieces of its laps; a fitted file that was given is checked against them."""
     workout = recording(files, words.workout, words)
     if words.fit:
-        check_fit(workout, words.tolerance, label(words.workout), files.read(words.fit), label(words.fit))
-    return workout, fitted_pieces(workout, words.tolerance, label(words.workout))
+        check_fit(workout, words.tolerance, label(words.workout), files.read(words.fit), label(words.fit), words.hills)
+    return workout, fitted_pieces(workout, words.tolerance, label(words.workout), words.hills)
 
 
 def limits_of(words):
@@ -81,9 +81,9 @@ def plane_of(words, workout=None):
 def save_rows(files, words, rows, workout, text):
     shapes = {
         "text": lambda: text,
-        "csv": lambda: listing.as_csv(rows),
-        "json": lambda: listing.as_json(rows, words.tolerance),
-        "geojson": lambda: listing.as_geojson(rows, words.tolerance, plane_of(words, workout)),
+        "csv": lambda: listing.as_csv(rows, words.hills),
+        "json": lambda: listing.as_json(rows, words.tolerance, words.hills),
+        "geojson": lambda: listing.as_geojson(rows, words.tolerance, plane_of(words, workout), words.hills),
     }
     files.save((words.to, shapes[words.shape]().encode()))
 
@@ -91,14 +91,14 @@ def save_rows(files, words, rows, workout, text):
 def list_pieces(files, words):
     workout, pieces = seen(files, words)
     rows = list(piece_rows(workout.laps, pieces))
-    save_rows(files, words, rows, workout, listing.text(rows))
+    save_rows(files, words, rows, workout, listing.text(rows, words.hills))
 
 
 def bends(files, words):
     workout, pieces = seen(files, words)
     limits = limits_of(words)
     rows = list(part_rows(workout.laps, pieces, words.tolerance, limits))
-    text = listing.text(rows) + listing.beside(rows) + listing.limits_line(limits, words.tolerance)
+    text = listing.text(rows, words.hills) + listing.beside(rows) + listing.limits_line(limits, words.tolerance)
     save_rows(files, words, rows, workout, text)
 
 
@@ -205,8 +205,8 @@ def track(commands, workout, lap, plane):
 def draw(files, words):
     workout, pieces = seen(files, words)
     old = recording(files, words.old, words) if words.old else None
-    before = (old, fitted_pieces(old, words.tolerance, words.old)) if old else None
-    drawn = picture_of(workout, pieces, words.tolerance, limits_of(words), before)
+    before = (old, fitted_pieces(old, words.tolerance, words.old, words.hills)) if old else None
+    drawn = picture_of(workout, pieces, words.tolerance, limits_of(words), before, words.hills)
     shape = page_of if words.picture.lower().endswith((".html", ".htm")) else svg_of
     files.save((words.picture, shape(drawn).encode()))
 

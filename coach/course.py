@@ -5,7 +5,7 @@ import math
 from dataclasses import dataclass
 from xml.sax.saxutils import escape
 
-from geometry import farthest
+from geometry import away, farthest
 from listing import clock
 
 WIDTH, HEAD = 380, 40
@@ -137,24 +137,24 @@ def told(row):
             f"give or take {clock(row.pace_error)}{bend}")
 
 
-def dots(number, positions, strokes, frame):
+def dots(number, positions, strokes, frame, in_space):
     """The recorded positions, smaller where they are close together."""
     steps = [math.dist(a.place[:2], b.place[:2]) for a, b in zip(positions, positions[1:])]
     radius = min(LARGE, max(SMALL, SHARE * frame.scale * sum(steps) / max(1, len(steps))))
     for i, position in enumerate(positions, 1):
         x, y = frame.at(position.place)
-        away = min((stroke.distance(position.place) for stroke in strokes), default=0.0)
-        title = f"lap {number}, position {i}: {position.time:.2f} s, {away:.2f} m from the course"
+        far = away(position.place, strokes, in_space)
+        title = f"lap {number}, position {i}: {position.time:.2f} s, {far:.2f} m from the course"
         yield titled("circle", f'class="position" cx="{x:.2f}" cy="{y:.2f}" r="{radius:.2f}"', title)
 
 
-def lap_drawing(name, number, positions, rows, frame):
-    """A lap: its rows are its bends and straights, and the whole."""
+def lap_drawing(name, number, positions, rows, frame, in_space=False):
+    """A lap: its rows are its bends and straights, and the whole. How far positions are off counts heights, or does not."""
     *parts, whole = rows
     strokes = whole.strokes
     places = [position.place for position in positions]
     centre = [(min(axis) + max(axis)) / 2 for axis in zip(*places)]
-    far = farthest(places, strokes)[0]
+    far = farthest(places, strokes, in_space)[0]
     head = f'<text class="name" x="12" y="18">{name}: {clock(whole.pace)} a km</text>' \
         f'<text class="small" x="12" y="33">{whole.length:.0f} m in {whole.time:.1f} s; farthest position {far:.2f} m off</text>'
     yield titled("g", f'class="lap" data-row="{number}-whole"', told(whole), head)
@@ -167,5 +167,5 @@ def lap_drawing(name, number, positions, rows, frame):
     yield from (tick(row.strokes[-1], True, BORDER, "border", frame) for row in parts[:-1])
     yield tick(strokes[0], False, START, "start", frame)
     yield arrow(strokes[0], centre, frame)
-    yield from dots(number, positions, strokes, frame)
+    yield from dots(number, positions, strokes, frame, in_space)
     yield from labels(parts, centre, frame)

@@ -65,6 +65,20 @@ class Stroke:
         along = min(1.0, max(0.0, along))
         return math.dist(place[:2], (ax + along * dx, ay + along * dy))
 
+    def share(self, place):
+        """How far along it the point is that is nearest to a place in the plane, from 0 to 1."""
+        if self.is_arc:
+            inside = self.angle and self.angle_to(place) <= self.angle
+            if inside:
+                return self.angle_to(place) / self.angle
+            return float(math.dist(place[:2], self.end[:2]) < math.dist(place[:2], self.start[:2]))
+        return nearest(self.start[:2], self.end[:2], place)
+
+    def distance_in_space(self, place):
+        """From a place to the nearest point of a straight, in x, y and z; to that point of an arc that is nearest in the plane."""
+        along = self.share(place) if self.is_arc else nearest(self.start, self.end, place)
+        return math.dist(place, self.at(along))
+
     def points(self, sagitta):
         """Places along it, the end last, close enough that chords leave an arc by less than the sagitta."""
         steps = 1
@@ -85,6 +99,14 @@ class Stroke:
         return self.centre[0] + x * cosine - y * sine, self.centre[1] + x * sine + y * cosine, z
 
 
+def nearest(start, end, place):
+    """How far along the way between two places the point is that is nearest to a third, from 0 to 1."""
+    way = [b - a for a, b in zip(start, end)]
+    square = sum(w * w for w in way)
+    along = sum((p - a) * w for p, a, w in zip(place, start, way)) / square if square else 0.0
+    return min(1.0, max(0.0, along))
+
+
 def strokes_of(commands):
     """The drawn pieces of a fitted lap, which has no Bezier: its Move gives the first start."""
     strokes, start = [], tuple(commands[0][1:4])
@@ -96,9 +118,14 @@ def strokes_of(commands):
     return strokes
 
 
-def farthest(places, strokes):
-    """The greatest distance of a place from the drawn strokes, and the index of the first place that has it."""
+def away(place, strokes, in_space=False):
+    """The distance of a place from the strokes, in the plane or in space."""
+    return min((stroke.distance_in_space(place) if in_space else stroke.distance(place) for stroke in strokes), default=0.0)
+
+
+def farthest(places, strokes, in_space=False):
+    """The greatest distance of a place from the strokes, and the index of the first place that has it."""
     if not strokes:
         return 0.0, 0
-    gaps = [min(stroke.distance(place) for stroke in strokes) for place in places]
+    gaps = [away(place, strokes, in_space) for place in places]
     return max(gaps), gaps.index(max(gaps))

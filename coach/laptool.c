@@ -1,5 +1,6 @@
 /* Lap files through the proved functions:
      laptool [--force] fit TOLERANCE RECORDED FITTED
+     laptool [--force] hills TOLERANCE RECORDED FITTED                        (straights alone, by x, y and z)
      laptool [--force] replace RECORDED FITTED LAP NEW_LAP TOLERANCE OUT      (NEW_LAP: a lap file of one lap)
      laptool live TOLERANCE      (standard input: lines 'x y z', or 'tolerance' alone for a new one; standard output: a line for
                                   each end, 'call x y z', the calls counted from 1, with the close behind the last line)
@@ -187,10 +188,13 @@ static size_t one_lap(const char *name, uint8_t *kinds, double *nums)
 
 static unsigned char recorded[ROOM], fitted[ROOM], out[PZ_MOST_OUTPUT_BYTES];
 
-static int fit(char **words, int force)
+/* A fit of a lap file: the flat one, or that for hills. */
+typedef uint32_t (*fitter)(const uint8_t *, size_t, double, uint8_t *, size_t, size_t *);
+
+static int fit(fitter fit_by, char **words, int force)
 {
     size_t count, size = read_file(words[1], recorded);
-    uint32_t refused = pz_fit_file(recorded, size, number(words[0]), out, sizeof out, &count);
+    uint32_t refused = fit_by(recorded, size, number(words[0]), out, sizeof out, &count);
     return refused ? (int)refused : write_file(words[2], force, out, count);
 }
 
@@ -366,7 +370,10 @@ int main(int argc, char **argv)
     int force = argc > 1 && !strcmp(argv[1], "--force");
     argc -= force, argv += force;
     if (argc == 5 && !strcmp(argv[1], "fit")) {
-        return fit(argv + 2, force);
+        return fit(pz_fit_file, argv + 2, force);
+    }
+    if (argc == 5 && !strcmp(argv[1], "hills")) {
+        return fit(pz_fit_hills, argv + 2, force);
     }
     if (argc == 8 && !strcmp(argv[1], "replace")) {
         return replace(argv + 2, force);
@@ -384,6 +391,7 @@ int main(int argc, char **argv)
         return read_course(argv + 2, force);
     }
     fprintf(stderr, "laptool [--force] fit TOLERANCE RECORDED FITTED\n"
+        "laptool [--force] hills TOLERANCE RECORDED FITTED\n"
         "laptool [--force] replace RECORDED FITTED LAP NEW_LAP TOLERANCE OUT\n"
         "laptool live TOLERANCE\n"
         "laptool straights TOLERANCE BUDGET\n"

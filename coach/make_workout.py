@@ -1,7 +1,7 @@
 #!/usr/bin/env python3
-"""Makes the sample of the exercise, the same on each run. No athlete ran for it, and nobody counted its strides.
+"""Makes the samples of the exercise, the same on each run. No athlete ran for them, and nobody counted strides.
 
-  make_workout.py FOLDER [--force]   workout.txt, lap3.txt and strides.txt, into a folder
+  make_workout.py FOLDER [--force]   workout.txt, lap3.txt, strides.txt and fell.txt, into a folder
   make_workout.py --truth            what was run, before the receiver's noise: the pace of each part of each repetition
 
 Six repetitions of 400 m on a standard track: straights of 84.39 m, bends whose running line has the radius 36.80 m. A
@@ -11,7 +11,10 @@ repetitions 2, 4 and 5 eases off in the second bend.
 
 The receiver's error has two parts: a white one, new with each position, and a drift, which keeps most of the last second's
 error and so wanders by a metre or two. In repetition 3 the receiver is thrown off for some seconds in the second bend, as
-beside a grandstand; lap3.txt is the same repetition without that."""
+beside a grandstand; lap3.txt is the same repetition without that.
+
+fell.txt is two laps over a fell, along three walls, with two tops and a dip between them, a position every two seconds; the pace
+falls as the path climbs. Heights have an error of their own, as a watch's barometer gives it."""
 import math
 import random
 import sys
@@ -31,6 +34,10 @@ FIRST_PACE, SLOWER = 182.0, 2.5   # seconds a kilometre on the first repetition'
 IN_BENDS, EASED = 1.03, 1.14      # seconds in a bend to each on a straight; in an eased second bend to each in the first
 STRIDE = 1.82                     # metres from one step to the next
 THROWN = (3, 45.0, 51.0, 9.0)     # repetition, first and last second, metres
+FELL = ((0.0, 0.0), (260.0, 90.0), (120.0, 310.0), (0.0, 0.0))   # the ends of the walls, in metres
+HEIGHTS = ((0, 212), (140, 271), (275, 246), (340, 246), (470, 309), (540, 296), (700, 231), (790, 238), (868, 212))
+FELL_LAPS, FELL_STEP, FELL_REST = 2, 2.0, 60
+FELL_PACE, CLIMBING = 300.0, 4.0  # seconds a kilometre on the level; and how many times that more for a metre up to each metre on
 HEAD = "# lap time x y z: seconds and metres; made by make_workout.py, nobody ran"
 
 
@@ -122,7 +129,7 @@ def strides(repetition, chance):
 
 
 def sample(seed):
-    """The three files of the exercise, by their names."""
+    """The files of the exercise, by their names."""
     workout, lap, counts = [HEAD], [HEAD], ["# lap part count: made up by make_workout.py, nobody counted"]
     chance = random.Random(seed)
     for number, (start, _, positions) in enumerate(repetitions(seed), 1):
@@ -130,7 +137,48 @@ def sample(seed):
         counts += strides(number, chance)
         if number == THROWN[0]:
             lap += lines(number, start, positions)
-    return {"workout.txt": workout, f"lap{THROWN[0]}.txt": lap, "strides.txt": counts}
+    return {"workout.txt": workout, f"lap{THROWN[0]}.txt": lap, "strides.txt": counts, "fell.txt": fell(seed)}
+
+
+def between(stops, way):
+    """What lies between stops, pairs of a way and a number, at a way."""
+    for (a, low), (b, high) in zip(stops, stops[1:]):
+        if way <= b:
+            return low + (way - a) / (b - a) * (high - low)
+    return stops[-1][1]
+
+
+def fell_stops():
+    """The corners of the walls by the way to them: x, and y."""
+    way, ways = 0.0, [0.0]
+    for a, b in zip(FELL, FELL[1:]):
+        way += math.dist(a, b)
+        ways.append(way)
+    return [list(zip(ways, axis)) for axis in zip(*FELL)]
+
+
+def fell_run(receiver, barometer, chance):
+    """The positions of a lap over the fell: time and place with both errors."""
+    xs, ys = fell_stops()
+    time, way, whole = 0.0, 0.0, xs[-1][0]
+    for error, (height_error, _) in zip(receiver.errors(chance), barometer.errors(chance)):
+        yield time, between(xs, way) + error[0], between(ys, way) + error[1], between(HEIGHTS, way) + height_error
+        if way >= whole:
+            return
+        slope = (between(HEIGHTS, way + 1) - between(HEIGHTS, way))
+        pace = FELL_PACE * (1 + CLIMBING * max(0.0, slope)) / 1000
+        left = (whole - way) * pace
+        time, way = time + min(FELL_STEP, left), min(whole, way + FELL_STEP / pace)
+
+
+def fell(seed):
+    """The text of two laps over the fell."""
+    chance, start, text = random.Random(seed), 0.0, [HEAD]
+    for lap in range(1, FELL_LAPS + 1):
+        *positions, last = fell_run(Receiver(), Receiver(0.2, 1.0, 300.0), chance)
+        text += [f"{lap} {start + t:.2f} {x:.2f} {y:.2f} {z:.2f}" for t, x, y, z in [*positions, last]]
+        start += math.ceil(last[0]) + FELL_REST
+    return text
 
 
 def truth(seed):

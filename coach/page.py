@@ -28,6 +28,7 @@ SCRIPT = """
 
 def page_of(drawn):
     laps = "\n".join(lap.svg() for lap in drawn.laps)
+    strips = "\n".join(f'<div class="wide">{strip.svg()}</div>' for strip in drawn.strips)
     return f"""<!DOCTYPE html>
 <html lang="en">
 <head>
@@ -44,7 +45,7 @@ def page_of(drawn):
 <div class="laps">
 {laps}
 </div>
-<div class="wide">{drawn.strip.svg()}</div>
+{strips}
 <script>{SCRIPT}</script>
 </body>
 </html>

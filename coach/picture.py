@@ -1,6 +1,7 @@
 """The picture of a workout: a drawing of each lap, the key, and the pace along the laps. Sizes are in pixels."""
 from dataclasses import dataclass
 
+import heights
 import strip
 from course import HEAD, WIDTH, Frame, lap_drawing
 from rows import part_rows
@@ -36,25 +37,26 @@ class Panel:
 
 @dataclass(frozen=True)
 class Picture:
-    """Panels to be laid out: the key, the laps, the strip; a title and a description for readers."""
+    """Panels to be laid out: the key, the laps, and what goes along the laps, paces and perhaps heights; a title and a description
+    for readers."""
     title: str
     description: str
     key: Panel
     laps: list
-    strip: Panel
+    strips: list
 
 
 def laps_with_rows(workout, pieces, tolerance, limits):
-    """To each lap its number, positions and rows; laps of one position have nothing to draw."""
+    """To each lap its number, positions, rows and pieces; laps of one position have nothing to draw."""
     rows = list(part_rows(workout.laps, pieces, tolerance, limits))
     for number, positions in enumerate(workout.laps, 1):
         own = [row for row in rows if row.lap == number]
         if own:
-            yield number, positions, own
+            yield number, positions, own, pieces[number - 1]
 
 
 def panels_of(workout, pieces, tolerance, limits, old):
-    """Names, numbers, positions and rows. A lap that was corrected comes first, beside what it was before."""
+    """Names, numbers, positions, rows and pieces. A lap that was corrected comes first, beside what it was before."""
     before = {number: lap for number, *lap in laps_with_rows(*old, tolerance, limits)} if old else {}
     laps = list(laps_with_rows(workout, pieces, tolerance, limits))
     changed = [lap for lap in laps if lap[0] in before and before[lap[0]][0] != lap[1]]
@@ -66,7 +68,7 @@ def panels_of(workout, pieces, tolerance, limits, old):
             yield (f"lap {lap[0]}", *lap)
 
 
-def key(frame, tolerance):
+def key(frame, tolerance, hills):
     """What the marks stand for, how long a bar is in metres, and the tolerance."""
     metres = strip.nice(BAR / frame.scale, 2)
     bar = metres * frame.scale
@@ -78,22 +80,30 @@ def key(frame, tolerance):
     yield '<path class="start" d="M 522 5 v 22"/><text x="530" y="20">start line</text>'
     yield '<path class="arrow" d="M 602 16 h 18 m -5 -4 l 5 4 l -5 4"/><text x="628" y="20">direction; paces a kilometre</text>'
     yield f'<path class="bar" d="M 12 38 v 8 h {bar:.2f} v -8"/><text x="{20 + bar:.2f}" y="46">{metres:g} m</text>'
-    yield f'<text x="260" y="46">tolerance {tolerance:g} m</text>'
+    yield f'<text x="260" y="46">tolerance {tolerance:g} m{" in x, y and z" if hills else ""}</text>'
 
 
-def picture_of(workout, pieces, tolerance, limits, old=None):
+def strips_of(shown, hills):
+    """What goes along the laps: the paces, and of a hill fit the heights."""
+    named = [(name.replace("as it was", "before").replace(",", ""), *lap) for name, _, *lap in shown]
+    paces = [(name, rows) for name, _, rows, _ in named]
+    yield Panel(*strip.size(paces), list(strip.strip(paces)) if paces else [])
+    if hills and named:
+        laps = [(name, rows[-1], positions, pieces) for name, positions, rows, pieces in named]
+        yield Panel(*heights.size(laps), list(heights.profiles(laps)))
+
+
+def picture_of(workout, pieces, tolerance, limits, old=None, hills=False):
     """The picture's panels; `old` is another workout and its pieces, whose laps are shown where they differ."""
     shown = list(panels_of(workout, pieces, tolerance, limits, old))
-    drawn = [p for _, _, positions, rows in shown for p in
+    drawn = [p for _, _, positions, rows, _ in shown for p in
              [*(q.place for q in positions), *(at for s in rows[-1].strokes for at in s.points(tolerance))]]
     frame = Frame.of(drawn or [(0.0, 0.0)])
-    laps = [Panel(WIDTH, HEAD + frame.height, list(lap_drawing(*lap, frame))) for lap in shown]
-    strips = [(name.replace("as it was", "before").replace(",", ""), rows) for name, _, _, rows in shown]
-    title = f"{len(workout.laps)} laps, fitted at a tolerance of {tolerance:g} m"
-    words = [f"{name}: {rows[-1].length:.0f} m in {rows[-1].time:.1f} s" for name, _, _, rows in shown]
-    pace = Panel(*strip.size(strips), list(strip.strip(strips)) if strips else [])
+    laps = [Panel(WIDTH, HEAD + frame.height, list(lap_drawing(*lap[:4], frame, hills))) for lap in shown]
+    title = f"{len(workout.laps)} laps, fitted at a tolerance of {tolerance:g} m" + (" in x, y and z" if hills else "")
+    words = [f"{name}: {rows[-1].length:.0f} m in {rows[-1].time:.1f} s" for name, _, _, rows, _ in shown]
     return Picture(title, "Each lap as straights and bends with the pace of each. " + "; ".join(words) + ".",
-                   Panel(ACROSS * WIDTH, KEY_HEIGHT, list(key(frame, tolerance))), laps, pace)
+                   Panel(ACROSS * WIDTH, KEY_HEIGHT, list(key(frame, tolerance, hills))), laps, list(strips_of(shown, hills)))
 
 
 def svg_of(drawn):
@@ -101,7 +111,8 @@ def svg_of(drawn):
     across = min(ACROSS, max(1, len(drawn.laps)))
     high = max((lap.height for lap in drawn.laps), default=0)
     rows = -(-len(drawn.laps) // across)
-    width, height = ACROSS * WIDTH, KEY_HEIGHT + rows * high + drawn.strip.height
+    width, top = ACROSS * WIDTH, KEY_HEIGHT + rows * high
+    height = top + sum(panel.height for panel in drawn.strips)
     lines = [
         f'<svg xmlns="http://www.w3.org/2000/svg" role="img" aria-labelledby="title desc" width="{width}" '
         f'height="{height:.0f}" viewBox="0 0 {width} {height:.0f}">',
@@ -113,5 +124,7 @@ def svg_of(drawn):
     ]
     for i, lap in enumerate(drawn.laps):
         lines.append(lap.svg(f'x="{i % across * WIDTH}" y="{KEY_HEIGHT + i // across * high:.0f}" '))
-    lines.append(drawn.strip.svg(f'y="{height - drawn.strip.height:.0f}" '))
+    for panel in drawn.strips:
+        lines.append(panel.svg(f'y="{top:.0f}" '))
+        top += panel.height
     return "\n".join(lines + ["</svg>", ""])

@@ -36,9 +36,9 @@ def place_in(recorded, name):
     return place
 
 
-def fitted_bytes(tolerance, recorded, name):
-    """The fit of a recorded lap file."""
-    return laptool(["fit", tolerance, "-", "-"], recorded, place_in(recorded, name))
+def fitted_bytes(tolerance, recorded, name, hills=False):
+    """The fit of a recorded lap file: the flat one, or that for hills, by x, y and z."""
+    return laptool(["hills" if hills else "fit", tolerance, "-", "-"], recorded, place_in(recorded, name))
 
 
 def course_bytes(text, name):

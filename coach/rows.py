@@ -25,6 +25,15 @@ class Row:
         return sum(stroke.length for stroke in self.strokes)
 
     @property
+    def up(self):
+        """The metres that its pieces climb."""
+        return sum(max(0.0, stroke.end[2] - stroke.start[2]) for stroke in self.strokes)
+
+    @property
+    def down(self):
+        return sum(max(0.0, stroke.start[2] - stroke.end[2]) for stroke in self.strokes)
+
+    @property
     def time(self):
         return self.to_time - self.from_time
 

@@ -22,17 +22,27 @@ def size(laps):
     return WIDEST, HEAD + len(laps) * (HIGH + GAP) + 6
 
 
-def strip(laps):
-    """Laps as pairs of a name and rows, of which the last is the whole lap."""
-    paces = [row.pace for _, rows in laps for row in rows[:-1] if row.pace is not None] or [0.0]
+def scale_of(laps):
+    """The longest lap, and how many pixels a metre along a lap has."""
     longest = max(rows[-1].length for _, rows in laps) or 1.0
-    scale = (WIDEST - LEFT - RIGHT) / longest
-    yield '<text class="name" x="12" y="16">pace along the lap; the slower, the paler</text>'
+    return longest, (WIDEST - LEFT - RIGHT) / longest
+
+
+def ruler(longest, scale):
+    """The metres along the lap, above the laps."""
     step = nice(longest, 8)
     for metres in (i * step for i in range(int(longest / step) + 1)):
         x = LEFT + metres * scale
         yield f'<path class="cut" d="M {x:.2f} {HEAD - 6} v 4"/>'
         yield f'<text class="small" x="{x:.2f}" y="{HEAD - 9}" text-anchor="middle">{metres:g}{" m" if metres else ""}</text>'
+
+
+def strip(laps):
+    """Laps as pairs of a name and rows, of which the last is the whole lap."""
+    paces = [row.pace for _, rows in laps for row in rows[:-1] if row.pace is not None] or [0.0]
+    longest, scale = scale_of(laps)
+    yield '<text class="name" x="12" y="16">pace along the lap; the slower, the paler</text>'
+    yield from ruler(longest, scale)
     for i, (name, rows) in enumerate(laps):
         yield from one(name, rows, HEAD + i * (HIGH + GAP), scale, (min(paces), max(paces)))
 

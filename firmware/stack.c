@@ -156,6 +156,12 @@ static void *fit_file(void *a)
     return a;
 }
 
+static void *fit_hills(void *a)
+{
+    answer = pz_fit_hills(file, file_size, TOLERANCE, out, sizeof out, &count);
+    return a;
+}
+
 static void *replace(void *a)
 {
     answer = pz_replace_lap(file, file_size, fitted, fitted_size, 1,
@@ -327,6 +333,7 @@ int main(void)
     row("pz_fit_points_recursive", fit_range, PZ_MOST_POINTS);
     row("pz_fit_arcs", fit_course, PZ_MOST_COMMANDS);
     row("pz_fit_file", fit_file, PZ_MOST_COMMANDS);
+    row("pz_fit_hills", fit_hills, PZ_MOST_COMMANDS);
     row("pz_replace_lap", replace, PZ_MOST_COMMANDS);
     row("pz_fewest_straights", find_straights, PZ_MOST_STRAIGHT_POINTS);
     row("pz_flatten_arc", draw_arc, 2);

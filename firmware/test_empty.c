@@ -58,6 +58,9 @@ static void test_files(void)
     uint8_t out[8];
     check_count(pz_fit_file(NULL, 0, 1, NULL, 0, &count), PZ_NOT_WHOLE, 0, "no file");
     check_count(pz_fit_file(empty, 8, 1, NULL, 0, &count), PZ_NO_ROOM, 0, "no room");
+    check_count(pz_fit_hills(NULL, 0, 1, NULL, 0, &count), PZ_NOT_WHOLE, 0, "no file of hills");
+    check_count(pz_fit_hills(empty, 8, 1, NULL, 0, &count), PZ_NO_ROOM, 0, "no room for it");
+    check_count(pz_fit_hills(empty, 8, 1, out, 8, &count), PZ_DONE, 8, "the hills of no laps");
     check_count(pz_replace_lap(NULL, 0, NULL, 0, 1, NULL, 0, NULL, 0, 1, NULL, 0, &count), PZ_NOT_WHOLE, 0, "no files");
     check_count(pz_replace_lap(empty, 8, empty, 8, 1, NULL, 0, NULL, 0, 1, NULL, 0, &count), PZ_BAD_COMMAND, 0, "a lap without a Move");
     check_count(pz_read_course(NULL, 0, NULL, 0, &count), PZ_NO_ROOM, 0, "no text, and no room");

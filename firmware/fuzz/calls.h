@@ -91,14 +91,34 @@ static void hold_fit(const uint8_t *file, const struct view *v, const uint8_t *f
     }
 }
 
-/* The fit of a file to an output of so many bytes; its answer. */
-static uint32_t try_fit(const uint8_t *file, size_t size, double tolerance, size_t room)
+/* A fit of a file: the flat one, or that for hills, which makes no Arc and keeps each recorded one. */
+typedef uint32_t (*fitter)(const uint8_t *, size_t, double, uint8_t *, size_t, size_t *);
+
+static uint32_t arcs_in(const uint8_t *file, const struct view *v, uint32_t lap)
+{
+    uint32_t arcs = 0;
+    for (uint32_t i = 0; i < v->count[lap]; i++) {
+        arcs += file[v->at[lap] + PZ_COMMAND_BYTES * (size_t)i] == PZ_ARC;
+    }
+    return arcs;
+}
+
+static void hold_arcs(const uint8_t *file, const struct view *v, const uint8_t *fit, size_t size)
+{
+    struct view f = look(fit, size);
+    for (uint32_t lap = 0; lap < v->laps; lap++) {
+        hold(arcs_in(fit, &f, lap) == arcs_in(file, v, lap), "a hill fit has other Arcs than were recorded");
+    }
+}
+
+/* A fit of a file to an output of so many bytes; its answer. */
+static uint32_t try_fit(fitter fit_by, const uint8_t *file, size_t size, double tolerance, size_t room)
 {
     struct view v = look(file, size);
     size_t count = UNTOUCHED, needed = pz_file_bytes(v.laps, v.commands);
     const uint8_t *in = lend_bytes(recorded_end, file, size);
     uint8_t *out = lend_out(room);
-    uint32_t answer = pz_fit_file(in, size, tolerance, room ? out : NULL, room, &count);
+    uint32_t answer = fit_by(in, size, tolerance, room ? out : NULL, room, &count);
     uint32_t row = v.row ? v.row : !tolerance_passes(tolerance) ? PZ_BAD_TOLERANCE : room < needed ? PZ_NO_ROOM : PZ_DONE;
     bool by_steps = !v.row && v.curves && tolerance_passes(tolerance);
     hold(answer == row || (by_steps && (answer == PZ_TOO_MUCH || answer == PZ_NO_ROOM || answer == PZ_DONE)), "another refusal of a fit");
@@ -106,6 +126,9 @@ static uint32_t try_fit(const uint8_t *file, size_t size, double tolerance, size
     if (answer == PZ_DONE) {
         hold(count <= room, "more is told than there is room for");
         hold_fit(file, &v, out, count);
+        if (fit_by == pz_fit_hills) {
+            hold_arcs(file, &v, out, count);
+        }
     }
     hold((answer == PZ_DONE) != (count == UNTOUCHED), "a count of a refusal, or none of an answer");
     hold_marks(out, room, answer == PZ_DONE ? count : 0);

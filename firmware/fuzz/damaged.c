@@ -1,6 +1,6 @@
 /* Draws lap files, damages them and calls what reads them:
        damaged COUNT SEED
-   makes COUNT files, one fit each; each fourth is tried as the recorded and as the fitted file of a replacement too, and for each
+   makes COUNT files, both fits each, which answer alike; each fourth is tried as the recorded and as the fitted file of a replacement too, and for each
    eighth a text of path data is damaged and read. A seed repeats its run. What must hold is in calls.h. */
 #include "calls.h"
 
@@ -208,6 +208,14 @@ static struct lap draw_lap(void)
     return l;
 }
 
+/* Both fits of the damaged file: the answer is one number. */
+static uint32_t try_fits(double tolerance, size_t room)
+{
+    uint32_t answer = try_fit(pz_fit_file, file, size, tolerance, room);
+    hold(try_fit(pz_fit_hills, file, size, tolerance, room) == answer, "the fit for hills has another answer");
+    return answer;
+}
+
 /* The damaged file beside the whole one and its fit, both ways; and the whole one beside another, which may have other laps. */
 static void try_replacements(double tolerance, uint64_t answers[16])
 {
@@ -261,7 +269,7 @@ int main(int words, char **word)
         for (size_t i = below(16) ? 1 + below(3) : 0; i; i--) {
             damage();
         }
-        fits[try_fit(file, size, tolerance, draw_room())]++;
+        fits[try_fits(tolerance, draw_room())]++;
         if (case_number % 4 == 0) {
             try_replacements(tolerance, replacements);
         }

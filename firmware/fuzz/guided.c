@@ -4,9 +4,10 @@
 #include "calls.h"
 
 #define FEW 8u
+#define CALLS 5u
 
 /* By answer of each call; and of accepted fits, by how many Lines and Arcs a lap has. */
-__attribute__((section("__libfuzzer_extra_counters"))) static uint8_t seen[4 * 16 + FEW * FEW];
+__attribute__((section("__libfuzzer_extra_counters"))) static uint8_t seen[CALLS * 16 + FEW * FEW];
 
 static uint32_t few(uint32_t n)
 {
@@ -27,7 +28,7 @@ static void see_laps(const uint8_t *fit, size_t size)
             lines += fit[v.at[lap] + PZ_COMMAND_BYTES * (size_t)i] == PZ_LINE;
             arcs += fit[v.at[lap] + PZ_COMMAND_BYTES * (size_t)i] == PZ_ARC;
         }
-        seen[4 * 16 + FEW * few(lines) + few(arcs)] = 1;
+        seen[CALLS * 16 + FEW * few(lines) + few(arcs)] = 1;
     }
 }
 
@@ -49,7 +50,9 @@ int LLVMFuzzerTestOneInput(const uint8_t *data, size_t size)
     size -= 8;
     case_number++;
     see(0, try_text(data, size));
-    see(1, try_fit(data, size, tolerance, size % 2 ? PZ_MOST_OUTPUT_BYTES : size % PZ_MOST_OUTPUT_BYTES));
+    size_t room = size % 2 ? PZ_MOST_OUTPUT_BYTES : size % PZ_MOST_OUTPUT_BYTES;
+    see(1, try_fit(pz_fit_file, data, size, tolerance, room));
+    see(4, try_fit(pz_fit_hills, data, size, tolerance, room));
     struct view v = look(data, size);
     if (v.laps && (!v.row || v.row > PZ_BAD_FILE)) {
         struct lap l = {data + v.at[0], v.count[0], PZ_COMMAND_NUMBERS * v.count[0]};

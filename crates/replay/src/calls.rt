@@ -70,6 +70,7 @@ pub fn call(
         29 => crate::drawings::flatten_arc(kinds, numbers, t, bytes, out),
         30 => svg::reading::read_course(recorded, bytes),
         31 => crate::straights::fewest_straights(numbers, t, h.first, h.second, out),
+        32 => lap_fit::fit::fit_hills(recorded, t, bytes),
         _ => Answer::Refused(DAMAGED),
     }
 }

@@ -8,6 +8,7 @@ geometry fit COUNT SEED | geometry recordings COUNT SEED | geometry grid-fit | g
 geometry flatten COUNT SEED | geometry bench-flatten
 geometry fewest COUNT SEED | geometry bench-fewest
 geometry course COUNT SEED | geometry laps COUNT SEED | geometry grid-course | geometry bench-laps
+geometry hills COUNT SEED | geometry bench-hills
 geometry lapfit COUNT SEED | geometry bench-lapfit
 geometry live COUNT SEED | geometry bench-live
 geometry svg COUNT SEED | geometry svg-numbers END | geometry bench-svg
@@ -18,7 +19,7 @@ geometry list COUNT SEED";
 fn run(words: &[String]) -> Option<bool> {
     use oracle::geometry::{
         arc, bench_bezier, bench_fewest, bench_fit, bench_flatten, bench_laps, bench_live, bench_simplify, bezier, course, fewest, fit,
-        flatten, frame, grid, grid_course, grid_fit, grid_simplify, laps, list, listing, live, simplify, svg,
+        flatten, frame, grid, grid_course, grid_fit, grid_simplify, hills, laps, list, listing, live, simplify, svg,
     };
     use std::io::{BufWriter, stdout};
 
@@ -34,6 +35,7 @@ fn run(words: &[String]) -> Option<bool> {
         ("bench-fewest", []) => Some(bench_fewest::run()),
         ("course", [count, seed]) => Some(frame::run(&course::FUNCTIONS, *count, *seed)),
         ("laps", [count, seed]) => Some(frame::run(&laps::FUNCTIONS, *count, *seed)),
+        ("hills", [count, seed]) => Some(frame::run(&hills::FUNCTIONS, *count, *seed)),
         ("lapfit", [count, seed]) => Some(frame::run(&listing::FUNCTIONS, *count, *seed)),
         ("live", [count, seed]) => Some(frame::run(&live::FUNCTIONS, *count, *seed)),
         ("bench-live", []) => Some(bench_live::run()),
@@ -50,6 +52,7 @@ fn run(words: &[String]) -> Option<bool> {
         ("bench-fit", []) => Some(bench_fit::run()),
         ("zigzag-in", [kib]) => Some(bench_fit::zigzag_in(*kib as usize)),
         ("bench-laps", []) => Some(bench_laps::run()),
+        ("bench-hills", []) => Some(bench_laps::hills()),
         ("bench-simplify", []) => Some(bench_simplify::run()),
         ("list", [count, seed]) => Some(list::list(*count as usize, *seed, &mut BufWriter::new(stdout())).is_ok()),
         _ => None,

@@ -1,20 +1,31 @@
 //! The time of a file's fit and of a replacement, and of the fit of a course: the proved functions and the given Rust on
-//! the same input, in one run. The Rust has the distance to the segment put in, as document 02, §4, asks of these calls.
+//! the same input, in one run. The Rust has the distance to the segment put in, as document 02, §4, asks of these calls; beside
+//! the hill fit it has that in x, y and z, and no arc trial (§14).
 //!
 //! Beside the proved functions on files stands that Rust's `fit_arcs` of each lap, with the reading of the file into
 //! its commands and the writing of the fitted file: once with document 01's rows, as the proved functions have them, and
 //! once with no check but of mark and table.
 use super::bench::{Output, Row, table};
 use super::bezier::steps_needed;
-use super::calls::{pz_fit_arcs, pz_fit_file, pz_replace_lap};
+use super::calls::{pz_fit_arcs, pz_fit_file, pz_fit_hills, pz_replace_lap};
 use super::draw::Draw;
 use super::laps::{bodies, body, file, recording};
-use super::shapes::track;
+use super::shapes::{noise, track};
 use super::simplify::{Commands, parts};
 use crate::random::Random;
 use raygeo::geo::types::{Command, Point3D};
 use raygeo_segment::geo::algo::fitting;
 use std::hint::black_box;
+
+/// A fit of lap files: that Rust's of a lap, and the proved one of a file.
+#[derive(Clone, Copy)]
+struct Sides {
+    given: fn(&[Command], f64) -> Vec<Command>,
+    proved: unsafe extern "C" fn(*const u8, usize, f64, *mut u8, usize, *mut usize) -> u32,
+}
+
+const FLAT: Sides = Sides { given: fitting::fit_arcs, proved: pz_fit_file };
+const HILLS: Sides = Sides { given: raygeo_hills::geo::algo::fitting::fit_arcs, proved: pz_fit_hills };
 
 /// Lines to these places, the first a Move.
 fn lines(plane: &[f64]) -> Commands {
@@ -59,8 +70,8 @@ fn read_all(bodies: &[&[u8]]) -> Vec<Lap> {
 }
 
 /// That Rust's fit of a lap, as the body of a file.
-fn fitted_lap(lap: &Lap, tolerance: f64) -> Vec<u8> {
-    let fitted = fitting::fit_arcs(&lap.commands, tolerance);
+fn fitted_lap(sides: Sides, lap: &Lap, tolerance: f64) -> Vec<u8> {
+    let fitted = (sides.given)(&lap.commands, tolerance);
     let mut bytes = Vec::with_capacity(73 * fitted.len());
     for (kind, points) in fitted.iter().skip(lap.put_in as usize).map(parts) {
         bytes.push(kind);
@@ -124,13 +135,13 @@ pub fn checked(bytes: &[u8], tolerance: f64) -> Result<Vec<Lap>, u32> {
     }
 }
 
-fn given_fit(bytes: &[u8], tolerance: f64, with_rows: bool) -> Vec<u8> {
+fn given_fit(sides: Sides, bytes: &[u8], tolerance: f64, with_rows: bool) -> Vec<u8> {
     let laps = if with_rows {
         checked(bytes, tolerance).expect("an input that is accepted")
     } else {
         read_all(&bodies(bytes).expect("a right table"))
     };
-    file(&laps.iter().map(|lap| fitted_lap(lap, tolerance)).collect::<Vec<_>>())
+    file(&laps.iter().map(|lap| fitted_lap(sides, lap, tolerance)).collect::<Vec<_>>())
 }
 
 /// The new commands come as a lap's body too, from which the rows read what the commands do not keep. No lap carries on here.
@@ -151,26 +162,30 @@ fn given_replacement(recorded: &[u8], fitted: &[u8], lap: usize, new: &[u8], tol
         let most = looked(new, &fresh) + others as f64;
         assert!((0.001..=1_000.0).contains(&tolerance) && most <= 800.0, "an input that is accepted");
     }
-    laps[lap - 1] = fitted_lap(&fresh, tolerance);
+    laps[lap - 1] = fitted_lap(FLAT, &fresh, tolerance);
     file(&laps)
 }
 
 fn whole(name: String, bytes: Vec<u8>, tolerance: f64, checked: bool) -> Row<'static> {
+    whole_by(FLAT, name, bytes, tolerance, checked)
+}
+
+fn whole_by(sides: Sides, name: String, bytes: Vec<u8>, tolerance: f64, checked: bool) -> Row<'static> {
     let (copy, mut out) = (bytes.clone(), vec![0; 58_920]);
     Row {
         name,
-        given: Box::new(move || given_fit(black_box(&copy), black_box(tolerance), checked).len()),
+        given: Box::new(move || given_fit(sides, black_box(&copy), black_box(tolerance), checked).len()),
         proved: Box::new(move || {
             let mut count = 0;
             // SAFETY: the lengths are those of the file and of the output
-            unsafe { pz_fit_file(bytes.as_ptr(), bytes.len(), tolerance, out.as_mut_ptr(), out.len(), &mut count) };
+            unsafe { (sides.proved)(bytes.as_ptr(), bytes.len(), tolerance, out.as_mut_ptr(), out.len(), &mut count) };
             count
         }),
     }
 }
 
 fn replaced(name: String, recorded: Vec<u8>, lap: usize, new: Commands, tolerance: f64, checked: bool) -> Row<'static> {
-    let fitted = given_fit(&recorded, tolerance, true);
+    let fitted = given_fit(FLAT, &recorded, tolerance, true);
     let (r, f, n, mut out) = (recorded.clone(), fitted.clone(), body(&new), vec![0; 58_920]);
     Row {
         name,
@@ -253,6 +268,39 @@ fn rows() -> Vec<Row<'static>> {
         rows.push(whole(format!("file of 64 laps, 768 commands, 2{how}"), recording(&short), 2.0, checked));
     }
     rows
+}
+
+/// A lap over hills: a track with a climb of a quarter of a metre a point, on and off, and a receiver's noise.
+fn over_hills(draw: &mut Draw, count: usize) -> Commands {
+    let mut lap = lines(&track(draw, count, 4.0, 1.0));
+    for (i, nine) in lap.numbers.chunks_exact_mut(9).enumerate() {
+        nine[2] = 350.0 + 0.25 * (i % 80).abs_diff(40) as f64 + noise(draw, 0.3);
+    }
+    lap
+}
+
+fn hill_rows() -> Vec<Row<'static>> {
+    let mut draw = Draw::new(Random::new(1));
+    let mut rows = Vec::new();
+    for count in [100, 200, 400, 700] {
+        let bytes = recording(&[over_hills(&mut draw, count)]);
+        rows.push(whole_by(HILLS, format!("hills, one lap of {count} commands, 2"), bytes, 2.0, true));
+    }
+    let mut laps = |counts: &[usize]| recording(&counts.iter().map(|n| over_hills(&mut draw, *n)).collect::<Vec<_>>());
+    let (six, short) = (laps(&[133, 133, 133, 133, 134, 134]), laps(&[12; 64]));
+    for (checked, how) in [(true, ""), (false, ", Rust without checks")] {
+        for tolerance in [0.5, 2.0, 5.0] {
+            let name = format!("hills, six laps, 800 commands, {tolerance}{how}");
+            rows.push(whole_by(HILLS, name, six.clone(), tolerance, checked));
+        }
+        rows.push(whole_by(HILLS, format!("hills, 64 laps, 768 commands, 2{how}"), short.clone(), 2.0, checked));
+    }
+    rows
+}
+
+/// Prints the table of the hill fit, and answers whether both sides made as many bytes of each input.
+pub fn hills() -> bool {
+    table("made", hill_rows())
 }
 
 /// Prints the table, and answers whether both sides made as many commands or bytes of each input.

@@ -346,6 +346,15 @@ unsafe extern "C" {
         count: *mut usize,
     ) -> u32;
 
+    pub fn pz_fit_hills(
+        recorded: *const u8,
+        length: usize,
+        tolerance: f64,
+        out: *mut u8,
+        room: usize,
+        count: *mut usize,
+    ) -> u32;
+
     pub fn pz_replace_lap(
         recorded: *const u8,
         length: usize,

@@ -16,6 +16,7 @@ use super::out_and_back;
 use super::shapes::{noise, on_track};
 use super::simplify::{Commands, behind, parts, spoil, unmatch};
 use super::table::{self, Row, refusal};
+use raygeo::geo::types::Command;
 use raygeo_segment::geo::algo::fitting::fit_arcs;
 
 pub const FUNCTIONS: [Function; 3] = [draw_fit, draw_replacement, draw_again];
@@ -236,15 +237,36 @@ impl Replacement {
 /// A lap as it is to be written, and where its fit stands.
 type Made = (Vec<u8>, Stands);
 
-/// That Rust's fit of a lap, without the Move that was put in.
-fn fit_of_lap(lap: &Started, tolerance: f64) -> Made {
-    let data = lap.commands.given();
-    let answer = fit_arcs(&data, tolerance);
-    let stands = way_of_arcs(&data, tolerance).stands(&answer);
-    let all: Vec<_> = answer.iter().skip(lap.put_in as usize).map(parts).collect();
+/// A fit of lap files: its name, the proved function, and the Rust's fit of a lap's commands, with where that stands.
+pub struct FileFit {
+    pub function: &'static str,
+    pub proved: unsafe extern "C" fn(*const u8, usize, f64, *mut u8, usize, *mut usize) -> u32,
+    pub lap: fn(&[Command], f64) -> (Vec<Command>, Stands),
+}
+
+/// The flat fit, by the distance to the segment in x and y.
+const FLAT: FileFit = FileFit {
+    function: "fit_file",
+    proved: pz_fit_file,
+    lap: |data, tolerance| {
+        let answer = fit_arcs(data, tolerance);
+        let stands = way_of_arcs(data, tolerance).stands(&answer);
+        (answer, stands)
+    },
+};
+
+/// Commands as a lap's body, without the Move that was put in.
+pub fn written_lap(lap: &Started, commands: &[Command]) -> Vec<u8> {
+    let all: Vec<_> = commands.iter().skip(lap.put_in as usize).map(parts).collect();
     let kinds = all.iter().map(|part| part.0).collect();
     let numbers = all.iter().flat_map(|part| part.1).flat_map(|p| [p.x, p.y, p.z]).collect();
-    (body(&Commands { kinds, numbers }), stands)
+    body(&Commands { kinds, numbers })
+}
+
+/// The Rust's fit of a lap.
+fn fit_of_lap(fit: &FileFit, lap: &Started, tolerance: f64) -> Made {
+    let (answer, stands) = (fit.lap)(&lap.commands.given(), tolerance);
+    (written_lap(lap, &answer), stands)
 }
 
 fn written(made: &[Made]) -> Vec<u8> {
@@ -252,7 +274,7 @@ fn written(made: &[Made]) -> Vec<u8> {
 }
 
 /// What stands in the output, in the count and in what is lent behind them, once these bytes are written.
-fn left(before: &[Lent], room: usize, bytes: &[u8]) -> Vec<Lent> {
+pub fn left(before: &[Lent], room: usize, bytes: &[u8]) -> Vec<Lent> {
     let mut left = vec![Lent::byte_room(room, bytes), before[1].written(&[bytes.len() as u64])];
     left.extend_from_slice(&before[2..]);
     left
@@ -295,8 +317,12 @@ pub fn argument(name: &'static str, bytes: &[u8]) -> Argument {
 }
 
 pub fn fit_of(recorded: &[u8], tolerance: f64, room: usize) -> Judged {
+    fit_by(&FLAT, recorded, tolerance, room)
+}
+
+pub fn fit_by(fit: &FileFit, recorded: &[u8], tolerance: f64, room: usize) -> Judged {
     let call = Call {
-        function: "fit_file",
+        function: fit.function,
         arguments: vec![
             ("tolerance", patterns(&[tolerance])),
             argument("recorded", recorded),
@@ -309,11 +335,11 @@ pub fn fit_of(recorded: &[u8], tolerance: f64, room: usize) -> Judged {
     let compared = call.compare(
         |lent| unsafe {
             let (out, count, file) = (lent[0].as_mut_ptr(), lent[1].as_mut_ptr(), lent[2].as_mut_ptr::<u8>());
-            pz_fit_file(file, recorded.len(), tolerance, out, room, count)
+            (fit.proved)(file, recorded.len(), tolerance, out, room, count)
         },
         |before| {
             let laps = laps_of(recorded).expect("a table that was accepted");
-            made = started(&laps).iter().map(|lap| fit_of_lap(lap, tolerance)).collect();
+            made = started(&laps).iter().map(|lap| fit_of_lap(fit, lap, tolerance)).collect();
             left(before, room, &written(&made))
         },
     );
@@ -355,7 +381,7 @@ pub fn replacement_of(r: &Replacement) -> Judged {
             let all = bodies(&r.fitted).expect("a table that was accepted");
             made = all.iter().map(|body| (body.to_vec(), Stands::UNTRIED)).collect();
             for (place, lap) in r.refitted() {
-                made[place] = fit_of_lap(&lap, r.tolerance);
+                made[place] = fit_of_lap(&FLAT, &lap, r.tolerance);
             }
             left(before, r.room, &written(&made))
         },
@@ -408,8 +434,14 @@ pub fn workout(draw: &mut Draw) -> Vec<Commands> {
 /// A lap of so many commands: Lines, with Arcs and Beziers among them or not. All its numbers are in the domain, since a
 /// file of many laps would else seldom be accepted; bad ones are put in afterwards.
 pub fn lap(draw: &mut Draw, count: usize) -> Commands {
-    let inside = |x: f64| if x.is_nan() { 0.0 } else { x.clamp(-1_000_000.0, 1_000_000.0) };
-    let ends: Vec<f64> = out_and_back::points(draw, count).into_iter().map(inside).collect();
+    let ends = out_and_back::points(draw, count);
+    lap_through(draw, &ends)
+}
+
+/// A lap through these ends, triples, each number taken into the domain.
+pub fn lap_through(draw: &mut Draw, ends: &[f64]) -> Commands {
+    let inside = |x: &f64| if x.is_nan() { 0.0 } else { x.clamp(-1_000_000.0, 1_000_000.0) };
+    let ends: Vec<f64> = ends.iter().map(inside).collect();
     let (arcs, curves) = draw.of(&[(0, 0), (0, 0), (6, 0), (0, 6), (5, 5)]);
     let (mut c, mut last) = (Commands { kinds: Vec::new(), numbers: Vec::new() }, vec![0.0; 3]);
     for (i, end) in ends.chunks(3).enumerate() {
@@ -428,7 +460,7 @@ pub fn lap(draw: &mut Draw, count: usize) -> Commands {
 }
 
 /// How many commands each lap has.
-fn counts(draw: &mut Draw) -> Vec<usize> {
+pub fn counts(draw: &mut Draw) -> Vec<usize> {
     match draw.below(6) {
         0 => {
             let laps = draw.edge(&[(63, "file: 63 laps"), (64, "file: 64 laps"), (65, "file: 65 laps")]);
@@ -472,7 +504,7 @@ pub fn carry_on(lap: &mut Commands) {
 }
 
 /// Lets laps behind the first carry on: none, every second one, all, or any.
-fn carried(draw: &mut Draw, laps: &mut [Commands]) {
+pub fn carried(draw: &mut Draw, laps: &mut [Commands]) {
     let (way, other) = (draw.below(5), draw.below(2));
     let labels = ["every second lap carries on", "all laps but the first carry on", "any laps carry on"];
     let Some(label) = labels.get(way) else { return };
@@ -485,7 +517,7 @@ fn carried(draw: &mut Draw, laps: &mut [Commands]) {
 }
 
 /// The laps of a recording, all in order.
-fn laps(draw: &mut Draw) -> Vec<Commands> {
+pub fn laps(draw: &mut Draw) -> Vec<Commands> {
     let mut laps = laps_with_moves(draw);
     carried(draw, &mut laps);
     laps
@@ -592,7 +624,7 @@ fn damage(draw: &mut Draw, bytes: &mut Vec<u8>) {
 }
 
 /// A tolerance for all laps: about that at which the most is 800, or any.
-fn tolerance_for(draw: &mut Draw, laps: &[Commands]) -> f64 {
+pub fn tolerance_for(draw: &mut Draw, laps: &[Commands]) -> f64 {
     let all = Commands {
         kinds: laps.iter().flat_map(|lap| lap.kinds.clone()).collect(),
         numbers: laps.iter().flat_map(|lap| lap.numbers.clone()).collect(),
@@ -617,8 +649,13 @@ fn room(draw: &mut Draw, laps: usize, most: f64) -> usize {
 
 /// A file, now and then with something wrong, a tolerance, and an output's room.
 pub fn any_file(draw: &mut Draw) -> (Vec<u8>, f64, usize) {
-    let mut laps = laps(draw);
+    let laps = laps(draw);
     let tolerance = tolerance_for(draw, &laps);
+    file_with(draw, laps, tolerance)
+}
+
+/// A file of these laps, now and then with something wrong, and an output's room.
+pub fn file_with(draw: &mut Draw, mut laps: Vec<Commands>, tolerance: f64) -> (Vec<u8>, f64, usize) {
     let room = room(draw, laps.len(), most_of(&laps, tolerance));
     spoilt(draw, &mut laps);
     let mut bytes = recording(&laps);
@@ -639,7 +676,7 @@ fn given_fit(recorded: &[u8], tolerance: f64) -> Vec<u8> {
         return recorded.to_vec();
     }
     let laps = laps_of(recorded).expect("a table that was accepted");
-    written(&started(&laps).iter().map(|lap| fit_of_lap(lap, tolerance)).collect::<Vec<_>>())
+    written(&started(&laps).iter().map(|lap| fit_of_lap(&FLAT, lap, tolerance)).collect::<Vec<_>>())
 }
 
 /// Bodies of any bytes, for so many laps and commands.

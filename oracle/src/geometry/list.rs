@@ -28,10 +28,12 @@
 use super::frame::Compared;
 use super::laps::first_bytes;
 use super::lent::{Lent, Purpose};
-use super::{list_bezier, list_course, list_fewest, list_fit, list_flatten, list_laps, list_live, list_simplify, list_svg};
+use super::{
+    list_bezier, list_course, list_fewest, list_fit, list_flatten, list_hills, list_laps, list_live, list_simplify, list_svg,
+};
 use std::io::{Result, Write};
 
-const NAMES: [&str; 32] = [
+const NAMES: [&str; 33] = [
     "get_midpoint_3d",
     "get_bezier_point_at",
     "split_bezier",
@@ -64,6 +66,7 @@ const NAMES: [&str; 32] = [
     "flatten_arc",
     "read_course",
     "fewest_straights",
+    "fit_hills",
 ];
 
 const VALUES: [&str; 4] = ["t", "tolerance_sq", "resolution", "tolerance"];
@@ -161,7 +164,7 @@ pub fn filled(mut records: Vec<Record>, count: usize, mut drawn: impl FnMut(usiz
 type Layer = fn(usize, u64) -> Vec<Record>;
 
 /// The layers, each with its share of a list.
-const LAYERS: [(usize, Layer); 9] = [
+const LAYERS: [(usize, Layer); 10] = [
     (200, list_bezier::records),
     (100, list_simplify::records),
     (100, list_fit::records),
@@ -171,6 +174,7 @@ const LAYERS: [(usize, Layer); 9] = [
     (10, list_flatten::records),
     (16, list_svg::records),
     (10, list_fewest::records),
+    (12, list_hills::records),
 ];
 
 /// Writes `count` records, layer by layer, each from the seed.

@@ -11,10 +11,10 @@ const HAIRPINS: &str = "points: hairpins";
 pub const LABELS: [&str; 3] = [SHUTTLE, SPIKES, HAIRPINS];
 
 /// A place by metres along a line, and across it.
-type Place = [f64; 2];
+pub type Place = [f64; 2];
 
 /// Out and back on one line: each leg ends at a mark, which is part of the way back, the start, or behind that.
-fn shuttle(draw: &mut Draw, count: usize) -> Vec<Place> {
+pub fn shuttle(draw: &mut Draw, count: usize) -> Vec<Place> {
     draw.label(SHUTTLE);
     let (mut at, mut left, mut step) = (0.0, 0, 0.0);
     (0..count)
