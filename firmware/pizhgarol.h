@@ -25,6 +25,8 @@
    - a fit of a course: one command for each Move, Line and Arc, and one for each step of a Bezier; above 800 refused;
    - a fit of a file: 8 + 8 * L + 73 * most bytes, most as for a course; at most 58,920 bytes in all (64 laps, 800 commands);
    - a replacement: the same, with the mosts of the laps that are fitted plus the fitted file's commands in all other laps;
+   - the asking for one: 73 * most bytes, the mosts of the laps that are fitted; its commit: as a file of the part's commands plus
+     the fitted file's in all other laps;
    - an Arc drawn by Lines: 4,096 commands;
    - a curve as n steps: n times six numbers; as parts halved d times: 1 + 2^d points;
    - the fewest straights of n points: n - 1 points;
@@ -91,6 +93,8 @@ uint32_t pz_version(void);
 #define PZ_NO_ROOM 9u       /* the lent output holds less than the most */
 #define PZ_CLOSED 10u       /* a call on a live thinner that was closed */
 #define PZ_NOT_DRAWABLE 11u /* pz_flatten_arc alone, before 8 and 9: see there */
+#define PZ_OLD_TICKET 12u   /* a commit's ticket is not of the session's edit number */
+#define PZ_FULL_SESSION 13u /* the session stands at PZ_MOST_EDITS or above */
 #define PZ_BAD_TEXT 14u     /* path data that breaks its rules */
 
 /* Kinds of a command. */
@@ -107,6 +111,7 @@ uint32_t pz_version(void);
 #define PZ_MOST_LAPS 64
 #define PZ_MOST_FILE_BYTES 65536u
 #define PZ_MOST_OUTPUT_BYTES 58920u
+#define PZ_MOST_EDITS 1000000u
 
 /* How many bytes a file of so many laps and commands has. */
 static inline size_t pz_file_bytes(size_t laps, size_t commands)
@@ -134,6 +139,79 @@ uint32_t pz_replace_lap(
     const uint8_t *kinds, size_t kinds_length, const double *nums, size_t nums_length,
     double tolerance,
     uint8_t *out, size_t out_bytes, size_t *count);
+
+/* A replacement in two steps: look first, then store. A session is one number, how many commits it accepted, from 0; a ticket is
+   what an asking gives. The caller keeps both, and hands each call the last one's session. Any ticket, session and part may be
+   handed in: what does not fit meets a refusal. */
+typedef struct {
+    uint32_t edits;
+} pz_session;
+
+typedef struct {
+    size_t lap;
+    double tolerance;
+    uint32_t edit;
+    size_t count; /* the commands that the lap was fitted to */
+    size_t next;  /* those of the next lap, 0 where it is not fitted again */
+} pz_ticket;
+
+/* How many bytes of the buffer an asking wrote: the part that its commit takes. */
+static inline size_t pz_part_bytes(const pz_ticket *t)
+{
+    return PZ_COMMAND_BYTES * (t->count + t->next);
+}
+
+/* Asks for the replacement of lap `lap`: the laps that it would fit again, lap `lap` and the next where that lacks its Move, are
+   fitted to the front of `buffer`, in the bytes of a file, and the whole ticket is written; no file changes. Refusals: 1 to 9 as
+   pz_replace_lap, with PZ_NO_ROOM for a buffer below 73 bytes for each command of these laps' mosts. */
+uint32_t pz_ask_lap(
+    const uint8_t *recorded, size_t recorded_bytes,
+    const uint8_t *fitted, size_t fitted_bytes,
+    uint32_t edits, size_t lap,
+    const uint8_t *kinds, size_t kinds_length, const double *nums, size_t nums_length,
+    double tolerance,
+    uint8_t *buffer, size_t buffer_bytes,
+    size_t *ticket_lap, double *ticket_tolerance, uint32_t *ticket_edit, size_t *ticket_count, size_t *ticket_next);
+
+/* Commits it: `out` gets the file that the replacement writes, `part`, exactly the bytes that the asking wrote, being the bodies of
+   the laps that were fitted again, as they stand; *written is its bytes, and *edits is raised by 1. Refusals, in this order:
+   PZ_OLD_TICKET, PZ_FULL_SESSION, then 1 to 9 as pz_replace_lap: 1 a part that is not whole commands; 2 one above 800 commands;
+   3 counts that do not add up to the part's commands, are 0 for a lap that is fitted again or not 0 for one that is not; 4 a Move
+   missing or misplaced, or in the next lap's part, a Bezier, an unknown kind or an unused number that is not +0; 5 a number that
+   is not finite; 8 and 9 by the part's commands and those of the laps that stay. A ticket serves once: its commit raises the edit
+   number, and PZ_OLD_TICKET is the answer from then on. */
+uint32_t pz_commit_lap(
+    size_t lap, double tolerance, uint32_t edit, size_t count, size_t next,
+    uint32_t *edits,
+    const uint8_t *recorded, size_t recorded_bytes,
+    const uint8_t *fitted, size_t fitted_bytes,
+    const uint8_t *part, size_t part_bytes,
+    uint8_t *out, size_t out_bytes, size_t *written);
+
+static inline uint32_t pz_session_ask(
+    const pz_session *s,
+    const uint8_t *recorded, size_t recorded_bytes,
+    const uint8_t *fitted, size_t fitted_bytes,
+    size_t lap,
+    const uint8_t *kinds, size_t kinds_length, const double *nums, size_t nums_length,
+    double tolerance,
+    uint8_t *buffer, size_t buffer_bytes,
+    pz_ticket *t)
+{
+    return pz_ask_lap(recorded, recorded_bytes, fitted, fitted_bytes, s->edits, lap, kinds, kinds_length, nums, nums_length,
+        tolerance, buffer, buffer_bytes, &t->lap, &t->tolerance, &t->edit, &t->count, &t->next);
+}
+
+static inline uint32_t pz_session_commit(
+    pz_session *s, const pz_ticket *t,
+    const uint8_t *recorded, size_t recorded_bytes,
+    const uint8_t *fitted, size_t fitted_bytes,
+    const uint8_t *part, size_t part_bytes,
+    uint8_t *out, size_t out_bytes, size_t *written)
+{
+    return pz_commit_lap(t->lap, t->tolerance, t->edit, t->count, t->next, &s->edits, recorded, recorded_bytes, fitted, fitted_bytes,
+        part, part_bytes, out, out_bytes, written);
+}
 
 /* Fits points in space; *count is the commands. The first point is where the first command starts. *ranges is how many
    ranges of points the fit looked at, for planning the battery: 0 below two points, else 2 * commands - 1. `worst` gets

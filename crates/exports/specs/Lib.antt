@@ -1,3 +1,4 @@
 pub mod Plain
 pub mod LiveState
+pub mod SessionState
 pub mod Version

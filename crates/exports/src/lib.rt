@@ -12,6 +12,7 @@ pub mod drawings;
 pub mod fits;
 pub mod flattens;
 pub mod lap_files;
+pub mod lap_sessions;
 pub mod live_thinner;
 pub mod numbers;
 pub mod points;
