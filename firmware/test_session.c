@@ -166,9 +166,9 @@ static void test_last_edit(void)
     check(commit(&d, &d.ticket) == PZ_OLD_TICKET, "12 comes before 13");
     check(ask(&d, 1, corner) == PZ_DONE, "an asking is not counted");
     d.part_bytes = 0;
-    check(commit(&d, &d.ticket) == PZ_TOO_MANY_EDITS, "13 comes before the part");
+    check(commit(&d, &d.ticket) == PZ_FULL_SESSION, "13 comes before the part");
     d.session.edits = d.ticket.edit = 0xffffffffu;
-    check(commit(&d, &d.ticket) == PZ_TOO_MANY_EDITS, "and at every number above");
+    check(commit(&d, &d.ticket) == PZ_FULL_SESSION, "and at every number above");
 }
 
 /* Fields of a ticket that were made up. */
