@@ -511,12 +511,13 @@ fn proved_replacement(r: &Replacement, room: usize) -> Option<Vec<u8>> {
 
 /// Room for what is needed, or about that.
 fn room(draw: &mut Draw, full: usize) -> usize {
+    let more = draw.below(3_000);
     match draw.below(14) {
         0 => draw.labelled("room one byte short", full.saturating_sub(1)),
         1 => draw.labelled("room one command short", full.saturating_sub(COMMAND)),
         2 => draw.labelled("hardly any room", full.min(8)),
         3 | 4 => draw.labelled("room exactly full", full),
-        _ => ROOM,
+        _ => full + more,
     }
 }
 
