@@ -8,6 +8,7 @@ use borrow.Author.Tests.{eq-eqb, ne-eqb, eqb-true, not-false, lt-ltb, le-ltb, lt
 use lib.ListN.{length, drop}
 use lib.Dec.{ltb, leb, eqb}
 use lib.Ieee.{Float}
+use Rattle.floats.proofs.Order.{or-false}
 use Rattle.geo.specs.declared.types.Answer.the-variants as answer
 use Rattle.geo.specs.Outcome as outcome
 use Rattle.geo.specs.Outcome.{refusal, unless, left, refused, gives}
@@ -23,7 +24,7 @@ use Rattle.lap_replace.proofs.Rows.{NewPassed, new-passed-with, behind-new, new
 use Rattle.lap_session.specs.declared.session.Session.{Session}
 use Rattle.lap_session.specs.declared.session.Ticket.{Ticket}
 use Rattle.lap_session.specs.declared.session.Asked.the-variants as asked
-use Rattle.lap_session.specs.Session.{raised, mostEdits, askRows, Answered, answerFor, askedAs, bytesAsked, Answers, partNew, commitRows, Stored, bytesStored, sessionAfter, Commits}
+use Rattle.lap_session.specs.Session.{edited, mostEdits, askRows, Answered, answerFor, askedAs, bytesAsked, Answers, partNew, commitRows, Stored, bytesStored, sessionAfter, Commits}
 
 -- ---- an asking
 module _ (s f : List ℕ) (k : ℕ) (new : NewLap) (tol : Float) (room : ℕ) where
@@ -131,9 +132,9 @@ not-stored n r e a out h z =
     rw q (record { wrote = record { says = ap answer.Refused h; leaves = refl }; session = refl })
 
 pub is-stored : (n r : ℕ) (e : Session) (bs out out′ : List ℕ) (k : ℕ) → r ≡ n → r ≡ 0 → (k ≡ length bs) × (out′ ≡ bs ++ drop (length bs) out)
-    → Commits e (unless n (record { bytes = bs; session = raised e })) out out′ (record { answer = answer.Written k; session = raised e })
+    → Commits e (unless n (record { bytes = bs; session = edited e })) out out′ (record { answer = answer.Written k; session = edited e })
 unfolding bytesStored sessionAfter outcome.answer left
 is-stored n r e bs out out′ k h z w =
-    let a : Stored = record { bytes = bs; session = raised e } in
+    let a : Stored = record { bytes = bs; session = edited e } in
     let q : unless n a ≡ gives a = unless-gives n a (sym h ∙ z) in
     rw q (record { wrote = record { says = ap answer.Written (w .0); leaves = w .1 }; session = refl })

@@ -23,8 +23,8 @@ use Rattle.lap_session.specs.declared.session.Committed as committing
 abbrev pub begun : Session
 begun = record { edits = 0 }
 
-abbrev pub raised : Session → Session
-raised e = record { edits = e .edits + 1 }
+abbrev pub edited : Session → Session
+edited e = record { edits = e .edits + 1 }
 
 -- "13 when the session stands at 1,000,000 or above"
 abbrev pub mostEdits : ℕ
@@ -104,7 +104,7 @@ pub record Stored : Type 0 where
 
 -- "writes what replacement writes, that part as it stands being the lap's body"
 abbrev pub storedBy : Ticket → Session → List ℕ → List ℕ → List ℕ → Stored
-storedBy t e s f part = record { bytes = encode (storedLaps (t .lap) (lapsOf s) part (t .count) (t .next) (lapsOf f)); session = raised e }
+storedBy t e s f part = record { bytes = encode (storedLaps (t .lap) (lapsOf s) part (t .count) (t .next) (lapsOf f)); session = edited e }
 
 unfoldable pub commitLap : Ticket → Session → List ℕ → List ℕ → List ℕ → ℕ → Outcome Stored
 commitLap t e s f part room = unless (refusal (commitRows t e s f part room)) (storedBy t e s f part)

@@ -41,7 +41,7 @@ use Rattle.lap_replace.proofs.New.{length-lent, lent-most, lent-fit, lent-end}
 use Rattle.lap_replace.proofs.Rows.{NewPassed, past-7, new-sizes, replace-passed}
 use Rattle.lap_session.specs.declared.session.Session.{Session}
 use Rattle.lap_session.specs.declared.session.Ticket.{Ticket}
-use Rattle.lap_session.specs.Session.{raised, mostEdits, askRows, Answered, ticketFor, answerFor, askLap, firstPart, nextPart, partFormed, partFinite, partNew, countsAgree, commitRows, Stored, storedBy, commitLap, bytesStored}
+use Rattle.lap_session.specs.Session.{edited, mostEdits, askRows, Answered, ticketFor, answerFor, askLap, firstPart, nextPart, partFormed, partFinite, partNew, countsAgree, commitRows, Stored, storedBy, commitLap, bytesStored}
 use Rattle.lap_session.proofs.Part.{inside, counts-both, counts-one}
 use Rattle.lap_session.proofs.Rows.{behind-session}
 use Rattle.session_laws.specs.Demand.{FittedFormed, FittedFinite, AskThenCommit, SameOutcome}
@@ -99,7 +99,7 @@ module _ (x y : Lap) (wx : EachFull x) (wy : EachFull y) where
 
 -- a file that is stored
 abbrev storedAs : Session → List ℕ → Outcome Stored
-storedAs e bs = gives (record { bytes = bs; session = raised e })
+storedAs e bs = gives (record { bytes = bs; session = edited e })
 
 -- ---- an accepted replacement, whose asking was accepted too
 module _ (s f : List ℕ) (k : ℕ) (ks : List ℕ) (ns : List Float) (tol : Float) (held : Held ns) (p : NewPassed s f k (lentNew tol (lapsOf s) k ks ns) tol)
@@ -316,7 +316,7 @@ module _ (s f : List ℕ) (k : ℕ) (ks : List ℕ) (ns : List Float) (tol : Flo
         ∙ size-0 (lapCount f) (mostWith (partNew t ls part) k s f) room (omega (arith, a, few)) (omega (arith, a, space))
 
     -- The commit writes what the replacement writes.
-    commits : (g : List ℕ) → encode (replacedLaps rule k ks ns ls (lapsOf f)) ≡ g → commitLap t e′ s f part room ≡ gives (record { bytes = g; session = raised e′ })
+    commits : (g : List ℕ) → encode (replacedLaps rule k ks ns ls (lapsOf f)) ≡ g → commitLap t e′ s f part room ≡ gives (record { bytes = g; session = edited e′ })
     unfolding commitLap
     commits g q =
         let b : encode (storedLaps k ls part (length fit) (length next) (lapsOf f)) ≡ g = ap encode (as-replaced rule pos s f k ks ns [] part (length fit) (length next) put) ∙ q in
@@ -334,7 +334,7 @@ ask-then-commit s f k ks ns tol held e room a h r g q e′ i j =
     let v = unless-given (refusal (replaceRows s f k (lentNew tol (lapsOf s) k ks ns) tol r)) (encode (replacedLaps (lapsRule tol) k ks ns (lapsOf s) (lapsOf f))) g q in
     let p = replace-passed s f k (lentNew tol (lapsOf s) k ks ns) tol r (v .0) in
     let c : a .ticket .edit ≡ e .edits = ap (λ (z : Answered). z .ticket .edit) (sym (w .1)) in
-    subst (λ (z : Answered). commitLap (z .ticket) e′ s f (z .bytes) r ≡ gives (record { bytes = g; session = raised e′ })) (w .1)
+    subst (λ (z : Answered). commitLap (z .ticket) e′ s f (z .bytes) r ≡ gives (record { bytes = g; session = edited e′ })) (w .1)
     (commits s f k ks ns tol held (p .0) (p .1) e e′ r (p .2) (sym c ∙ i) j g (v .1))
 
 -- So it comes to what the replacement comes to: the same answer, the same output.

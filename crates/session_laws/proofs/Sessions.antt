@@ -7,7 +7,7 @@ use Rattle.geo.specs.Outcome.{Outcome, refusal, refused, gives}
 use Rattle.geo.proofs.Rows.{unless-refused, unless-given}
 use Rattle.lap_session.specs.declared.session.Session.{Session}
 use Rattle.lap_session.specs.declared.session.Ticket.{Ticket}
-use Rattle.lap_session.specs.Session.{raised, mostEdits, commitRows, Stored, storedBy, commitLap, sessionAfter}
+use Rattle.lap_session.specs.Session.{edited, mostEdits, commitRows, Stored, storedBy, commitLap, sessionAfter}
 use Rattle.lap_session.proofs.Rows.{commit-12, commit-passed}
 use Rattle.session_laws.specs.Sessions.{asks, commits, replaces, behindCall, behindAll, countStored, storedIn, ServesOnce, RaisedByCommits, NeverFalls, NeverPasses, ForgedStays}
 
@@ -15,7 +15,7 @@ use Rattle.session_laws.specs.Sessions.{asks, commits, replaces, behindC
 record Taken (t : Ticket) (e : Session) (a : Stored) : Type 0 where
   current : t .edit ≡ e .edits
   below : e .edits < mostEdits
-  next : a .session ≡ raised e
+  next : a .session ≡ edited e
 
 taken : (t : Ticket) (e : Session) (s f part : List ℕ) (room : ℕ) (a : Stored) → commitLap t e s f part room ≡ gives a → Taken t e a
 unfolding commitLap

@@ -15,7 +15,7 @@ use Rattle.laps.specs.File.{Lap, lacks, formOk, domainOk, fittedOk, finiteOk, l
 use Rattle.lap_fit.specs.Fit.{fitLap, mostLap}
 use Rattle.lap_replace.specs.Replace.{replaceLap}
 use Rattle.lap_session.specs.declared.session.Session.{Session}
-use Rattle.lap_session.specs.Session.{raised, mostEdits, Answered, askLap, commitLap, bytesStored}
+use Rattle.lap_session.specs.Session.{edited, mostEdits, Answered, askLap, commitLap, bytesStored}
 
 -- The fit of a lap that passes row 4 passes it, as a fitted lap too: its Move stands first or is lacking as in the lap, it has no Bezier, and its unused numbers are +0.
 abbrev pub FittedFormed : Type 0
@@ -38,7 +38,7 @@ AskThenCommit =
     → (e : Session) (room : ℕ) (a : Answered) → askLap s f e k ks ns tol room ≡ gives a
     → (r : ℕ) (g : List ℕ) → replaceLap s f k ks ns tol r ≡ gives g
     → (e′ : Session) → a .ticket .edit ≡ e′ .edits → e′ .edits < mostEdits
-    → commitLap (a .ticket) e′ s f (a .bytes) r ≡ gives (record { bytes = g; session = raised e′ })
+    → commitLap (a .ticket) e′ s f (a .bytes) r ≡ gives (record { bytes = g; session = edited e′ })
 
 -- the same as an equation of outcomes
 abbrev pub SameOutcome : Type 0
