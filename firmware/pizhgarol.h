@@ -116,9 +116,9 @@ static inline size_t pz_file_bytes(size_t laps, size_t commands)
 }
 
 /* Fits each lap of a recorded file; *count is the fitted file's bytes. A lap after the first may lack its Move: it starts where
-   the last recorded command of the lap before it ends, and is fitted to commands without a Move. This call, the replacement of
-   a lap and the fit of a course measure from the segment between two points: the far turn of a run out and back stays. Every
-   other call measures from the endless line through them. Refusals: 1 to 6, 8, 9. */
+   the last recorded command of the lap before it ends, and is fitted to commands without a Move. This call, pz_fit_hills, the
+   replacement of a lap and the fit of a course measure from the segment between two points: the far turn of a run out and back
+   stays. Every other call measures from the endless line through them. Refusals: 1 to 6, 8, 9. */
 uint32_t pz_fit_file(
     const uint8_t *recorded, size_t recorded_bytes,
     double tolerance,
