@@ -1,7 +1,6 @@
 -- A ticket and a session as a caller lends them, field by field, and what an asking and a commit leave in plain numbers. Definitions only.
 use Prim.Native.Nat.{ℕ}
 use mathlib.Core.Path.{_≡_}
-use mathlib.Core.List.{List}
 use lib.ListN.{length}
 use lib.Ieee.{Float}
 use Rattle.geo.specs.Outcome.{Outcome}

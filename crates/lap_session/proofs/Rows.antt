@@ -1,8 +1,8 @@
 -- The rows of an asking and of a commit: what each test of the code tells of a row, what a call has that passes them, and what it answers. Assumes nothing.
 use Prim.Native.Nat.{ℕ, _+_, _*_, _/_, _≤_, _<_}
 use mathlib.Core.Path.{_≡_, refl, sym, ap, _∙_}
-use mathlib.Core.Bool.{Bool, true, false, not, _||_}
-use mathlib.Core.List.{List, [], _∷_, _++_}
+use mathlib.Core.Bool.{not, _||_}
+use mathlib.Core.List.{List, [], _++_}
 use native.Mathlib.Omega.{arith}
 use borrow.Author.Tests.{eq-eqb, ne-eqb, eqb-true, not-false, lt-ltb, le-ltb, ltb-false, le-leb, lt-leb, leb-true, leb-false}
 use lib.ListN.{length, drop}
@@ -23,8 +23,7 @@ use Rattle.lap_replace.proofs.Rows.{NewPassed, new-passed-with, behind-new, new
 use Rattle.lap_session.specs.declared.session.Session.{Session}
 use Rattle.lap_session.specs.declared.session.Ticket.{Ticket}
 use Rattle.lap_session.specs.declared.session.Asked.the-variants as asked
-use Rattle.lap_session.specs.declared.session.Committed.{Committed}
-use Rattle.lap_session.specs.Session.{raised, mostEdits, askRows, Answered, ticketFor, answerFor, askedAs, bytesAsked, Answers, partNew, commitRows, Stored, bytesStored, sessionAfter, Commits}
+use Rattle.lap_session.specs.Session.{raised, mostEdits, askRows, Answered, answerFor, askedAs, bytesAsked, Answers, partNew, commitRows, Stored, bytesStored, sessionAfter, Commits}
 
 -- ---- an asking
 module _ (s f : List ℕ) (k : ℕ) (new : NewLap) (tol : Float) (room : ℕ) where

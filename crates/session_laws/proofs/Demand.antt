@@ -5,7 +5,7 @@ use mathlib.Core.Bool.{Bool, true, false, not, _&&_, _||_}
 use mathlib.Core.List.{List, [], _∷_, _++_, append-nil, map}
 use native.Mathlib.Omega.{arith}
 use borrow.Author.Tests.{eq-eqb, ne-eqb, eqb-false, le-leb, not-false}
-use lib.ListN.{length, getD, drop, length-append}
+use lib.ListN.{length, getD, length-append}
 use lib.Seq.{drop-nil}
 use lib.Dec.{eqb, leb}
 use lib.Ieee.{Float}
@@ -13,11 +13,11 @@ use Rattle.floats.specs.Ops.{_≺_, +0}
 use Rattle.floats.proofs.Order.{clash, and-left, and-right}
 use Rattle.geo.specs.declared.types.Point3D.{Point3D}
 use Rattle.geo.specs.Lent.{origin}
-use Rattle.geo.specs.Domain.{whole, point3In, commandsFormed, commandsIn, tolerance}
+use Rattle.geo.specs.Domain.{whole, commandsIn}
 use Rattle.geo.specs.Outcome.{Outcome, refusal, gives}
 use Rattle.geo.proofs.Rows.{unless-given, unless-gives}
 use Rattle.geo.proofs.Tolerance.{tolerance-positive}
-use Rattle.file.specs.Command.{decoded, commandsAt, lentLap, Held, HeldPoint}
+use Rattle.file.specs.Command.{decoded, lentLap, Held, HeldPoint}
 use Rattle.fitting.specs.declared.fitting.Rule.{Rule}
 use Rattle.fitting.specs.Pieces.{lapsRule}
 use Rattle.course.specs.Course.{endOn, lentCourse}
@@ -25,16 +25,16 @@ use Rattle.course.specs.Finite.{CommandsIn}
 use Rattle.course.proofs.FiniteCenters.{Placed}
 use Rattle.course.proofs.FiniteCourse.{origin-placed}
 use Rattle.course.proofs.FinitePoints.{point-in}
-use Rattle.laps.specs.File.{Lap, lapCount, lapsOf, body, encode, short, big, lacks, formOk, domainOk, fittedOk, finiteOk, lapOk, lapTested, lapsOk, EachFull, commandCount}
+use Rattle.laps.specs.File.{Lap, lapCount, lapsOf, body, encode, short, big, lacks, formOk, domainOk, fittedOk, finiteOk, lapOk, lapTested, lapsOk, EachFull}
 use Rattle.laps.specs.Rows.{fileSize}
 use Rattle.laps.proofs.Here.{cond-false}
 use Rattle.laps.proofs.Rows.{or-false, size-0}
 use Rattle.laps.proofs.Turns.{length-laps-of}
 use Rattle.laps.proofs.Whole.{length-body}
-use Rattle.lap_fit.specs.Fit.{lapEnd, startFrom, startOf, fitLap, mostLap}
+use Rattle.lap_fit.specs.Fit.{lapEnd, startOf, fitLap, mostLap}
 use Rattle.lap_fit.proofs.Lap.{fit-some}
 use Rattle.lap_fit.proofs.Starts.{fit-no-lap}
-use Rattle.lap_replace.specs.Replace.{swapBoth, nextLacks, nextLap, lentFormed, movePlaced, mostBoth, lentNew, row1, row2, row4, row5, mostWith, replaceRows, newFit, nextFit, replacedLaps, storedLaps, PutBoth, replaceLap}
+use Rattle.lap_replace.specs.Replace.{nextLacks, nextLap, lentFormed, movePlaced, mostBoth, lentNew, row1, row2, row4, row5, mostWith, replaceRows, newFit, nextFit, replacedLaps, storedLaps, PutBoth, replaceLap}
 use Rattle.lap_replace.proofs.Body.{first-in, next-in, both-few, whole-new-fit, whole-next-fit, as-replaced}
 use Rattle.lap_replace.proofs.Finite.{near, at-in, lap-placed}
 use Rattle.lap_replace.proofs.New.{length-lent, lent-most, lent-fit, lent-end}

@@ -8,7 +8,7 @@ use Rattle.geo.specs.declared.types.Command.{Command}
 use Rattle.geo.specs.declared.types.Command.the-variants.{Move, Line, Arc, Bezier}
 use Rattle.geo.specs.Lent.{triple, origin, numbersOf}
 use Rattle.geo.specs.Domain.{isFinite, finite3}
-use Rattle.file.specs.Command.{decoded, enc, laid, pointFrom, HeldPoint}
+use Rattle.file.specs.Command.{decoded, enc, laid, HeldPoint}
 use Rattle.file.proofs.RoundTrip.{HeldCommand, laid-end, laid-second, laid-third}
 use Rattle.file.proofs.Stores.{enc-move, enc-line, enc-arc, enc-bezier}
 use Rattle.fitting.specs.declared.fitting.Rule.{Rule}

@@ -1,6 +1,6 @@
 -- Every number that a fit writes is one that an f64 holds, so that it is read back as it was written. Assumes nothing.
 use Prim.Native.Nat.{ℕ, zero, suc, _+_, _-_, _*_, _/_}
-use mathlib.Core.Path.{_≡_, sym, subst}
+use mathlib.Core.Path.{sym, subst}
 use mathlib.Core.Bool.{Bool, true, false}
 use mathlib.Core.List.{List, [], _∷_, _++_, map}
 use lib.ListN.{length, getD}
@@ -8,7 +8,7 @@ use lib.Dec.{T}
 use lib.Ieee.{Float, nan, binary64, fits, toUnsigned}
 use lib.Ieee.Bits.{ofBits-fits}
 use lib.Ieee.Fits.{add-fits, sub-fits, neg-fits}
-use Rattle.floats.specs.Ops.{_⊖_, _⊗_, +0, one}
+use Rattle.floats.specs.Ops.{_⊗_, one}
 use Rattle.floats.specs.Limits.{quarter}
 use Rattle.geo.specs.declared.types.Point3D.{Point3D}
 use Rattle.geo.specs.declared.types.Command.{Command}
@@ -16,8 +16,8 @@ use Rattle.geo.specs.declared.types.Command.the-variants.{Move, Line, Arc, Bezi
 use Rattle.geo.specs.Walk.{listFrom}
 use Rattle.geo.specs.Lent.{pointAt, triple, flat, origin, endOf, commandOf}
 use Rattle.geo.proofs.Flat.{flat-one}
-use Rattle.bezier.specs.Curve.{mixed, pointOn3, weightsAt}
-use Rattle.bezier.specs.Linearize.{stepEnd, stepAt, steps, share, firstThird, lastThird, stepsNeeded, paramSteps}
+use Rattle.bezier.specs.Curve.{mixed, pointOn3}
+use Rattle.bezier.specs.Linearize.{stepEnd, stepAt, steps, firstThird, lastThird, stepsNeeded, paramSteps}
 use Rattle.file.specs.Bytes.{numberAt, wordAt}
 use Rattle.file.specs.Command.{decoded, pointFrom, HeldPoint}
 use Rattle.file.proofs.RoundTrip.{HeldCommand}

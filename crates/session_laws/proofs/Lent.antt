@@ -11,7 +11,7 @@ use lib.Ieee.{Float}
 use Rattle.geo.specs.Walk.{listFrom}
 use Rattle.geo.specs.Lent.{pointAt, commandAt}
 use Rattle.geo.specs.Domain.{everyFrom, formed, commandsFormed, commandIn, commandsIn}
-use Rattle.file.specs.Command.{decoded, wellFormed, lentBytes, lentLap, Held}
+use Rattle.file.specs.Command.{lentBytes, lentLap, Held}
 use Rattle.laps.specs.File.{lacks, placed, formOk, domainOk, lapOk, lapTested}
 use Rattle.laps.proofs.Here.{cond-false}
 use Rattle.lap_replace.specs.Replace.{movePlaced}

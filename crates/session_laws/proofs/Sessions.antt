@@ -1,16 +1,15 @@
 -- Lists of calls: the statements of specs/Sessions.antt. Assumes nothing.
 use Prim.Native.Nat.{ℕ, _+_, _≤_, _<_}
-use mathlib.Core.Path.{_≡_, refl, sym, ap, _∙_, subst}
+use mathlib.Core.Path.{_≡_, refl, sym, ap, _∙_}
 use mathlib.Core.List.{List, [], _∷_}
 use native.Mathlib.Omega.{arith}
-use lib.Ieee.{Float}
-use Rattle.geo.specs.Outcome.{Outcome, refusal, refused, gives, unless}
+use Rattle.geo.specs.Outcome.{Outcome, refusal, refused, gives}
 use Rattle.geo.proofs.Rows.{unless-refused, unless-given}
 use Rattle.lap_session.specs.declared.session.Session.{Session}
 use Rattle.lap_session.specs.declared.session.Ticket.{Ticket}
 use Rattle.lap_session.specs.Session.{raised, mostEdits, commitRows, Stored, storedBy, commitLap, sessionAfter}
 use Rattle.lap_session.proofs.Rows.{commit-12, commit-passed}
-use Rattle.session_laws.specs.Sessions.{Call, asks, commits, replaces, behindCall, behindAll, countStored, storedIn, ServesOnce, RaisedByCommits, NeverFalls, NeverPasses, ForgedStays}
+use Rattle.session_laws.specs.Sessions.{asks, commits, replaces, behindCall, behindAll, countStored, storedIn, ServesOnce, RaisedByCommits, NeverFalls, NeverPasses, ForgedStays}
 
 -- ---- an accepted commit
 record Taken (t : Ticket) (e : Session) (a : Stored) : Type 0 where
