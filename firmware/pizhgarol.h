@@ -35,8 +35,8 @@
    STACK, in bytes. Measured, not proved: firmware/stack.c fills a thread's stack with a pattern and runs each call at several
    sizes, up to the greatest, on the zigzags that are cut at every point, on bends, a spiral and curves. A row is the line that
    lies above all that was measured, rounded up to 128 bytes, and its value at the greatest n; firmware/run measures it again.
-   n counts points; for thinning commands and for a path, commands; for a course, a file and a replacement it is the most of
-   the course, of the longest lap, and of the new lap.
+   n counts points; for thinning commands and for a path, commands; for a course, a file, a replacement and an asking it is the
+   most of the course, of the longest lap, and of the new lap.
      pz_simplify_polyline             2048 + 112 * n   231424
      pz_simplify_polyline_3d          2048 + 144 * n   296960
      pz_simplify_data                 2048 + 144 * n   117248
@@ -47,6 +47,8 @@
      pz_fit_file                    141824 + 144 * n   257024
      pz_fit_hills                   141696 + 144 * n   256896
      pz_replace_lap                 199808 + 144 * n   315008
+     pz_ask_lap                     141568 + 144 * n   256768
+     pz_commit_lap                     512                512
      pz_fewest_straights              1280 + 160 * n    42240
      pz_flatten_arc                   4992               4992
      pz_read_course                    768                768
