@@ -20,7 +20,7 @@ use Rattle.geo.specs.Lent.{pointAt, triple, flat, origin, endOf}
 use Rattle.geo.proofs.Flat.{flat-append, flat-one, flat-length}
 use Rattle.floats.specs.Limits.{quarter}
 use Rattle.bezier.specs.Linearize.{stepEnd, paramSteps}
-use Rattle.segment.specs.Segment.{dotOn, space, degenerate, segmentOn, spaceSq}
+use Rattle.segment.specs.Segment.{dotOn, spatial, degenerate, segmentOn, spaceSq}
 use Rattle.simplify.specs.Thin.{thinned, thinnedPoints}
 use Rattle.file.specs.Command.{HeldPoint}
 use Rattle.fitting.specs.Pieces.{distance, lineDeviation, lapsRule, hillsRule, line, Piece, arcOrCut, chooseBy, choice, follow, piecesBy, piecesIn}
@@ -101,7 +101,7 @@ module _ (tol : Float) where
 -- ---- squared distances in space are values of the format
 pub space-fits : (a b p : Point3D) → T (fits binary64 (spaceSq a b p))
 unfolding spaceSq segmentOn
-space-fits a b p = ⊎-elim (λ h. rw h (add-fits binary64 _ _)) (λ h. rw h (add-fits binary64 _ _)) (either (dotOn space a b b ≺ degenerate))
+space-fits a b p = ⊎-elim (λ h. rw h (add-fits binary64 _ _)) (λ h. rw h (add-fits binary64 _ _)) (either (dotOn spatial a b b ≺ degenerate))
 
 -- Each Line of the fit of a chain is one thinned step.
 pub hill-lines : (tol : Float) → T (fits binary64 tol) → tolerance tol ≡ true → (s : List Float) → chainFit (hillsRule tol) s ≡ map Line (drop 1 (thinnedChain (hillsRule tol) s))

@@ -14,7 +14,7 @@ use Rattle.floats.proofs.Order.{either, clash, lt-gap}
 use Rattle.geo.specs.declared.types.Point3D.{Point3D}
 use Rattle.segment.specs.declared.segment.Segment.{Segment}
 use Rattle.segment.specs.declared.space.Climb.{Climb}
-use Rattle.segment.specs.Segment.{Axis, plane, space, sumFrom, sumOver, dotOn, degenerate, parameterOf, offFoot, fromFoot, segmentOn, segmentSq, spaceSq}
+use Rattle.segment.specs.Segment.{Axis, plane, spatial, sumFrom, sumOver, dotOn, degenerate, parameterOf, offFoot, fromFoot, segmentOn, segmentSq, spaceSq}
 use Rattle.segment.specs.Saved.{EachOn, fromEnd, besides, savedOn, segmentOf, fromFootOf, alongOf, toSegment, isInside, Laid, climbOf, climbFoot, toClimb, LaidClimb}
 use Rattle.segment.proofs.Zeros.{none, round-none, Twin, twin, twin-square}
 use Rattle.segment.proofs.Division.{before-start, past-end, strictly-inside, foot-before, foot-past}
@@ -170,7 +170,7 @@ in-plane : (a b p : Point3D) → toSegment (segmentOf a b) p ≡ savedOn plane a
 unfolding toSegment segmentOf fromFootOf
 in-plane a b p = refl
 
-in-space : (a b p : Point3D) → toClimb (climbOf a b) p ≡ savedOn space a b p
+in-space : (a b p : Point3D) → toClimb (climbOf a b) p ≡ savedOn spatial a b p
 unfolding toClimb climbOf climbFoot
 in-space a b p = refl
 
@@ -181,7 +181,7 @@ by-segment s p d e a b l = e ∙ ap (λ (s : Segment). toSegment s p) (l .is) �
 
 pub by-climb : (s : Climb) (p : Point3D) (d : Float) → d ≡ toClimb s p → (a b : Point3D) → LaidClimb a b s → d ≡ spaceSq a b p
 unfolding spaceSq
-by-climb s p d e a b l = e ∙ ap (λ (s : Climb). toClimb s p) (l .is) ∙ in-space a b p ∙ saved-is-clamped space a b p (l .held-x, (l .held-y, (l .held-z, tt)))
+by-climb s p d e a b l = e ∙ ap (λ (s : Climb). toClimb s p) (l .is) ∙ in-space a b p ∙ saved-is-clamped spatial a b p (l .held-x, (l .held-y, (l .held-z, tt)))
 
 -- From the foot strictly inside.
 three-tests : (a b c : Bool) → (if a then false else if b then c else false) ≡ true → (a ≡ false) × (b ≡ true) × (c ≡ true)

@@ -20,8 +20,8 @@ abbrev pub plane : List Axis
 plane = (λ p. p .x) ∷ (λ p. p .y) ∷ []
 
 -- in space: x, y and z
-abbrev pub space : List Axis
-space = (λ p. p .x) ∷ (λ p. p .y) ∷ (λ p. p .z) ∷ []
+abbrev pub spatial : List Axis
+spatial = (λ p. p .x) ∷ (λ p. p .y) ∷ (λ p. p .z) ∷ []
 
 -- a term for each coordinate, added up from left to right
 abbrev pub sumFrom : Float → List Axis → (Axis → Float) → Float
@@ -63,4 +63,4 @@ segmentSq = segmentOn plane
 -- "thinning and line test use x, y and z, to the segment as in the out-and-back ticket": the measure of the fit for hills
 unfoldable pub spaceSq : Point3D → Point3D → Point3D → Float
 unfolding segmentOn
-spaceSq = segmentOn space
+spaceSq = segmentOn spatial
