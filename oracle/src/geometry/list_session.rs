@@ -142,6 +142,11 @@ fn forged() -> Vec<Compared> {
         (c.ticket.lap, c.ticket.next, c.recorded[32]) = (0, 0, 1);
         c.part.truncate(73 * own);
     }));
+    calls.push(with(&|c| {
+        // lap 0 by a part without a Move in front: 4, which comes before 7
+        (c.ticket.lap, c.ticket.next, c.part[0]) = (0, 0, 1);
+        c.part.truncate(73 * own);
+    }));
     calls.extend([(0, 1), (1, 0), (1, 3), (1, 4), (own, 0), (own, 3), (own, 2)].map(|(place, new)| kind(place, new)));
     calls.extend([f64::NAN, f64::INFINITY, 1e300, -0.0].map(|x| number(73 + 1, x)));
     calls.extend([1 + 24, 73 + 1 + 64, 73 * own + 1 + 16].map(|place| number(place, f64::NEG_INFINITY)));
