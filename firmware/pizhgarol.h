@@ -40,13 +40,13 @@
      pz_simplify_polyline             2048 + 112 * n   231424
      pz_simplify_polyline_3d          2048 + 144 * n   296960
      pz_simplify_data                 2048 + 144 * n   117248
-     pz_optimize_path_from_array     24320 + 144 * n   139520
+     pz_optimize_path_from_array     24448 + 144 * n   139648
      pz_fit_points_with_primitives    4992               4992
      pz_fit_points_recursive          4992               4992
      pz_fit_arcs                     24448 + 144 * n   139648
      pz_fit_file                    141824 + 144 * n   257024
      pz_fit_hills                   141696 + 144 * n   256896
-     pz_replace_lap                 199808 + 144 * n   315008
+     pz_replace_lap                 199936 + 144 * n   315136
      pz_ask_lap                     141568 + 144 * n   256768
      pz_commit_lap                     512                512
      pz_fewest_straights              1280 + 160 * n    42240
