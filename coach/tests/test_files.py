@@ -18,6 +18,11 @@ from trouble import NotWritten
 from workout import read_workout
 
 
+def setUpModule():
+    """A script's background starts with interrupts ignored, and so would all that is started here."""
+    signal.signal(signal.SIGINT, signal.default_int_handler)
+
+
 def wait_until_caught(process, number):
     """Until a process has a handler for a signal, which coach.py has once its work begins."""
     for _ in range(600):
