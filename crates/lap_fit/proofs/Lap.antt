@@ -3,17 +3,19 @@ use Prim.Native.Nat.{ℕ, zero, suc, _+_, _-_, _*_, _≤_, _<_}
 use mathlib.Core.Path.{_≡_, refl, sym, ap, _∙_}
 use mathlib.Core.Bool.{true}
 use mathlib.Core.List.{List, [], _∷_, map}
+use native.Mathlib.Nat.{zero-add, add-zero, mul-zero, sub-zero}
 use native.Mathlib.Omega.{arith}
-use lib.ListN.{length, take, drop, length-map}
+use lib.ListN.{length, take, drop, getD, length-map}
+use lib.Seq.{getD-take, getD-drop}
 use lib.Ieee.{Float}
 use Rattle.floats.specs.Ops.{_≺_, +0}
 use Rattle.geo.specs.declared.types.Point3D.{Point3D}
 use Rattle.geo.specs.declared.types.Command.{Command}
-use Rattle.geo.specs.Lent.{endOf}
+use Rattle.geo.specs.Lent.{commandOf, endOf}
 use Rattle.file.specs.Command.{commandsAt, decoded, enc}
 use Rattle.fitting.specs.declared.fitting.Rule.{Rule}
 use Rattle.course.specs.Course.{joined, fitOn, mostOn, endOn, lentCourse}
-use Rattle.course.specs.Walks.{weightOf, weightsFrom}
+use Rattle.course.specs.Walks.{cap, weightOf, weightsFrom}
 use Rattle.course.proofs.Accepted.{course-few}
 use Rattle.course.proofs.Some.{some-fitted}
 use Rattle.course.proofs.Steps.{most-of-commands}
@@ -93,13 +95,37 @@ module _ (tol : Float) where
   unfolding mostLap
   weights-all s p at n = sym (most-of-commands tol p (map decoded (commandsAt s at n)))
 
-  pub weights-step : (s : List ℕ) (last last′ : Point3D) (c : Command) (b n i : ℕ) → i < n → c ≡ decoded (take (b + 73 - b) (drop b s)) → last′ ≡ endOf c
-      → weights s last b (n - i) ≡ weightOf (joined tol last c) + weights s last′ (b + 73) (n - (i + 1))
+  pub weights-first : (s : List ℕ) (p : Point3D) (at n : ℕ) → cap (0 + weights s (lapEnd p (commandsAt s at 0)) (at + 73 * 0) (n - 0)) ≡ cap (mostLap tol p (commandsAt s at n))
+  weights-first s p at n = rw (sym (end-none s p at 0 refl), zero-add, mul-zero, add-zero, sub-zero) (ap cap (weights-all s p at n))
+
+  once-by : (last : Point3D) (k : ℕ) (p q r : Point3D) → k < 3 → 1 ≡ cap (weightOf (joined tol last (commandOf k p q r)))
+  unfolding commandOf joined weightOf cap
+  once-by last zero p q r h = refl
+  once-by last (suc zero) p q r h = refl
+  once-by last (suc (suc zero)) p q r h = refl
+  once-by last (suc (suc (suc k))) p q r h = absurd (omega arith)
+
+  pub weights-step : (s : List ℕ) (p : Point3D) (at n i : ℕ) → i < n
+      → weights s (lapEnd p (commandsAt s at i)) (at + 73 * i) (n - i) ≡ weightOf (joined tol (lapEnd p (commandsAt s at i)) (decoded (take 73 (drop (at + 73 * i) s)))) + weights s (lapEnd p (commandsAt s at (i + 1))) (at + 73 * (i + 1)) (n - (i + 1))
   unfolding weightsFrom commandsAt
-  weights-step s last last′ c b n i h e q =
+  weights-step s p at n i h =
       let z : n - i ≡ suc (n - (i + 1)) = omega arith in
-      let w : b + 73 - b ≡ 73 = omega arith in
-      rw (z, q, e, w)
+      let w : at + 73 * (i + 1) ≡ at + 73 * i + 73 = omega arith in
+      let v : i + 1 ≡ suc i = omega arith in
+      rw (z, w, v, last-end s p at i)
+
+  -- any command but a Bezier counts once
+  pub once : (s : List ℕ) (last : Point3D) (b : ℕ) → getD s b 0 < 3 → 1 ≡ cap (weightOf (joined tol last (decoded (take 73 (drop b s)))))
+  unfolding decoded
+  once s last b h =
+      let k : getD (take 73 (drop b s)) 0 0 ≡ getD s b 0 = getD-take 73 (drop b s) 0 0 (omega arith) ∙ getD-drop b s 0 0 ∙ ap (λ (n : ℕ). getD s n 0) (omega arith) in
+      rw k (once-by last (getD s b 0) _ _ _ h)
+
+  -- the command c of index i, behind the point `last`
+  pub weighed : (s : List ℕ) (p last : Point3D) (at i : ℕ) (c : Command) (r : ℕ) → last ≡ lapEnd p (commandsAt s at i)
+      → c ≡ decoded (take (at + 73 * i + 73 - (at + 73 * i)) (drop (at + 73 * i) s)) → r ≡ cap (weightOf (joined tol last c))
+      → r ≡ cap (weightOf (joined tol (lapEnd p (commandsAt s at i)) (decoded (take 73 (drop (at + 73 * i) s)))))
+  weighed s p last at i c r e f q = let w : at + 73 * i + 73 - (at + 73 * i) ≡ 73 = omega arith in rw (e, f, w) at q
 
   pub weights-end : (s : List ℕ) (last : Point3D) (b n i : ℕ) → n ≤ i → weights s last b (n - i) ≡ 0
   unfolding weightsFrom commandsAt

@@ -11,6 +11,7 @@ use fitting::fitting::Rule;
 use geo::domain::is_tolerance;
 use geo::types::Answer;
 use geo::types::Point3D;
+use laps::lap_file::BEZIER;
 use laps::lap_file::check_file;
 use laps::lap_file::check_sizes;
 use laps::lap_file::count_at;
@@ -21,13 +22,13 @@ ghost use mathlib.Core.Path.{_≡_};
 ghost use mathlib.Core.Bool.{true};
 ghost use mathlib.Core.List.{List, _++_};
 ghost use Prim.Native.Nat.{ℕ, _+_, _*_, _≤_};
-ghost use lib.ListN.{length, drop};
+ghost use lib.ListN.{length, take, drop};
 ghost use Rattle.floats.specs.Ops.{_≺_, +0};
 ghost use Rattle.geo.specs.Domain.{mostCommands};
 ghost use Rattle.geo.specs.Outcome.{refusal, Wrote};
-ghost use Rattle.file.specs.Command.{commandsAt};
-ghost use Rattle.course.specs.Course.{mostOn, lentCourse};
-ghost use Rattle.course.specs.Walks.{chainNumbers, cap};
+ghost use Rattle.file.specs.Command.{commandsAt, decoded};
+ghost use Rattle.course.specs.Course.{joined, mostOn, lentCourse};
+ghost use Rattle.course.specs.Walks.{chainNumbers, cap, weightOf};
 ghost use Rattle.laps.specs.File.{lapCount, lapsOf, encode, tableOk, PutLap};
 ghost use Rattle.laps.specs.Rows.{fileSize};
 ghost use Rattle.geo.specs.Lent.{origin};
@@ -46,20 +47,28 @@ pub fn lap_end(s: &[u8], at: usize, n: usize, start: Point3D) -> Point3D
     read_command(&s[b..e]).end_point()
 }
 
+// What command i of a lap adds to the most. Only a Bezier asks where the command before it ended, so of any other just the kind is read.
+fn weight_at(s: &[u8], at: usize, i: usize, start: Point3D, tolerance: f64) -> usize
+    requires { ⌜ at + 73 * i + 73 ≤ length (now s) ⌝ }
+    ensures { λ r. ⌜ r ≡ cap (weightOf (joined tolerance (lapEnd start (commandsAt (now (s .entry)) at i)) (decoded (take 73 (drop (at + 73 * i) (now (s .entry))))))) ⌝ }
+{
+    let b = at + COMMAND_BYTES * i;
+    if s[b] < BEZIER {
+        return 1;
+    }
+    let e = b + COMMAND_BYTES;
+    let last = lap_end(s, at, i, start);
+    weight(read_command(&s[b..e]), last, tolerance)
+}
+
 // What the n commands from `at` on, from their start, could become at most.
 pub fn most_lap(s: &[u8], at: usize, n: usize, start: Point3D, tolerance: f64) -> usize
     requires { ⌜ (at + 73 * n ≤ length (now s)) × (n ≤ 800) ⌝ }
     ensures { λ r. ⌜ r ≡ cap (mostLap tolerance start (commandsAt (now (s .entry)) at n)) ⌝ }
 {
     let mut most = 0;
-    let mut last = start;
-    let mut b = at;
     for i in 0..n {
-        let e = b + COMMAND_BYTES;
-        let c = read_command(&s[b..e]);
-        most = add_capped(most, weight(c, last, tolerance));
-        last = c.end_point();
-        b = e;
+        most = add_capped(most, weight_at(s, at, i, start, tolerance));
     }
     most
 }

@@ -27,7 +27,7 @@ pub const MOST_COMMANDS: usize = 800;
 pub const MOST_BYTES: usize = 65536;
 
 // The kind of a Bezier.
-const BEZIER: u8 = 3;
+pub const BEZIER: u8 = 3;
 
 // What is asked of each command of a lap.
 pub enum Check {
