@@ -1,3 +1,4 @@
+pub mod Blank
 pub mod Floats
 pub mod Stores
 pub mod Walks

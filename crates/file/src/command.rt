@@ -1,7 +1,7 @@
 // The 73 bytes of a command: its kind, and its nine numbers.
+use crate::words::is_plus_zero_at;
 use crate::words::number_at;
 use crate::words::put_f64;
-use geo::domain::is_formed;
 use geo::lent::command_at;
 use geo::lent::make_command;
 use geo::lent::put_command;
@@ -12,6 +12,7 @@ ghost use mathlib.Core.List.{map};
 ghost use Prim.Native.Nat.{_+_, _*_, _≤_};
 ghost use lib.ListN.{length};
 ghost use lib.Seq.{sets};
+ghost use Rattle.geo.specs.Domain.{zero3};
 ghost use Rattle.geo.specs.Lent.{flat, triple, kindOf, numbersOf, commandsFrom};
 ghost use Rattle.file.specs.Bytes.{f64Bytes};
 ghost use Rattle.file.specs.Command.{pointFrom, decoded, wellFormed, laid, enc, commandsAt};
@@ -31,15 +32,32 @@ pub fn point_from(s: &[u8], at: usize) -> Point3D
     }
 }
 
-// The command of 73 bytes.
+// The command of 73 bytes. A Move and a Line have no number but their end's.
 pub fn read_command(s: &[u8]) -> Command
     requires { ⌜ 73 ≤ length (now s) ⌝ }
     ensures { λ r. ⌜ r ≡ decoded (now (s .entry)) ⌝ }
 {
     let p = point_from(s, 1);
+    let o = Point3D::ZERO;
+    if s[0] < 2 {
+        return make_command(s[0], p, o, o);
+    }
     let q = point_from(s, 25);
     let r = point_from(s, 49);
     make_command(s[0], p, q, r)
+}
+
+// Whether the three numbers from `at` on are +0, told by their bytes.
+fn is_zero_from(s: &[u8], at: usize) -> bool
+    requires { ⌜ at + 24 ≤ length (now s) ⌝ }
+    ensures { λ r. ⌜ r ≡ zero3 (pointFrom (now (s .entry)) at) ⌝ }
+{
+    if is_plus_zero_at(s, at) {
+        if is_plus_zero_at(s, at + 8) {
+            return is_plus_zero_at(s, at + 16);
+        }
+    }
+    false
 }
 
 // Whether 73 bytes have a known kind, and the numbers that it does not use are +0.
@@ -47,9 +65,13 @@ pub fn is_well_formed(s: &[u8]) -> bool
     requires { ⌜ 73 ≤ length (now s) ⌝ }
     ensures { λ r. ⌜ r ≡ wellFormed (now (s .entry)) ⌝ }
 {
-    let q = point_from(s, 25);
-    let r = point_from(s, 49);
-    is_formed(s[0], q, r)
+    if s[0] < 2 {
+        if is_zero_from(s, 25) {
+            return is_zero_from(s, 49);
+        }
+        return false;
+    }
+    s[0] < 4
 }
 
 // Writes the 24 bytes of a point from `at` on.

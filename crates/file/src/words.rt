@@ -4,6 +4,7 @@ ghost use Prim.Native.Nat.{_+_, _%_, _≤_, _<_};
 ghost use lib.ListN.{length};
 ghost use lib.Seq.{sets};
 ghost use lib.Ieee.{binary64, nanBits, ofBits, toBits};
+ghost use Rattle.geo.specs.Domain.{isPlusZero};
 ghost use Rattle.file.specs.Bytes.{halfAt, wordAt, u32Bytes, f64Bytes, numberAt};
 
 fn wide(b: u8) -> u64
@@ -54,6 +55,19 @@ pub fn number_at(s: &[u8], at: usize) -> f64
     ensures { λ r. ⌜ r ≡ numberAt (now (s .entry)) at ⌝ }
 {
     float_of(word_at(s, at))
+}
+
+// Whether the number whose eight bytes stand from `at` on is +0, the pattern 0.
+pub fn is_plus_zero_at(s: &[u8], at: usize) -> bool
+    requires { ⌜ at + 8 ≤ length (now s) ⌝ }
+    ensures { λ r. ⌜ r ≡ isPlusZero (numberAt (now (s .entry)) at) ⌝ }
+{
+    let low = half_at(s, at);
+    let high = half_at(s, at + 4);
+    if low == 0 {
+        return high == 0;
+    }
+    false
 }
 
 // The lowest byte of n.

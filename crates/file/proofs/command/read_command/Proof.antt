@@ -1,5 +1,7 @@
--- `file::command::read_command` meets its contract: a kind and three points. Assumes nothing.
+-- `file::command::read_command` meets its contract: a kind, its end, and two points more where the kind has them. Assumes nothing.
+use mathlib.Core.Path.{_∙_}
 use Rattle.file.specs.Command.{decoded}
+use Rattle.file.proofs.Blank.{end-alone}
 use borrow.Author.Needs.{needs}
 use Rattle.file.proofs.command.read_command.Statement.{statement}
 use Rattle.file.proofs.command.read_command.Tie as tie
@@ -7,11 +9,8 @@ use Rattle.file.proofs.command.read_command.Tie as tie
 point-from-requires : tie.Need-point-from-requires
 point-from-requires c κs = search needs
 
-point-from-requires-2 : tie.Need-point-from-requires-2
-point-from-requires-2 c κs = search needs
-
-point-from-requires-3 : tie.Need-point-from-requires-3
-point-from-requires-3 c κs = search needs
+shared-slice-read-if1 : tie.Need-shared-slice-read-if1
+shared-slice-read-if1 c = search needs
 
 shared-slice-read-make-command : tie.Need-shared-slice-read-make-command
 shared-slice-read-make-command c = search needs
@@ -21,15 +20,35 @@ make-command-requires c κs = search needs
 
 returns : tie.Need-returns
 unfolding decoded
-returns c = rw (← c .before .before .before .before .point-from .ensures, ← c .before .before .before .point-from2 .ensures, ← c .before .before .point-from3 .ensures) (c .make-command .ensures)
+returns c = rw (← c .before .before .before .before .point-from .ensures) (c .make-command .ensures ∙ end-alone _ _ _ _ _ _ (c .before .before .if1 .taken))
+
+point-from-requires-2 : tie.Need-point-from-requires-2
+point-from-requires-2 c κs = search needs
+
+point-from-requires-3 : tie.Need-point-from-requires-3
+point-from-requires-3 c κs = search needs
+
+shared-slice-read-make-command-2 : tie.Need-shared-slice-read-make-command-2
+shared-slice-read-make-command-2 c = search needs
+
+make-command-requires-2 : tie.Need-make-command-requires-2
+make-command-requires-2 c κs = search needs
+
+returns-2 : tie.Need-returns-2
+unfolding decoded
+returns-2 c = rw (← c .before .before .before .before .before .before .point-from .ensures, ← c .before .before .before .point-from2 .ensures, ← c .before .before .point-from3 .ensures) (c .make-command2 .ensures)
 
 pub read-command-spec : {M : Type 1} → statement M
 read-command-spec =
     tie.close
     (tie.spec
     point-from-requires
-    point-from-requires-2
-    point-from-requires-3
+    shared-slice-read-if1
     shared-slice-read-make-command
     make-command-requires
-    returns)
+    returns
+    point-from-requires-2
+    point-from-requires-3
+    shared-slice-read-make-command-2
+    make-command-requires-2
+    returns-2)
