@@ -4,16 +4,18 @@ use mathlib.Core.Path.{_≡_, refl, sym, ap, _∙_}
 use mathlib.Core.Bool.{Bool, true, false}
 use mathlib.Core.List.{List}
 use native.Mathlib.Omega.{arith}
+use lib.ListN.{getD}
 use borrow.Author.Tests.{ne-eqb}
 use lib.Dec.{eqb}
 use lib.Ieee.{binary64, eq, ofBits}
 use lib.Ieee.Bits.{ofBits-fits, toBits-ofBits}
 use Rattle.floats.proofs.Order.{clash}
 use Rattle.geo.specs.declared.types.Point3D.{Point3D}
-use Rattle.geo.specs.Domain.{isPlusZero}
+use Rattle.geo.specs.Domain.{isPlusZero, point3In, commandIn}
 use Rattle.geo.specs.Lent.{commandOf}
 use Rattle.geo.proofs.Zero.{eq-no-nan, plus-zero-is, not-plus-zero}
 use Rattle.file.specs.Bytes.{halfAt, wordAt, numberAt}
+use Rattle.file.specs.Command.{pointFrom, decoded}
 
 -- ---- words
 by-equal : (w : ℕ) → w < 0x1_0000_0000_0000_0000 → (b : Bool) → eq (ofBits binary64 w) (ofBits binary64 0) ≡ b → eqb w 0 ≡ isPlusZero (ofBits binary64 w)
@@ -51,3 +53,12 @@ unfolding commandOf
 end-alone zero p q r q′ r′ h = refl
 end-alone (suc zero) p q r q′ r′ h = refl
 end-alone (suc (suc k)) p q r q′ r′ h = absurd (omega arith)
+
+pub end-in : (c : List ℕ) → getD c 0 0 < 2 → point3In (pointFrom c 1) ≡ commandIn (decoded c)
+unfolding decoded commandOf commandIn
+end-in c h = by-kind (getD c 0 0) _ _ _ h
+  where
+    by-kind : (k : ℕ) (p q r : Point3D) → k < 2 → point3In p ≡ commandIn (commandOf k p q r)
+    by-kind zero p q r h = refl
+    by-kind (suc zero) p q r h = refl
+    by-kind (suc (suc k)) p q r h = absurd (omega arith)

@@ -10,10 +10,10 @@ use geo::types::Point3D;
 ghost use mathlib.Core.Path.{_≡_};
 ghost use mathlib.Core.List.{map};
 ghost use Prim.Native.Nat.{_+_, _*_, _≤_};
-ghost use lib.ListN.{length};
+ghost use lib.ListN.{length, getD};
 ghost use lib.Seq.{sets};
 ghost use Rattle.geo.specs.Domain.{zero3};
-ghost use Rattle.geo.specs.Lent.{flat, triple, kindOf, numbersOf, commandsFrom};
+ghost use Rattle.geo.specs.Lent.{flat, triple, commandOf, kindOf, numbersOf, commandsFrom};
 ghost use Rattle.file.specs.Bytes.{f64Bytes};
 ghost use Rattle.file.specs.Command.{pointFrom, decoded, wellFormed, laid, enc, commandsAt};
 
@@ -32,6 +32,16 @@ pub fn point_from(s: &[u8], at: usize) -> Point3D
     }
 }
 
+// The command of 73 bytes whose end is p.
+fn read_curve(s: &[u8], p: Point3D) -> Command
+    requires { ⌜ 73 ≤ length (now s) ⌝ }
+    ensures { λ r. ⌜ r ≡ commandOf (getD (now (s .entry)) 0 0) p (pointFrom (now (s .entry)) 25) (pointFrom (now (s .entry)) 49) ⌝ }
+{
+    let q = point_from(s, 25);
+    let r = point_from(s, 49);
+    make_command(s[0], p, q, r)
+}
+
 // The command of 73 bytes. A Move and a Line have no number but their end's.
 pub fn read_command(s: &[u8]) -> Command
     requires { ⌜ 73 ≤ length (now s) ⌝ }
@@ -42,9 +52,7 @@ pub fn read_command(s: &[u8]) -> Command
     if s[0] < 2 {
         return make_command(s[0], p, o, o);
     }
-    let q = point_from(s, 25);
-    let r = point_from(s, 49);
-    make_command(s[0], p, q, r)
+    read_curve(s, p)
 }
 
 // Whether the three numbers from `at` on are +0, told by their bytes.

@@ -7,6 +7,7 @@ use file::words::half_at;
 use file::words::put_u32;
 use geo::domain::command_in;
 use geo::domain::is_finite3;
+use geo::domain::point3_in;
 ghost use mathlib.Core.Path.{_≡_};
 ghost use mathlib.Core.Bool.{true, not, _||_};
 ghost use mathlib.Core.List.{_++_};
@@ -164,12 +165,15 @@ fn has_form(first: bool, c: &[u8]) -> bool
     false
 }
 
-// Row 4 and then row 5 of a command.
+// Row 4 and then row 5 of a command. Of a Move and of a Line, which most commands are, row 5 asks for the end alone.
 fn has_both(first: bool, c: &[u8]) -> bool
     requires { ⌜ 73 ≤ length (now c) ⌝ }
     ensures { λ r. ⌜ r ≡ bothOk first (now (c .entry)) ⌝ }
 {
     if has_form(first, c) {
+        if c[0] < 2 {
+            return point3_in(point_from(c, 1));
+        }
         return command_in(read_command(c));
     }
     false

@@ -22,21 +22,12 @@ returns : tie.Need-returns
 unfolding decoded
 returns c = rw (← c .before .before .before .before .point-from .ensures) (c .make-command .ensures ∙ end-alone _ _ _ _ _ _ (c .before .before .if1 .taken))
 
-point-from-requires-2 : tie.Need-point-from-requires-2
-point-from-requires-2 c κs = search needs
-
-point-from-requires-3 : tie.Need-point-from-requires-3
-point-from-requires-3 c κs = search needs
-
-shared-slice-read-make-command-2 : tie.Need-shared-slice-read-make-command-2
-shared-slice-read-make-command-2 c = search needs
-
-make-command-requires-2 : tie.Need-make-command-requires-2
-make-command-requires-2 c κs = search needs
+read-curve-requires : tie.Need-read-curve-requires
+read-curve-requires c κs = search needs
 
 returns-2 : tie.Need-returns-2
 unfolding decoded
-returns-2 c = rw (← c .before .before .before .before .before .before .point-from .ensures, ← c .before .before .before .point-from2 .ensures, ← c .before .before .point-from3 .ensures) (c .make-command2 .ensures)
+returns-2 c = rw (← c .before .before .before .point-from .ensures) (c .read-curve .ensures)
 
 pub read-command-spec : {M : Type 1} → statement M
 read-command-spec =
@@ -47,8 +38,5 @@ read-command-spec =
     shared-slice-read-make-command
     make-command-requires
     returns
-    point-from-requires-2
-    point-from-requires-3
-    shared-slice-read-make-command-2
-    make-command-requires-2
+    read-curve-requires
     returns-2)
