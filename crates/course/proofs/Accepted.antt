@@ -18,17 +18,18 @@ use Rattle.geo.proofs.Rows.{row-passed}
 use Rattle.geo.proofs.Tolerance.{tolerance-positive}
 use Rattle.geo.proofs.Outcomes.{commands-given, nine}
 use Rattle.geo.proofs.Flat.{flat-length}
-use Rattle.fitting.specs.declared.fitting.Rule.{Rule}
-use Rattle.fitting.specs.Pieces.{lapsRule}
-use Rattle.fitting.specs.Commands.{chainFit}
-use Rattle.fitting.specs.Written.{FitPlaced, commandsOf, chainNoted}
-use Rattle.fitting.proofs.Writing.{commands-length}
-use Rattle.fitting.proofs.Chain.{chain-noted}
+use Rattle.pieces.specs.declared.pieces.Rule.{Rule}
+use Rattle.pieces.specs.Pieces.{lapsRule}
+use Rattle.pieces.specs.Commands.{chainFit}
+use Rattle.pieces.specs.Written.{FitPlaced, commandsOf, chainNoted}
+use Rattle.pieces.proofs.Writing.{commands-length}
+use Rattle.ranges.proofs.Chain.{chain-noted}
+use Rattle.chain.specs.Chains.{cap}
+use Rattle.chain.proofs.Count.{cap-passed, cap-over}
+use Rattle.chain.proofs.Parts.{noted-few, parts-commands}
+use Rattle.chain.proofs.Stepping.{chain-few}
 use Rattle.course.specs.Course.{partsOn, fitOn, mostOn, courseFit, courseMost, lentCourse, roomRows, arcsRows, arcsCall}
-use Rattle.course.specs.Walks.{cap, notedOn}
-use Rattle.course.proofs.Count.{cap-passed, cap-over}
-use Rattle.course.proofs.Parts.{noted-few, parts-commands}
-use Rattle.course.proofs.Stepping.{chain-few}
+use Rattle.course.specs.Walks.{notedOn}
 
 -- what is noted beside the commands of a course does not change them
 pub course-commands : (r : Rule) (p : Point3D) (cs : List Command) → commandsOf (notedOn r p cs) ≡ fitOn r p cs

@@ -10,17 +10,19 @@ use Rattle.floats.specs.Ops.{_≺_, +0}
 use Rattle.geo.specs.declared.types.Point3D.{Point3D}
 use Rattle.geo.specs.declared.types.Command.{Command}
 use Rattle.geo.specs.Lent.{triple, commandAt, commandsFrom}
-use Rattle.fitting.specs.declared.fitting.Rule.{Rule}
-use Rattle.fitting.specs.Written.{NotedPlaced}
-use Rattle.course.specs.declared.course.Walk.{Walk}
-use Rattle.course.specs.declared.course.Flush.{Flush}
-use Rattle.course.specs.Parts.{mostOf}
+use Rattle.pieces.specs.declared.pieces.Rule.{Rule}
+use Rattle.pieces.specs.Written.{NotedPlaced}
+use Rattle.chain.specs.declared.chain.Walk.{Walk}
+use Rattle.chain.specs.declared.chain.Flush.{Flush}
+use Rattle.chain.specs.Parts.{mostOf}
 use Rattle.course.specs.Course.{lentCourse}
 use Rattle.geo.specs.Domain.{mostCommands}
-use Rattle.course.specs.Walks.{chainPoints, chainNumbers, joinedBy, flushedBy, partsBy, fitBy, underWay, Room, Stepped}
-use Rattle.course.proofs.Chains.{flushed-few}
-use Rattle.course.proofs.Walking.{Going, going-start, going-kinds, going-numbers, going-room, going-step, going-done, commands-step, commands-done, length-front}
-use Rattle.course.proofs.Parts.{chain-counts}
+use Rattle.chain.specs.Chains.{chainPoints, chainNumbers, joinedBy, flushedBy, underWay, Room, Stepped}
+use Rattle.chain.proofs.Chains.{flushed-few}
+use Rattle.chain.proofs.Stepping.{length-front}
+use Rattle.chain.proofs.Parts.{chain-counts}
+use Rattle.course.specs.Walks.{partsBy, fitBy}
+use Rattle.course.proofs.Walking.{Going, going-start, going-kinds, going-numbers, going-room, going-step, going-done, commands-step, commands-done}
 
 module _ (f : Flush) (rule : Rule) (p : Point3D) (ks : List ℕ) (ns : List Float) (oks : List ℕ) (ons : List Float) (oss : List ℕ) where
   -- where the walk stands before the commands cs,

@@ -1,5 +1,5 @@
 -- Demand 3's sentences about the chains of a course hold: of a chain by the laws of thinning and of a range, of a course part by part. Assumes nothing.
-use Prim.Native.Nat.{_-_, _/_, _≤_, _<_}
+use Prim.Native.Nat.{_/_, _≤_, _<_}
 use mathlib.Core.Path.{_≡_, refl, ap, subst}
 use mathlib.Core.Bool.{true}
 use mathlib.Core.List.{List, [], _∷_, map}
@@ -14,12 +14,12 @@ use Rattle.geo.specs.Lent.{pointAt, flat}
 use Rattle.simplify.specs.Thin.{thinnedPoints}
 use Rattle.simplify.specs.Words.{Ascending}
 use Rattle.simplify.proofs.Thinning.{ends-kept, kept-in-order, left-out-near}
-use Rattle.fitting.specs.declared.fitting.Rule.{Rule}
-use Rattle.fitting.specs.Pieces.{distance}
-use Rattle.fitting.specs.Commands.{chainFit}
-use Rattle.fitting.proofs.Pieces.{range-fitted}
-use Rattle.fitting.proofs.Chain.{kept-some, no-chain}
-use Rattle.course.specs.Parts.{Part, chain, kept, partFit, fitOf}
+use Rattle.pieces.specs.declared.pieces.Rule.{Rule}
+use Rattle.pieces.specs.Pieces.{distance}
+use Rattle.pieces.specs.Commands.{chainFit}
+use Rattle.pieces.proofs.Laws.{range-fitted}
+use Rattle.ranges.proofs.Chain.{kept-some, no-chain}
+use Rattle.chain.specs.Parts.{Part, chain, kept, partFit, fitOf}
 use Rattle.course.specs.Course.{partsOn, fitOn}
 use Rattle.course.specs.Demand.{thinnedAt, stepsOf, ChainFitted, PartsGive}
 

@@ -23,17 +23,19 @@ use Rattle.geo.proofs.Flat.{flat-length}
 use Rattle.bezier.specs.Linearize.{stepEnd, stepAt, steps, firstThird, lastThird, stepsNeeded, paramSteps}
 use Rattle.simplify.specs.Simplify.{commandRows}
 use Rattle.circle.specs.Calls.{pointsRows}
-use Rattle.fitting.specs.declared.fitting.Rule.{Rule}
-use Rattle.fitting.specs.Pieces.{pointsRule, lapsRule}
-use Rattle.fitting.specs.Commands.{fitIn, keptOf, chainFit}
+use Rattle.pieces.specs.declared.pieces.Rule.{Rule}
+use Rattle.pieces.specs.Pieces.{pointsRule, lapsRule}
+use Rattle.pieces.specs.Commands.{fitIn, keptOf, chainFit}
 use Rattle.fitting.specs.Calls.{fitRows, fitCall, primitivesCall}
 use Rattle.fitting.proofs.Accepted.{fit-accepted}
-use Rattle.course.specs.Parts.{Join, adds, ends, closed, carried, partsFrom, partFit, partMost, mostOf, fitOf}
+use Rattle.chain.specs.Parts.{Join, adds, ends, closed, carried, partsFrom, partFit, partMost, mostOf, fitOf}
 use Rattle.floats.specs.Limits.{quarter}
-use Rattle.course.specs.Course.{joined, partsOn, fitOn, mostOn, courseFit, lentCourse, arcsRows, arcsCall, linesJoined, optimizedChain, optimized, optimizeCall}
-use Rattle.course.specs.Walks.{pathFlush, joinsBeziers, joinedBy, partsBy}
+use Rattle.chain.specs.Joins.{joined, linesJoined}
+use Rattle.chain.specs.Chains.{joinsBeziers, joinedBy}
+use Rattle.chain.proofs.Parts.{chain-counts}
+use Rattle.course.specs.Course.{partsOn, fitOn, mostOn, courseFit, lentCourse, arcsRows, arcsCall, optimizedChain, optimized, optimizeCall}
+use Rattle.course.specs.Walks.{pathFlush, partsBy}
 use Rattle.course.specs.Finite.{AllFinite, FiniteNumbers, CommandsIn}
-use Rattle.course.proofs.Parts.{chain-counts}
 use Rattle.course.proofs.Accepted.{arcs-accepted}
 use Rattle.course.proofs.Paths.{path-most, course-length}
 use Rattle.course.proofs.FiniteCenters.{Placed, zero-below}

@@ -29,15 +29,16 @@ use Rattle.trial.specs.declared.trial.Trial.the-variants.{Arc, None}
 use Rattle.trial.specs.Deviation.{arcDeviation}
 use Rattle.trial.specs.Traversal.{traverses}
 use Rattle.trial.specs.Trial.{sharpAt, closedRange, measuredBy, goingRound, ofMeasured, trialRound, trialOf, ofCircle, ofCenter, trialThree, trialLeast, orElse, tryArcs}
-use Rattle.simplify.specs.declared.simplify.Farthest.{Farthest}
+use Rattle.farthest.specs.declared.farthest.Farthest.{Farthest}
+use Rattle.farthest.proofs.First.{found-in}
 use Rattle.simplify.specs.Words.{Ascending}
 use Rattle.simplify.specs.Thin.{thinned, thinnedPoints}
-use Rattle.simplify.proofs.First.{found-in}
 use Rattle.simplify.proofs.Thinning.{kept-in-order}
-use Rattle.fitting.specs.declared.fitting.Rule.{Rule}
-use Rattle.fitting.specs.Pieces.{distance, rooted, lineDeviation, Shape, line, arc, Piece, Choice, whole, cutAt, counted, arcOrCut, chooseBy, choice, follow, piecesBy, piecesIn}
-use Rattle.fitting.specs.Commands.{normalOf, shaped, pieceCommand, fitIn, keptOf, chainFit}
-use Rattle.fitting.proofs.Chain.{kept-few}
+use Rattle.pieces.specs.declared.pieces.Rule.{Rule}
+use Rattle.deviations.specs.Line.{rooted, lineDeviation}
+use Rattle.pieces.specs.Pieces.{distance, Shape, line, arc, Piece, Choice, whole, cutAt, counted, arcOrCut, chooseBy, choice, follow, piecesBy, piecesIn}
+use Rattle.pieces.specs.Commands.{normalOf, shaped, pieceCommand, fitIn, keptOf, chainFit}
+use Rattle.ranges.proofs.Chain.{kept-few}
 use Rattle.course.specs.Finite.{AllFinite, FiniteNumbers}
 use Rattle.course.proofs.FiniteCenters.{Placed, Flat, flat-more, zero-below, one-below, Through, three-flat, Centered, kasa-flat, projected-flat}
 

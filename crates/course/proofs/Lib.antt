@@ -1,10 +1,6 @@
 -- What more than one function's proof cites, and the laws of a course.
-pub mod Count
-pub mod Parts
 pub mod Walking
-pub mod Steps
-pub mod Stepping
-pub mod Chains
+pub mod Most
 pub mod Along
 pub mod Accepted
 pub mod Paths

@@ -1,10 +1,11 @@
 -- The two courses as the walk has them, and the most of a path. Assumes nothing.
-use Prim.Native.Nat.{ℕ, zero, suc, _+_, _-_, _*_, _≤_}
+use Prim.Native.Nat.{ℕ, zero, suc, _+_, _-_, _*_, _/_, _≤_}
 use mathlib.Core.Path.{_≡_, refl, sym, ap, _∙_}
 use mathlib.Core.Bool.{Bool, true, false}
-use mathlib.Core.List.{List, [], _∷_}
+use mathlib.Core.List.{List, [], _∷_, map}
 use native.Mathlib.Omega.{arith}
-use lib.ListN.{length}
+use borrow.Author.Tests.{not-false}
+use lib.ListN.{length, drop}
 use lib.Ieee.{Float}
 use Rattle.floats.specs.Ops.{_≺_, +0}
 use Rattle.geo.specs.declared.types.Point3D.{Point3D}
@@ -13,25 +14,29 @@ use Rattle.geo.specs.declared.types.Command.the-variants.{Move, Line, Arc, Bezi
 use Rattle.geo.specs.declared.types.Answer.the-variants.{Written}
 use Rattle.geo.specs.Outcome.{refusal}
 use Rattle.geo.specs.Commands.{WroteCommands}
-use Rattle.geo.specs.Lent.{triple, origin, endOf, numbersOf, commandsFrom}
+use Rattle.geo.specs.Lent.{triple, origin, endOf, numbersOf, commandsFrom, pointAt}
 use Rattle.geo.proofs.Outcomes.{commands-given, nine}
 use Rattle.geo.proofs.Flat.{flat-length}
 use Rattle.geo.proofs.Rows.{row-passed}
 use Rattle.geo.proofs.Tolerance.{tolerance-positive}
 use Rattle.simplify.specs.Simplify.{commandRows}
 use Rattle.simplify.proofs.Accepted.{commands-accepted}
-use Rattle.fitting.specs.declared.fitting.Rule.{Rule}
-use Rattle.fitting.specs.Pieces.{pointsRule}
-use Rattle.fitting.specs.Written.{commandsOf, NotedPlaced}
-use Rattle.fitting.proofs.Writing.{commands-length, commands-placed}
-use Rattle.course.specs.declared.course.Flush.{Flush}
-use Rattle.course.specs.declared.course.Flush.the-variants.{Fitted, AsItStands, Lines}
-use Rattle.course.specs.Parts.{mostOf, partsFrom}
-use Rattle.course.specs.Course.{partsOn, mostOn, lentCourse, linesJoined, optimizedChain, optimized, optimizeCall}
-use Rattle.course.specs.Walks.{weightOf, weightsFrom, pathFlush, joinsBeziers, joinedBy, flushedBy, partsBy, fitBy, notedOn}
-use Rattle.course.proofs.Parts.{Whole, most-by-weights, noted-few, parts-commands}
-use Rattle.course.proofs.Chains.{flushed-few, path-commands}
-use borrow.Author.Tests.{not-false}
+use Rattle.pieces.specs.declared.pieces.Rule.{Rule}
+use Rattle.pieces.specs.Pieces.{pointsRule}
+use Rattle.pieces.specs.Written.{commandsOf, NotedPlaced}
+use Rattle.pieces.proofs.Writing.{commands-length, commands-placed}
+use Rattle.pieces.specs.Commands.{keptOf}
+use Rattle.pieces.proofs.Fitted.{noted-fit}
+use Rattle.chain.specs.declared.chain.Flush.{Flush}
+use Rattle.chain.specs.declared.chain.Flush.the-variants.{Fitted, AsItStands, Lines}
+use Rattle.chain.specs.Parts.{mostOf, partsFrom}
+use Rattle.chain.specs.Joins.{linesJoined}
+use Rattle.chain.specs.Chains.{joinsBeziers, joinedBy, flushedBy, lineNoted}
+use Rattle.chain.proofs.Parts.{noted-few, parts-commands}
+use Rattle.chain.proofs.Chains.{flushed-few}
+use Rattle.course.specs.Course.{partsOn, mostOn, lentCourse, optimizedChain, optimized, optimizeCall}
+use Rattle.course.specs.Walks.{weightOf, weightsFrom, pathFlush, partsBy, fitBy, notedOn}
+use Rattle.course.proofs.Most.{Whole, most-by-weights}
 
 -- ---- the course of `fit_arcs`
 pub course-fit : (r : Rule) (p : Point3D) (cs : List Command) → fitBy Fitted r p cs ≡ notedOn r p cs
@@ -43,6 +48,17 @@ unfolding partsBy mostOn partsOn joinedBy joinsBeziers
 course-most tol p cs = refl
 
 -- ---- that of `optimize_path_from_array`
+-- what is noted beside a path's commands does not change them
+lines-commands : (ps : List Point3D) → commandsOf (map lineNoted ps) ≡ map Line ps
+unfolding commandsOf lineNoted
+lines-commands [] = refl
+lines-commands (p ∷ ps) = ap (λ (cs : List Command). Line p ∷ cs) (lines-commands ps)
+
+pub path-commands : (arcs : Bool) (tol : Float) (s : List Float) → commandsOf (flushedBy (pathFlush arcs) (pointsRule tol) s) ≡ optimizedChain arcs tol s
+unfolding pathFlush flushedBy optimizedChain
+path-commands true tol s = noted-fit (pointsRule tol) (pointAt s) 0 (length s / 3 - 1)
+path-commands false tol s = lines-commands (drop 1 (keptOf (pointsRule tol) s))
+
 pub path-fit : (arcs : Bool) (tol : Float) (cs : List Command) → commandsOf (fitBy (pathFlush arcs) (pointsRule tol) origin cs) ≡ optimized arcs tol cs
 unfolding fitBy partsBy optimized joinedBy joinsBeziers pathFlush
 path-fit true tol cs = parts-commands (flushedBy AsItStands (pointsRule tol)) (optimizedChain true tol) (path-commands true tol) (partsFrom linesJoined origin (triple origin) cs)

@@ -21,17 +21,18 @@ use Rattle.geo.specs.Lent.{triple, flat, endOf}
 use Rattle.geo.proofs.Flat.{flat-one}
 use Rattle.bezier.specs.Linearize.{stepEnd, stepCount, stepsNeeded, paramSteps}
 use Rattle.bezier.proofs.Rows.{param-length}
-use Rattle.fitting.specs.declared.fitting.Rule.{Rule}
-use Rattle.fitting.specs.Pieces.{Piece}
-use Rattle.fitting.specs.Laws.{Covers}
-use Rattle.fitting.specs.Commands.{pieceCommand, fitIn, chainFit}
-use Rattle.fitting.proofs.Chain.{kept-some}
-use Rattle.fitting.proofs.Pieces.{pieces-cover}
-use Rattle.course.specs.Parts.{Part, chain, kept, Join, adds, ends, closed, carried, partsFrom, partFit, fitOf}
-use Rattle.course.specs.Course.{joined, partsOn, fitOn}
+use Rattle.pieces.specs.declared.pieces.Rule.{Rule}
+use Rattle.pieces.specs.Pieces.{Piece}
+use Rattle.pieces.specs.Laws.{Covers}
+use Rattle.pieces.specs.Commands.{pieceCommand, fitIn, chainFit}
+use Rattle.ranges.proofs.Chain.{kept-some}
+use Rattle.pieces.proofs.Laws.{pieces-cover}
+use Rattle.chain.specs.Parts.{Part, chain, kept, Join, adds, ends, closed, carried, partsFrom, partFit, fitOf}
+use Rattle.chain.specs.Joins.{joined}
+use Rattle.chain.proofs.Count.{under-min}
+use Rattle.chain.proofs.Steps.{ends-length}
+use Rattle.course.specs.Course.{partsOn, fitOn}
 use Rattle.course.specs.Demand.{thinnedAt, stepsOf, chainPieces, SomeFitted}
-use Rattle.course.proofs.Count.{under-min}
-use Rattle.course.proofs.Steps.{ends-length}
 
 -- ---- a Bezier has a step: the greater of any float and two counts as one at least, of NaN and infinity too
 two-counts : 1 ≤ toUnsigned 64 two

@@ -10,10 +10,11 @@ use Rattle.geo.specs.declared.types.Command.{Command}
 use Rattle.geo.specs.declared.types.Command.the-variants.{Move}
 use Rattle.geo.specs.Lent.{triple, flat, origin, endOf, commandAt, commandsFrom}
 use Rattle.geo.proofs.Flat.{flat-one}
-use Rattle.fitting.specs.declared.fitting.Rule.{Rule}
-use Rattle.fitting.specs.Commands.{chainFit}
-use Rattle.course.specs.Parts.{chain, closed, carried, partsFrom, partFit, partMost, mostOf, fitOf}
-use Rattle.course.specs.Course.{joined, partsOn, fitOn, mostOn, endOn, lentCourse}
+use Rattle.pieces.specs.declared.pieces.Rule.{Rule}
+use Rattle.pieces.specs.Commands.{chainFit}
+use Rattle.chain.specs.Parts.{chain, closed, carried, partsFrom, partFit, partMost, mostOf, fitOf}
+use Rattle.chain.specs.Joins.{joined}
+use Rattle.course.specs.Course.{partsOn, fitOn, mostOn, endOn, lentCourse}
 use Rattle.course.specs.Demand.{Reference, StartNotAsked}
 use Rattle.course.proofs.Demand.{no-commands}
 

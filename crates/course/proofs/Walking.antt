@@ -2,73 +2,19 @@
 use Prim.Native.Nat.{ℕ, suc, _+_, _-_, _*_, _/_, _≤_, _<_}
 use mathlib.Core.Path.{_≡_, refl, sym, ap, _∙_, subst}
 use mathlib.Core.List.{List, [], _∷_, _++_, append-nil}
-use native.Mathlib.Nat.{mul-add, min-eq-left}
 use native.Mathlib.Omega.{arith}
-use lib.ListN.{length, take, drop, length-append, length-take, length-drop}
-use lib.Seq.{sets, sets-eq, length-sets}
+use lib.ListN.{length}
 use lib.Ieee.{Float}
 use Rattle.geo.specs.declared.types.Point3D.{Point3D}
 use Rattle.geo.specs.declared.types.Command.{Command}
-use Rattle.geo.specs.Lent.{triple, flat, endOf, commandAt, commandsFrom}
-use Rattle.geo.proofs.Stores.{take-front}
-use Rattle.fitting.specs.Written.{Noted, noted, NotedPlaced}
-use Rattle.fitting.proofs.Writing.{none-noted, both-noted, count-noted, placed-kinds, placed-numbers, Progress, progress-start, progress-step, progress-done}
-use Rattle.course.specs.declared.course.Walk.{Walk}
-use Rattle.course.specs.Parts.{Part, Join, adds, ends, closed, carried, partsFrom, mostOf}
+use Rattle.geo.specs.Lent.{endOf, commandAt, commandsFrom}
+use Rattle.pieces.specs.Written.{Noted, NotedPlaced}
+use Rattle.pieces.proofs.Writing.{placed-kinds, placed-numbers, Progress, progress-start, progress-step, progress-done}
+use Rattle.chain.specs.declared.chain.Walk.{Walk}
+use Rattle.chain.specs.Parts.{Part, Join, closed, carried, partsFrom, mostOf}
 use Rattle.geo.specs.Domain.{mostCommands}
-use Rattle.course.specs.Walks.{chainNumbers, partNoted, notedOf, underWay, Room, Stepped}
-use Rattle.course.proofs.Parts.{most-append, noted-append, noted-few, noted-chain, parts-step, parts-end, chain-counts}
-
--- ---- a buffer's front
-pub length-front : {A : Type 0} (k : ℕ) (s : List A) → k ≤ length s → length (take k s) ≡ k
-length-front k s h = length-take k s ∙ min-eq-left h
-
--- where another front as long takes its place, the buffer is as long as before
-pub length-refront : {A : Type 0} (k : ℕ) (s t : List A) → k ≤ length s → length t ≡ length (take k s) → length (t ++ drop k s) ≡ length s
-length-refront k s t h e = length-append t (drop k s) ∙ omega (arith, length-front k s h, length-drop k s)
-
--- what is written right behind the front joins it
-pub take-sets : {A : Type 0} (s : List A) (k n : ℕ) (vs : List A) → n ≡ k + length vs → n ≤ length s → take n (sets s k vs) ≡ take k s ++ vs
-take-sets s k n vs e h =
-    let t = length-front k s (omega arith) in
-    let l : length (take k s ++ vs) ≡ n = length-append (take k s) vs ∙ omega arith in
-    let q : sets s k vs ≡ take k s ++ vs ++ drop (k + length vs) s = sets-eq vs s k (omega arith) in
-    subst (λ (m : ℕ). take m (sets s k vs) ≡ take k s ++ vs) l (ap (take (length (take k s ++ vs))) q ∙ take-front (take k s ++ vs) (drop (k + length vs) s))
-
--- ---- one command: it adds points
-module _ (fit : List Float → List Noted) (c : Command) (w : Walk) (s : List Float) (ks : List ℕ) (ns : List Float) (ss : List ℕ) where
-  pub stepped-adds : (n : ℕ) (ps : List Float) (j : Join) → j ≡ adds ps → length ps ≡ 3 * n → 3 * (w .points + n) ≤ length s → 1 ≤ w .points
-      → (r : Walk) (s′ : List Float) (end : Point3D) → end ≡ endOf c → r ≡ record { points = w .points + n; last = end; written = w .written } → s′ ≡ sets s (3 * w .points) ps
-      → Stepped fit j c w r s s′ ks ks ns ns ss ss
-  unfolding closed carried notedOf flat
-  stepped-adds n ps j z l h o r s′ end q e d =
-      rw (z, e, d) (record {
-        last = q;
-        some = omega arith;
-        inside = rw (length-sets s (3 * w .points) ps) h;
-        carries = take-sets s (3 * w .points) (3 * (w .points + n)) ps (let b = mul-add 3 (w .points) n in omega arith) h;
-        written = omega arith;
-        wrote = none-noted [] refl (w .written) ks ns ss;
-      })
-
-  -- it ends the chain, whose fit leaves the buffer s₁, and is kept
-  pub stepped-ends : (n : ℕ) (ks₁ ks₂ : List ℕ) (ns₁ ns₂ : List Float) (ss₁ ss₂ : List ℕ) (s₁ : List Float) → length s₁ ≡ length s → 3 ≤ length s
-      → NotedPlaced (fit (underWay w s)) (w .written) n ks ks₁ ns ns₁ ss ss₁ → NotedPlaced (noted c 0 ∷ []) (w .written + n) 1 ks₁ ks₂ ns₁ ns₂ ss₁ ss₂
-      → (r : Walk) (s′ : List Float) (end : Point3D) → end ≡ endOf c → r ≡ record { points = 1; last = end; written = w .written + n + 1 } → s′ ≡ sets s₁ 0 (triple end)
-      → Stepped fit ends c w r s s′ ks ks₂ ns ns₂ ss ss₂
-  unfolding closed carried notedOf flat partNoted
-  stepped-ends n ks₁ ks₂ ns₁ ns₂ ss₁ ss₂ s₁ ls h p k r s′ end q e d =
-      let xs : List Noted = fit (underWay w s) ++ noted c 0 ∷ [] in
-      let b = both-noted (fit (underWay w s)) (noted c 0 ∷ []) (w .written) (w .written + n) n 1 ks ks₁ ks₂ ns ns₁ ns₂ ss ss₁ ss₂ refl p k in
-      let m = count-noted xs (w .written) (n + 1) ks ks₂ ns ns₂ ss ss₂ b in
-      rw (e, d) (record {
-        last = q;
-        some = omega arith;
-        inside = rw (length-sets s₁ 0 (triple end)) (rw ls h);
-        carries = take-sets s₁ 0 3 (triple end) refl (rw ls h) ∙ ap triple q;
-        written = omega arith;
-        wrote = subst (λ (x : ℕ). NotedPlaced xs (w .written) x ks ks₂ ns ns₂ ss ss₂) m b;
-      })
+use Rattle.chain.specs.Chains.{chainNumbers, notedOf, underWay, Room, Stepped}
+use Rattle.chain.proofs.Parts.{most-append, noted-append, noted-few, noted-chain, parts-step, parts-end, chain-counts}
 
 -- ---- many commands
 module _ (join : Point3D → Command → Join) (fit : List Float → List Noted) (whole : List Noted) (most : ℕ) (ks₀ : List ℕ) (ns₀ : List Float) (ss₀ : List ℕ) where

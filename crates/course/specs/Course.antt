@@ -5,28 +5,19 @@ use mathlib.Core.List.{List, [], _∷_, _++_, map}
 use lib.ListN.{length, drop}
 use lib.Dec.{ltb}
 use lib.Ieee.{Float}
-use Rattle.floats.specs.Limits.{quarter}
-use Rattle.floats.specs.Ops.{_⊗_}
 use Rattle.geo.specs.declared.types.Point3D.{Point3D}
 use Rattle.geo.specs.declared.types.Command.{Command}
-use Rattle.geo.specs.declared.types.Command.the-variants.{Move, Line, Arc, Bezier}
-use Rattle.geo.specs.Lent.{pointAt, triple, flat, origin, endOf, commandsFrom}
+use Rattle.geo.specs.declared.types.Command.the-variants.{Line}
+use Rattle.geo.specs.Lent.{pointAt, triple, origin, endOf, commandsFrom}
 use Rattle.geo.specs.Domain.{mostCommands}
 use Rattle.geo.specs.Commands.{inputRows}
 use Rattle.geo.specs.Outcome.{Row, row, refusal, Outcome, unless}
 use Rattle.simplify.specs.Simplify.{commandRows}
-use Rattle.bezier.specs.Linearize.{stepEnd, paramSteps}
-use Rattle.fitting.specs.declared.fitting.Rule.{Rule}
-use Rattle.fitting.specs.Pieces.{pointsRule, lapsRule}
-use Rattle.fitting.specs.Commands.{fitIn, keptOf, chainFit}
-use Rattle.course.specs.Parts.{Part, Join, adds, ends, partsFrom, mostOf, fitOf}
-
--- ---- fit_arcs: a Line adds its end to the chain, a Bezier the ends of its steps, linearised at a quarter of the tolerance from where the last command ended
-unfoldable pub joined : Float → Point3D → Command → Join
-joined tol last (Move p) = ends
-joined tol last (Line p) = adds (triple p)
-joined tol last (Arc p o n) = ends
-joined tol last (Bezier p c d) = adds (flat stepEnd (paramSteps p c d last (tol ⊗ quarter)))
+use Rattle.pieces.specs.declared.pieces.Rule.{Rule}
+use Rattle.pieces.specs.Pieces.{pointsRule, lapsRule}
+use Rattle.pieces.specs.Commands.{fitIn, keptOf, chainFit}
+use Rattle.chain.specs.Parts.{Part, partsFrom, mostOf, fitOf}
+use Rattle.chain.specs.Joins.{joined, linesJoined}
 
 -- ---- commands from a start: document 02, §13, "A lap after the first may lack its Move and then starts at the previous lap's last recorded end"
 -- the chains and kept commands, in order, of commands that start at p: the first chain has p as its first point
@@ -67,13 +58,7 @@ arcsRows ks ns tol kinds numbers = inputRows ks ns tol numbers ++ roomRows (cour
 unfoldable pub arcsCall : List ℕ → List Float → Float → ℕ → ℕ → Outcome (List Command)
 arcsCall ks ns tol kinds numbers = unless (refusal (arcsRows ks ns tol kinds numbers)) (courseFit (lapsRule tol) (lentCourse ks ns))
 
--- ---- optimize_path_from_array: only a Line adds to a chain. A chain is fitted as it stands where arcs are asked for, else thinned to Lines. The most is the command count
-unfoldable pub linesJoined : Point3D → Command → Join
-linesJoined last (Move p) = ends
-linesJoined last (Line p) = adds (triple p)
-linesJoined last (Arc p o n) = ends
-linesJoined last (Bezier p c d) = ends
-
+-- ---- optimize_path_from_array: a chain is fitted as it stands where arcs are asked for, else thinned to Lines. The most is the command count
 unfoldable pub optimizedChain : Bool → Float → List Float → List Command
 optimizedChain true tol s = fitIn (pointsRule tol) (pointAt s) 0 (length s / 3 - 1)
 optimizedChain false tol s = map Line (drop 1 (keptOf (pointsRule tol) s))

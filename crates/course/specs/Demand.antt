@@ -13,10 +13,10 @@ use Rattle.geo.specs.declared.types.Command.the-variants.{Move}
 use Rattle.geo.specs.Lent.{pointAt, triple, flat}
 use Rattle.simplify.specs.Thin.{keptIn, thinnedPoints}
 use Rattle.simplify.specs.Words.{Ascending, Near, Neighbours}
-use Rattle.fitting.specs.declared.fitting.Rule.{Rule}
-use Rattle.fitting.specs.Pieces.{distance, Piece, piecesIn}
-use Rattle.fitting.specs.Laws.{RangeFitted}
-use Rattle.course.specs.Parts.{Part, chain, kept}
+use Rattle.pieces.specs.declared.pieces.Rule.{Rule}
+use Rattle.pieces.specs.Pieces.{distance, Piece, piecesIn}
+use Rattle.pieces.specs.Laws.{RangeFitted}
+use Rattle.chain.specs.Parts.{Part, chain, kept}
 use Rattle.course.specs.Course.{fitOn, mostOn, courseFit, courseMost}
 
 -- ---- the thinned chain: its points, one by its index, and its last index, which is the number of its steps

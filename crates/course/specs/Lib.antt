@@ -1,4 +1,3 @@
-pub mod Parts
 pub mod Course
 pub mod Walks
 pub mod Demand

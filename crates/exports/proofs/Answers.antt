@@ -44,11 +44,11 @@ use Rattle.circle.specs.declared.circle.Deviation.{Deviation}
 use Rattle.circle.specs.Three.{Circle}
 use Rattle.circle.specs.Kasa.{LeastSquares}
 use Rattle.circle.specs.Calls.{collinearAnswer, throughAnswer, fittedAnswer, projectedAnswer}
-use Rattle.fitting.specs.declared.fitting.LineDeviation.{LineDeviation}
-use Rattle.fitting.specs.declared.fitting.LineDeviation.the-variants as Line·
-use Rattle.fitting.specs.declared.fitting.ArcDeviation.{ArcDeviation}
-use Rattle.fitting.specs.declared.fitting.ArcDeviation.the-variants as Arc·
-use Rattle.fitting.specs.Calls.{lineAnswer, arcAnswer}
+use Rattle.deviations.specs.declared.deviations.LineDeviation.{LineDeviation}
+use Rattle.deviations.specs.declared.deviations.LineDeviation.the-variants as Line·
+use Rattle.deviations.specs.declared.deviations.ArcDeviation.{ArcDeviation}
+use Rattle.deviations.specs.declared.deviations.ArcDeviation.the-variants as Arc·
+use Rattle.deviations.specs.Calls.{lineAnswer, arcAnswer}
 
 -- ---- get_midpoint_3d
 pub midpoint-gives : (o : Outcome Point3D) (r : Midpoint) (p : Point3D) → r ≡ midpointAnswer o → r ≡ Midpoint·.At p → o ≡ gives p

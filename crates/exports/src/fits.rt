@@ -1,13 +1,14 @@
 // Both deviations, and the fit of points into Lines and Arcs.
 use crate::counts::hand_on;
-use fitting::fitting::ArcDeviation;
-use fitting::fitting::LineDeviation;
+use deviations::deviations::ArcDeviation;
+use deviations::deviations::LineDeviation;
 use fitting::fitting::Primitives;
 use geo::types::Point;
 ghost use mathlib.Core.Path.{_≡_};
 ghost use lib.ListN.{length};
 ghost use Rattle.geo.specs.Outcome.{left};
-ghost use Rattle.fitting.specs.Calls.{lineCall, arcCall, fitCall, worstCall, primitivesCall, primitivesWorst, examined};
+ghost use Rattle.deviations.specs.Calls.{lineCall, arcCall};
+ghost use Rattle.fitting.specs.Calls.{fitCall, worstCall, primitivesCall, primitivesWorst, examined};
 ghost use Rattle.exports.specs.Plain.{planePoint, Told, ListedCommands};
 
 // The greatest distance of a planePoint from the line through the points at start and end, and the first planePoint that has it.
@@ -22,7 +23,7 @@ pub extern "C" fn pz_get_polyline_line_deviation(
     ensures dist { λ r. ⌜ Told (λ w. w .dist) (lineCall (now (points .entry)) start end) (now (dist .entry)) (now (dist .exit)) r ⌝ }
     ensures index { λ r. ⌜ Told (λ w. w .index) (lineCall (now (points .entry)) start end) (now (index .entry)) (now (index .exit)) r ⌝ }
 {
-    let a = fitting::fitting::get_polyline_line_deviation(points, start, end);
+    let a = deviations::deviations::get_polyline_line_deviation(points, start, end);
     match a {
         LineDeviation::Is(w) => {
             *dist = w.dist;
@@ -47,7 +48,7 @@ pub extern "C" fn pz_get_polyline_arc_deviation(
     ensures index { λ r. ⌜ Told (λ w. w .index) (arcCall (now (points .entry)) (planePoint cx cy) radius) (now (index .entry)) (now (index .exit)) r ⌝ }
 {
     let center = Point { x: cx, y: cy };
-    let a = fitting::fitting::get_polyline_arc_deviation(points, center, radius);
+    let a = deviations::deviations::get_polyline_arc_deviation(points, center, radius);
     match a {
         ArcDeviation::Is(worst) => {
             *dist = worst.dist;

@@ -11,12 +11,13 @@ use Rattle.floats.proofs.Order.{clash}
 use Rattle.geo.specs.declared.types.Command.{Command}
 use Rattle.geo.specs.Lent.{pointAt}
 use Rattle.circle.specs.declared.circle.Deviation.{Deviation}
-use Rattle.simplify.specs.Measure.{lineSq}
-use Rattle.fitting.specs.Pieces.{lineDeviation, Piece, piecesIn}
-use Rattle.fitting.specs.Commands.{fitIn}
-use Rattle.fitting.specs.Laws.{Covers, WrittenAs, as-line, as-first, as-second, AllWritten}
-use Rattle.fitting.proofs.Pieces.{pieces-cover, pieces-written, cut-where-all-fail, uncut-elsewhere}
-use Rattle.fitting.proofs.Recursion.{farthest-inside}
+use Rattle.deviations.specs.Line.{lineDeviation}
+use Rattle.pieces.specs.Pieces.{Piece, piecesIn}
+use Rattle.pieces.specs.Commands.{fitIn}
+use Rattle.pieces.specs.Laws.{Covers, WrittenAs, as-line, as-first, as-second, AllWritten}
+use Rattle.pieces.proofs.Laws.{pieces-cover, pieces-written, cut-where-all-fail, uncut-elsewhere}
+use Rattle.pieces.proofs.Recursion.{farthest-inside}
+use Rattle.farthest.specs.Measure.{lineSq}
 use Rattle.ways.specs.Way.{Way, NeighboursPass}
 use Rattle.ways.proofs.Steps.{split}
 use Rattle.ways.proofs.Laws.{way-most}

@@ -10,11 +10,11 @@ use Rattle.floats.specs.Root.{rootOf}
 use Rattle.floats.proofs.Order.{either, clash, le-below, le-right}
 use Rattle.geo.specs.declared.types.Point3D.{Point3D}
 use Rattle.geo.specs.Lent.{pointAt}
-use Rattle.simplify.specs.declared.simplify.Chord.{Chord}
-use Rattle.simplify.specs.Measure.{chordOf, toLine, lineSq}
-use Rattle.simplify.specs.Search.{spreadOf, squareOfSpread}
-use Rattle.simplify.proofs.Search.{scaled-is}
-use Rattle.fitting.proofs.Between.{point-below}
+use Rattle.deviations.proofs.Between.{point-below}
+use Rattle.farthest.specs.declared.farthest.Chord.{Chord}
+use Rattle.farthest.specs.Measure.{chordOf, toLine, lineSq}
+use Rattle.farthest.specs.Search.{spreadOf, squareOfSpread}
+use Rattle.farthest.proofs.Search.{scaled-is}
 use Rattle.fewest.specs.Straights.{passing}
 
 -- what has a root that is a number is one

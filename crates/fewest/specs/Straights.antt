@@ -8,11 +8,12 @@ use lib.ListN.{length}
 use lib.Ieee.{Float}
 use Rattle.floats.specs.Ops.{_≺_}
 use Rattle.geo.specs.Lent.{pointAt, triple}
-use Rattle.simplify.specs.declared.simplify.Ruler.the-variants.{Line}
-use Rattle.simplify.specs.Measure.{lineSq}
-use Rattle.fitting.specs.declared.fitting.Note.the-variants.{Steps}
-use Rattle.fitting.specs.declared.fitting.Rule.{Rule}
-use Rattle.fitting.specs.Pieces.{lineDeviation, Piece, piecesBy, piecesIn}
+use Rattle.pieces.specs.declared.pieces.Note.the-variants.{Steps}
+use Rattle.pieces.specs.declared.pieces.Rule.{Rule}
+use Rattle.deviations.specs.Line.{lineDeviation}
+use Rattle.pieces.specs.Pieces.{Piece, piecesBy, piecesIn}
+use Rattle.farthest.specs.declared.farthest.Ruler.the-variants.{Line}
+use Rattle.farthest.specs.Measure.{lineSq}
 use Rattle.ways.specs.Way.{Test}
 use Rattle.ways.specs.Layers.{Best, fewest}
 

@@ -1,13 +1,13 @@
 // The fewest straights, for printed maps: a search in layers, by a budget of tests. The output is written when the search
 // has ended.
-use fitting::fitting::line_deviation;
+use deviations::deviations::line_deviation;
+use farthest::farthest::Chord;
+use farthest::farthest::Ruler;
 use floats::root::sqrt;
 use geo::domain::all_coordinates;
 use geo::domain::is_tolerance;
 use geo::lent::point_at;
 use geo::lent::put_point;
-use simplify::simplify::Chord;
-use simplify::simplify::Ruler;
 use ways::phase::Phase;
 use ways::phase::is_arrived;
 use ways::phase::is_going;
@@ -20,7 +20,7 @@ ghost use lib.Seq.{sets};
 ghost use Rattle.floats.specs.Ops.{_≺_, +0};
 ghost use Rattle.geo.specs.Lent.{pointAt, flat};
 ghost use Rattle.geo.specs.Outcome.{refusal, left, Placed};
-ghost use Rattle.simplify.specs.Measure.{chordOf};
+ghost use Rattle.farthest.specs.Measure.{chordOf};
 ghost use Rattle.ways.specs.Layers.{going, inOrder, tryPair, tryPoint, tryLayer, back};
 ghost use Rattle.fewest.specs.Straights.{passing, cutEnds, fewestOf, numbersAt};
 ghost use Rattle.fewest.specs.Calls.{straightsRows, straightsCall, straightsAnswer, endsGiven};

@@ -11,6 +11,7 @@ use lib.Ieee.{binary64, eq, ofBits}
 use lib.Ieee.Bits.{ofBits-fits, toBits-ofBits}
 use Rattle.floats.proofs.Order.{clash}
 use Rattle.geo.specs.declared.types.Point3D.{Point3D}
+use Rattle.geo.specs.declared.types.Command.the-variants.{Move, Line}
 use Rattle.geo.specs.Domain.{isPlusZero, point3In, commandIn}
 use Rattle.geo.specs.Lent.{commandOf}
 use Rattle.geo.proofs.Zero.{eq-no-nan, plus-zero-is, not-plus-zero}
@@ -62,3 +63,12 @@ end-in c h = by-kind (getD c 0 0) _ _ _ h
     by-kind zero p q r h = refl
     by-kind (suc zero) p q r h = refl
     by-kind (suc (suc k)) p q r h = absurd (omega arith)
+
+-- the command of the bytes c, whose end is p
+pub a-move : (c : List ℕ) (p : Point3D) → getD c 0 0 ≡ 0 → p ≡ pointFrom c 1 → Move p ≡ decoded c
+unfolding decoded commandOf
+a-move c p k e = rw (k, e)
+
+pub a-line : (c : List ℕ) (p : Point3D) → getD c 0 0 ≡ 1 → p ≡ pointFrom c 1 → Line p ≡ decoded c
+unfolding decoded commandOf
+a-line c p k e = rw (k, e)

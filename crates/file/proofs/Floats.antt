@@ -1,10 +1,9 @@
 -- The pattern of a NaN, and of what is none. Assumes nothing.
-use mathlib.Core.Path.{_≡_, refl, sym, subst}
+use mathlib.Core.Path.{_≡_, refl, sym, subst, _∙_}
 use mathlib.Core.Bool.{true, false, not}
 use lib.Dec.{T}
 use lib.Ieee.{Float, nan, inf, fin, binary64, ne, isNan, toBits}
 use lib.Ieee.Compare.{differs-from-itself, nan-differs}
-use mathlib.Core.Path.{_∙_}
 
 pub nan-pattern : (x : Float) → ne x x ≡ true → 0x7ff8_0000_0000_0000 ≡ toBits binary64 x
 nan-pattern x e = subst (λ (y : Float). 0x7ff8_0000_0000_0000 ≡ toBits binary64 y) (sym (differs-from-itself x (subst T (sym e) tt))) there

@@ -9,8 +9,8 @@ use geo::types::Command;
 use geo::types::Point3D;
 ghost use mathlib.Core.Path.{_≡_};
 ghost use mathlib.Core.List.{map};
-ghost use Prim.Native.Nat.{_+_, _*_, _≤_};
-ghost use lib.ListN.{length, getD};
+ghost use Prim.Native.Nat.{_+_, _*_, _<_, _≤_};
+ghost use lib.ListN.{length, getD, set};
 ghost use lib.Seq.{sets};
 ghost use Rattle.geo.specs.Domain.{zero3};
 ghost use Rattle.geo.specs.Lent.{flat, triple, commandOf, kindOf, numbersOf, commandsFrom};
@@ -125,6 +125,34 @@ pub fn write_command(out: &mut [u8], at: usize, c: Command)
     }
 }
 
+// Reads the command of 73 bytes to index i of kinds and numbers. A Move and a Line, which most are, go there straight, and not
+// by way of a command in memory.
+fn read_to(s: &[u8], kinds: &mut [u8], nums: &mut [f64], i: usize)
+    requires { ⌜ (73 ≤ length (now s)) × (i < length (now kinds)) × (9 * i + 8 < length (now nums)) ⌝ }
+    ensures kinds { λ _. ⌜ now (kinds .exit) ≡ set (now (kinds .entry)) i (kindOf (decoded (now (s .entry)))) ⌝ }
+    ensures numbers { λ _. ⌜ now (nums .exit) ≡ sets (now (nums .entry)) (9 * i) (numbersOf (decoded (now (s .entry)))) ⌝ }
+{
+    match s[0] {
+        0 => put_command(
+            kinds,
+            nums,
+            i,
+            Command::Move {
+                end: point_from(s, 1),
+            },
+        ),
+        1 => put_command(
+            kinds,
+            nums,
+            i,
+            Command::Line {
+                end: point_from(s, 1),
+            },
+        ),
+        _ => put_command(kinds, nums, i, read_command(s)),
+    }
+}
+
 // Reads the n commands from `at` on, to the front of kinds and numbers.
 pub fn read_commands(s: &[u8], at: usize, n: usize, kinds: &mut [u8], nums: &mut [f64])
     requires { ⌜ (at + 73 * n ≤ length (now s)) × (n ≤ length (now kinds)) × (9 * n ≤ length (now nums)) ⌝ }
@@ -134,7 +162,7 @@ pub fn read_commands(s: &[u8], at: usize, n: usize, kinds: &mut [u8], nums: &mut
     let mut b = at;
     for i in 0..n {
         let e = b + COMMAND_BYTES;
-        put_command(kinds, nums, i, read_command(&s[b..e]));
+        read_to(&s[b..e], kinds, nums, i);
         b = e;
     }
 }

@@ -3,7 +3,7 @@ use Prim.Native.Nat.{ℕ, _+_, _-_, _/_, _≤_, _<_}
 use mathlib.Core.Path.{_≡_, refl, sym, ap, _∙_, subst}
 use mathlib.Core.Logic.{⊎-elim}
 use mathlib.Core.Bool.{Bool, true, false, not, _&&_}
-use mathlib.Core.List.{List, [], _++_}
+use mathlib.Core.List.{List, []}
 use native.Mathlib.Omega.{arith}
 use borrow.Author.Tests.{ltb-true, ltb-false, lt-ltb, le-ltb, le-leb, lt-leb, not-false}
 use lib.ListN.{length}
@@ -12,57 +12,25 @@ use lib.Seq.{sets}
 use lib.Ieee.{Float}
 use Rattle.floats.specs.Ops.{_≺_, +0}
 use Rattle.floats.proofs.Order.{lt-or-ge}
-use Rattle.geo.specs.declared.types.Point.{Point}
 use Rattle.geo.specs.declared.types.Command.{Command}
 use Rattle.geo.specs.declared.types.Answer.{Answer}
 use Rattle.geo.specs.declared.types.Answer.the-variants.{Written}
 use Rattle.geo.specs.Commands.{WroteCommands}
+use Rattle.geo.specs.Domain.{mostPoints}
 use Rattle.geo.specs.Lent.{pointAt, flat, numbersOf}
-use Rattle.geo.specs.Outcome.{Row, refusal, unless, left, Wrote}
+use Rattle.geo.specs.Outcome.{refusal, unless, left, Wrote}
 use Rattle.geo.proofs.Tolerance.{tolerance-positive}
-use Rattle.geo.proofs.Rows.{row-passes, row-passed, refusal-front, unless-refused, unless-gives}
+use Rattle.geo.proofs.Rows.{row-passed}
 use Rattle.geo.proofs.Outcomes.{wrote-given, commands-given, nine}
 use Rattle.geo.proofs.Flat.{flat-length}
-use Rattle.simplify.specs.Measure.{lineSq}
-use Rattle.circle.specs.declared.circle.Deviation.{Deviation}
 use Rattle.circle.specs.Calls.{pointsRows}
-use Rattle.circle.specs.Worst.{worst}
-use Rattle.trial.specs.Deviation.{arcDeviation}
-use Rattle.fitting.specs.declared.fitting.Rule.{Rule}
-use Rattle.fitting.specs.Pieces.{pointsRule, lineDeviation, piecesBy}
-use Rattle.fitting.specs.declared.fitting.LineDeviation as measured
-use Rattle.fitting.specs.declared.fitting.ArcDeviation as around
-use Rattle.fitting.specs.Commands.{fitIn, worstIn}
-use Rattle.fitting.specs.Written.{notedIn, NotedPlaced}
-use Rattle.fitting.specs.Calls.{lineRows, lineCall, lineAnswer, arcRows, arcCall, arcAnswer, fitRows, fitCall, worstCall}
-use Rattle.fitting.proofs.Fitted.{noted-fit, noted-worst, fit-length, worst-length, worst-count}
-use Rattle.fitting.proofs.Writing.{commands-placed}
-
--- ---- r is what the check of the points found
-module _ (s : List Float) (ts : List Row) (r : ℕ) (e : r ≡ refusal (pointsRows s)) where
-  -- a number: it decides
-  pub points-refused : (r ≡ 0 → ⊥) → r ≡ refusal (pointsRows s ++ ts)
-  points-refused h = e ∙ refusal-front (pointsRows s) ts (subst (λ (k : ℕ). 0 < k) e (omega (arith, h)))
-
-  -- none: the rows behind decide
-  pub points-passed : r ≡ 0 → refusal (pointsRows s ++ ts) ≡ refusal ts
-  unfolding pointsRows
-  points-passed z =
-      let a = row-passed 0 _ _ (sym z ∙ e) in
-      let b = row-passed 1 _ _ (a .1) in
-      let c = row-passed 4 _ _ (b .1) in
-      row-passes _ _ _ (a .0) ∙ row-passes _ _ _ (b .0) ∙ row-passes _ _ _ (c .0)
-
--- ---- what passed
-pub line-accepted : (s : List Float) (lo hi r : ℕ) → r ≡ refusal (lineRows s lo hi) → r ≡ 0 → (lo < length s / 3) × (hi < length s / 3)
-unfolding lineRows pointsRows
-line-accepted s lo hi r q z =
-    let a = row-passed 0 _ _ (sym z ∙ q) in
-    let b = row-passed 1 _ _ (a .1) in
-    let c = row-passed 4 _ _ (b .1) in
-    let d = row-passed 6 _ _ (c .1) in
-    let e = row-passed 6 _ _ (d .1) in
-    (ltb-true _ _ (not-false _ (d .0)), ltb-true _ _ (not-false _ (e .0)))
+use Rattle.pieces.specs.declared.pieces.Rule.{Rule}
+use Rattle.pieces.specs.Pieces.{pointsRule, piecesBy}
+use Rattle.pieces.specs.Commands.{fitIn, worstIn}
+use Rattle.pieces.specs.Written.{notedIn, NotedPlaced}
+use Rattle.pieces.proofs.Fitted.{noted-fit, noted-worst, fit-length, worst-length, worst-count}
+use Rattle.pieces.proofs.Writing.{commands-placed}
+use Rattle.fitting.specs.Calls.{fitRows, fitCall, worstCall}
 
 -- a range with steps that is not outside n points ends inside
 inside-points : (lo hi n : ℕ) → (ltb lo hi && not (ltb hi n)) ≡ false → lo < hi → hi < n
@@ -70,7 +38,7 @@ inside-points lo hi n h l = ltb-true hi n (not-false _ (subst (λ (b : Bool). (b
 
 module _ (s : List Float) (tol : Float) (lo hi kinds numbers places r : ℕ) (q : r ≡ refusal (fitRows s tol lo hi kinds numbers places)) (z : r ≡ 0) where
   pub record Accepted : Type 0 where
-    pub few : length s / 3 ≤ 2048
+    pub few : length s / 3 ≤ mostPoints
     pub above-zero : (+0 ≺ tol) ≡ true
     pub ends-inside : lo < hi → hi < length s / 3
     pub room-kinds : hi - lo ≤ kinds
@@ -148,33 +116,6 @@ module _ (s : List Float) (tol : Float) (k hi kinds numbers places : ℕ) (r : A
 
   pub left-to : (ws ws′ : List ℕ) → Wrote (λ ns. ns) (worstCall s tol 0 k kinds numbers places) ws ws′ r → ws′ ≡ left (λ ns. ns) ws (worstCall s tol 0 hi kinds numbers places)
   left-to ws ws′ w = subst (λ (i : ℕ). ws′ ≡ left (λ ns. ns) ws (worstCall s tol 0 i kinds numbers places)) e (w .leaves)
-
--- ---- the answers of both deviations; r is what the call's checks found
-module _ (s : List Float) (lo hi r : ℕ) (q : r ≡ refusal (lineRows s lo hi)) where
-  pub line-refused-answer : (r ≡ 0 → ⊥) → measured.the-variants.Refused r ≡ lineAnswer (lineCall s lo hi)
-  unfolding lineCall lineAnswer
-  line-refused-answer h = subst (λ (k : ℕ). measured.the-variants.Refused r ≡ lineAnswer (unless k (lineDeviation lineSq (pointAt s) lo hi))) q (sym (ap lineAnswer (unless-refused r _ (omega (arith, h)))))
-
-  pub line-given-answer : {w : Deviation} → r ≡ 0 → w ≡ lineDeviation lineSq (pointAt s) lo hi → measured.the-variants.Is w ≡ lineAnswer (lineCall s lo hi)
-  unfolding lineCall lineAnswer
-  line-given-answer z e = ap measured.the-variants.Is e ∙ sym (ap lineAnswer (unless-gives _ _ (sym q ∙ z)))
-
-module _ (s : List Float) (m : Point) (d : Float) (r : ℕ) (q : r ≡ refusal (arcRows s m d)) where
-  pub arc-refused-answer : (r ≡ 0 → ⊥) → around.the-variants.Refused r ≡ arcAnswer (arcCall s m d)
-  unfolding arcCall arcAnswer
-  arc-refused-answer h = subst (λ (k : ℕ). around.the-variants.Refused r ≡ arcAnswer (unless k (arcDeviation m d (pointAt s) 0 (length s / 3 - 1)))) q (sym (ap arcAnswer (unless-refused r _ (omega (arith, h)))))
-
-  pub arc-given-answer : {w : Deviation} → r ≡ 0 → w ≡ arcDeviation m d (pointAt s) 0 (length s / 3 - 1) → around.the-variants.Is w ≡ arcAnswer (arcCall s m d)
-  unfolding arcCall arcAnswer
-  arc-given-answer z e = ap around.the-variants.Is e ∙ sym (ap arcAnswer (unless-gives _ _ (sym q ∙ z)))
-
-  no-step : (n : ℕ) → n ≡ 0 → record { dist = +0; index = 0 } ≡ arcDeviation m d (pointAt s) 0 n
-  unfolding arcDeviation worst
-  no-step n e = rw e
-
-  -- below two points there is no step
-  pub arc-no-step : r ≡ 0 → length s / 3 < 2 → around.the-variants.Is (record { dist = +0; index = 0 }) ≡ arcAnswer (arcCall s m d)
-  arc-no-step z l = arc-given-answer z (no-step (length s / 3 - 1) (omega arith))
 
 -- ---- the tests of a fit, as its rows have them
 pub not-below : (a b : ℕ) → leb a b ≡ not (ltb b a)

@@ -12,16 +12,17 @@ use Rattle.floats.proofs.Order.{lt-or-ge}
 use Rattle.geo.specs.declared.types.Command.{Command}
 use Rattle.geo.specs.declared.types.Answer.{Answer}
 use Rattle.geo.specs.declared.types.Answer.the-variants as counted
+use Rattle.geo.specs.Domain.{mostPoints}
 use Rattle.geo.specs.Lent.{pointAt}
 use Rattle.geo.specs.Outcome.{Outcome, refused, gives, refusal, answer}
 use Rattle.geo.proofs.Rows.{unless-given}
+use Rattle.pieces.specs.Pieces.{pointsRule, piecesBy, piecesIn, rangesBy}
+use Rattle.pieces.specs.Commands.{pieceCommand, fitIn}
+use Rattle.pieces.proofs.Recursion.{pieces-length}
+use Rattle.pieces.proofs.Laws.{ranges-examined}
 use Rattle.fitting.specs.declared.fitting.Primitives.the-variants.{Fitted, Refused}
-use Rattle.fitting.specs.Pieces.{pointsRule, piecesBy, piecesIn, rangesBy}
-use Rattle.fitting.specs.Commands.{pieceCommand, fitIn}
 use Rattle.fitting.specs.Calls.{fitRows, fitCall, primitivesCall, examined, primitivesAnswer}
 use Rattle.fitting.specs.Examined.{piecesOf, RangesExamined}
-use Rattle.fitting.proofs.Recursion.{pieces-length}
-use Rattle.fitting.proofs.Pieces.{ranges-examined}
 use Rattle.fitting.proofs.Accepted.{fit-accepted}
 
 module _ (s : List Float) (tol : Float) where
@@ -88,11 +89,11 @@ module _ (s : List Float) (tol : Float) (kinds numbers places : ℕ) where
       go (gives xs) h = let d : counted.Refused n ≡ counted.Written (length xs) = sym q ∙ e ∙ ap answer h in let z : _≡_ {A = ℕ} 0 1 = cc in absurd (omega arith)
 
   -- an accepted call has at most 2,047 pieces
-  pub answer-few : (a : Answer) (n : ℕ) → a ≡ answer (primitivesCall s tol kinds numbers places) → a ≡ counted.Written n → n ≤ 2048
+  pub answer-few : (a : Answer) (n : ℕ) → a ≡ answer (primitivesCall s tol kinds numbers places) → a ≡ counted.Written n → n ≤ mostPoints
   unfolding answer fitCall
   answer-few a n e q = go (primitivesCall s tol kinds numbers places) refl
     where
-      go : (o : Outcome (List Command)) → primitivesCall s tol kinds numbers places ≡ o → n ≤ 2048
+      go : (o : Outcome (List Command)) → primitivesCall s tol kinds numbers places ≡ o → n ≤ mostPoints
       go (refused k) h = let d : counted.Written n ≡ counted.Refused k = sym q ∙ e ∙ ap answer h in let z : _≡_ {A = ℕ} 0 1 = cc in absurd (omega arith)
       go (gives xs) h =
           let d : counted.Written n ≡ counted.Written (length xs) = sym q ∙ e ∙ ap answer h in

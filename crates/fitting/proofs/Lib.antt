@@ -1,11 +1,3 @@
-pub mod Own
-pub mod Recursion
-pub mod Between
-pub mod Fitted
-pub mod Pieces
-pub mod Writing
-pub mod Ranges
 pub mod Accepted
-pub mod Chain
 pub mod Examined
 pub mod WorstStep

@@ -7,7 +7,7 @@ use lib.Ieee.{Float}
 use Rattle.geo.specs.declared.types.Command.{Command}
 use Rattle.geo.specs.Lent.{pointAt}
 use Rattle.geo.specs.Outcome.{gives}
-use Rattle.fitting.specs.Pieces.{pointsRule, piecesIn}
+use Rattle.pieces.specs.Pieces.{pointsRule, piecesIn}
 use Rattle.fitting.specs.Calls.{primitivesCall, examined}
 
 -- the pieces of all points

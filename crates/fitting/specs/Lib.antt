@@ -1,8 +1,3 @@
-pub mod Pieces
-pub mod Commands
-pub mod Written
-pub mod Ranges
-pub mod Laws
 pub mod Calls
 pub mod Examined
 pub mod WorstStep

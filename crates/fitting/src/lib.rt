@@ -1,2 +1,3 @@
-// Line-and-arc fitting: a chain of points as straights and bends. It is the last part of src/geo/algo/fitting.rs.
+// The fits of a list of points as straights and bends: the public calls check their arguments and refuse by document 01's
+// table. It is the third part of src/geo/algo/fitting.rs.
 pub mod fitting;

@@ -8,12 +8,12 @@ use native.Mathlib.Omega.{arith}
 use lib.ListN.{length, length-map}
 use lib.Ieee.{Float, lt}
 use Rattle.geo.specs.declared.types.Point.{Point}
-use Rattle.fitting.specs.Written.{FitPlaced}
+use Rattle.pieces.specs.Written.{FitPlaced}
 use Rattle.flatten.specs.Parts.{mostHalvings, quarterTurn, cosineBetween, bulge, middle, ArcPart, arcPart, halved, quartered}
 use Rattle.flatten.specs.declared.flatten.Ray.{Ray}
 use Rattle.flatten.specs.Written.{rayOf, bulgeOf, lowLine, lowLines}
 use Rattle.flatten.proofs.Parts.{halved-flat, halved-cut}
-use Rattle.fitting.proofs.Writing.{both-placed}
+use Rattle.pieces.proofs.Writing.{both-placed}
 
 -- what a count that is not 0 is the next of
 next : (n : ℕ) → (n ≡ 0 → ⊥) → n ≡ suc (n - 1)

@@ -15,7 +15,7 @@ use Rattle.geo.specs.declared.types.Command.the-variants.{Line}
 use Rattle.geo.specs.Lent.{triple, flat, kindOf, numbersOf}
 use Rattle.geo.proofs.Stores.{sets-append}
 use Rattle.geo.proofs.Outcomes.{nine}
-use Rattle.fitting.specs.Written.{FitPlaced}
+use Rattle.pieces.specs.Written.{FitPlaced}
 use Rattle.flatten.specs.Parts.{ArcPart}
 use Rattle.flatten.specs.Lines.{heightAfter, endAfter, lineAfter, numbered, linesOf}
 use Rattle.flatten.specs.Written.{lowLine, lowLines, heightened}

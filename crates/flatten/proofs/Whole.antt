@@ -22,7 +22,7 @@ use Rattle.geo.proofs.Rows.{row-passed}
 use Rattle.geo.proofs.Flat.{flat-length}
 use Rattle.geo.proofs.Outcomes.{commands-given, nine}
 use Rattle.trial.specs.Traversal.{offsetOf}
-use Rattle.fitting.specs.Written.{FitPlaced}
+use Rattle.pieces.specs.Written.{FitPlaced}
 use Rattle.flatten.specs.Parts.{centreOf, turnsBefore, ArcPart, quartered, partsBetween, partsOf}
 use Rattle.flatten.specs.Lines.{heightAfter, lineAfter, linesOf, drawn}
 use Rattle.floats.specs.Limits.{quarter}

@@ -22,7 +22,7 @@ ghost use lib.ListN.{length};
 ghost use Rattle.geo.specs.Outcome.{refusal};
 ghost use Rattle.geo.specs.Commands.{WroteCommands};
 ghost use Rattle.trial.specs.Traversal.{offsetOf, cross2, dot2};
-ghost use Rattle.fitting.specs.Written.{FitPlaced};
+ghost use Rattle.pieces.specs.Written.{FitPlaced};
 ghost use Rattle.flatten.specs.Parts.{centreOf, quarterTurn, turnsBy, turnsBefore, stretched, middle, halved, quartered, partsOf};
 ghost use Rattle.flatten.specs.Lines.{heightAfter, linesOf};
 ghost use Rattle.flatten.specs.Written.{rayOf, bulgeOf, lowLine, lowLines, heightened};

@@ -23,10 +23,12 @@ use Rattle.bezier.specs.Linearize.{stepEnd, paramSteps}
 use Rattle.segment.specs.Segment.{dotOn, spatial, degenerate, segmentOn, spaceSq}
 use Rattle.simplify.specs.Thin.{thinned, thinnedPoints}
 use Rattle.file.specs.Command.{HeldPoint}
-use Rattle.fitting.specs.Pieces.{distance, lineDeviation, lapsRule, hillsRule, line, Piece, arcOrCut, chooseBy, choice, follow, piecesBy, piecesIn}
-use Rattle.fitting.specs.Commands.{shaped, pieceCommand, fitIn, keptOf, chainFit}
-use Rattle.course.specs.Parts.{Part, chain, kept, closed, carried, partsFrom, partFit, fitOf}
-use Rattle.course.specs.Course.{joined, partsOn, fitOn}
+use Rattle.deviations.specs.Line.{lineDeviation}
+use Rattle.pieces.specs.Pieces.{distance, lapsRule, hillsRule, line, Piece, arcOrCut, chooseBy, choice, follow, piecesBy, piecesIn}
+use Rattle.pieces.specs.Commands.{shaped, pieceCommand, fitIn, keptOf, chainFit}
+use Rattle.chain.specs.Parts.{Part, chain, kept, closed, carried, partsFrom, partFit, fitOf}
+use Rattle.chain.specs.Joins.{joined}
+use Rattle.course.specs.Course.{partsOn, fitOn}
 use Rattle.course.specs.Demand.{thinnedChain}
 use Rattle.course.specs.Finite.{CommandsIn}
 use Rattle.course.proofs.FiniteCenters.{Placed}

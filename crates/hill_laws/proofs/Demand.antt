@@ -17,10 +17,10 @@ use Rattle.geo.specs.Outcome.{refused, gives, unless, refusal}
 use Rattle.file.specs.Bytes.{numberAt}
 use Rattle.file.specs.Command.{decoded, enc, pointFrom, HeldPoint}
 use Rattle.trial.specs.declared.trial.Trial.the-variants.{Arc, None}
-use Rattle.fitting.specs.Pieces.{hillsRule, Piece, piecesIn}
-use Rattle.fitting.specs.Commands.{fitIn}
-use Rattle.fitting.specs.Laws.{LinePasses, WrittenAs, as-line, as-first, as-second, AllWritten}
-use Rattle.fitting.proofs.Pieces.{range-fitted, pieces-written}
+use Rattle.pieces.specs.Pieces.{hillsRule, Piece, piecesIn}
+use Rattle.pieces.specs.Commands.{fitIn}
+use Rattle.pieces.specs.Laws.{LinePasses, WrittenAs, as-line, as-first, as-second, AllWritten}
+use Rattle.pieces.proofs.Laws.{range-fitted, pieces-written}
 use Rattle.course.specs.Course.{endOn}
 use Rattle.course.proofs.FinitePoints.{point-in}
 use Rattle.course.proofs.FiniteCourse.{origin-placed}

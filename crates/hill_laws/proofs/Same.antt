@@ -8,9 +8,9 @@ use native.Mathlib.Omega.{arith}
 use lib.Ieee.{Float}
 use Rattle.floats.specs.Ops.{_≺_, +0}
 use Rattle.floats.proofs.Order.{either}
-use Rattle.simplify.specs.declared.simplify.Farthest.{Farthest}
-use Rattle.simplify.specs.Measure.{Measure}
-use Rattle.simplify.specs.Farthest.{farther, farthestOf, farthestIn}
+use Rattle.farthest.specs.declared.farthest.Farthest.{Farthest}
+use Rattle.farthest.specs.Measure.{Measure}
+use Rattle.farthest.specs.Farthest.{farther, farthestOf, farthestIn}
 use Rattle.simplify.specs.Thin.{cutAt, keptBy, thinned, thinnedPoints}
 use Rattle.simplify.proofs.Kept.{cut-yes, cut-no, cut-inside}
 

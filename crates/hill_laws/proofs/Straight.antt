@@ -19,16 +19,17 @@ use Rattle.geo.specs.declared.types.Command.the-variants.{Line}
 use Rattle.geo.specs.Domain.{tolerance}
 use Rattle.geo.specs.Lent.{pointAt, triple, flat, origin}
 use Rattle.geo.proofs.Tolerance.{tolerance-positive}
-use Rattle.simplify.specs.Farthest.{farthestIn}
+use Rattle.farthest.specs.Farthest.{farthestIn}
+use Rattle.farthest.proofs.First.{found-in}
 use Rattle.simplify.specs.Thin.{keptIn, thinned, thinnedPoints}
-use Rattle.simplify.proofs.First.{found-in}
 use Rattle.simplify.proofs.Kept.{cut-first, cut-inside, kept-yes, kept-no, kept-ascending}
 use Rattle.simplify.proofs.Accepted.{ascending-length}
 use Rattle.simplify.proofs.Again.{getD-map, points-again}
 use Rattle.simplify.proofs.Thinning.{ends-kept}
-use Rattle.fitting.specs.declared.fitting.Rule.{Rule}
-use Rattle.fitting.specs.Pieces.{distance, rooted, lineDeviation, line, Piece, whole, cutAt, arcOrCut, chooseBy, choice, follow, piecesBy, piecesIn}
-use Rattle.fitting.specs.Commands.{shaped, pieceCommand, fitIn, keptOf, chainFit}
+use Rattle.pieces.specs.declared.pieces.Rule.{Rule}
+use Rattle.deviations.specs.Line.{rooted, lineDeviation}
+use Rattle.pieces.specs.Pieces.{distance, line, Piece, whole, cutAt, arcOrCut, chooseBy, choice, follow, piecesBy, piecesIn}
+use Rattle.pieces.specs.Commands.{shaped, pieceCommand, fitIn, keptOf, chainFit}
 
 -- the n single steps from lo on, each a Line
 unfoldable steps : ℕ → ℕ → List Piece

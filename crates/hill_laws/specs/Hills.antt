@@ -15,11 +15,12 @@ use Rattle.geo.specs.Lent.{endOf}
 use Rattle.geo.specs.Domain.{tolerance, point3In}
 use Rattle.geo.specs.Outcome.{refused, gives}
 use Rattle.file.specs.Command.{decoded, enc, HeldPoint}
-use Rattle.fitting.specs.declared.fitting.Rule.{Rule}
-use Rattle.fitting.specs.Pieces.{distance, lineDeviation, lapsRule, hillsRule, Piece, piecesIn}
-use Rattle.fitting.specs.Commands.{fitIn, chainFit}
-use Rattle.fitting.specs.Laws.{LinePasses, LineFails, CutThere, Uncut}
-use Rattle.course.specs.Parts.{Part, chain, kept, fitOf}
+use Rattle.pieces.specs.declared.pieces.Rule.{Rule}
+use Rattle.deviations.specs.Line.{lineDeviation}
+use Rattle.pieces.specs.Pieces.{distance, lapsRule, hillsRule, Piece, piecesIn}
+use Rattle.pieces.specs.Commands.{fitIn, chainFit}
+use Rattle.pieces.specs.Laws.{LinePasses, LineFails, CutThere, Uncut}
+use Rattle.chain.specs.Parts.{Part, chain, kept, fitOf}
 use Rattle.course.specs.Course.{partsOn, fitOn}
 use Rattle.course.specs.Demand.{thinnedChain}
 use Rattle.course.specs.Finite.{CommandsIn}

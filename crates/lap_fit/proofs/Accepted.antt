@@ -10,7 +10,7 @@ use Rattle.geo.specs.declared.types.Point3D.{Point3D}
 use Rattle.geo.specs.Lent.{origin}
 use Rattle.geo.specs.Outcome.{gives, refusal}
 use Rattle.geo.proofs.Tolerance.{tolerance-positive}
-use Rattle.fitting.specs.declared.fitting.Rule.{Rule}
+use Rattle.pieces.specs.declared.pieces.Rule.{Rule}
 use Rattle.geo.proofs.Rows.{unless-given}
 use Rattle.laps.specs.File.{Lap, lapCount, lapsOf, encode, tableOk, AllFull}
 use Rattle.laps.proofs.Laps.{somes-of}

@@ -13,8 +13,8 @@ use Rattle.geo.specs.declared.types.Command.{Command}
 use Rattle.geo.specs.Lent.{flat, kindOf, numbersOf, commandsFrom}
 use Rattle.file.specs.Command.{commandsAt, decoded, enc}
 use Rattle.file.proofs.Lent.{back-part, back-front}
-use Rattle.fitting.specs.Written.{FitPlaced}
-use Rattle.fitting.specs.declared.fitting.Rule.{Rule}
+use Rattle.pieces.specs.Written.{FitPlaced}
+use Rattle.pieces.specs.declared.pieces.Rule.{Rule}
 use Rattle.course.specs.Course.{fitOn, mostOn, lentCourse}
 use Rattle.course.proofs.Accepted.{course-few}
 use Rattle.laps.specs.File.{Lap, body, PutLap}

@@ -10,7 +10,7 @@ use Rattle.geo.specs.declared.types.Command.the-variants.{Move, Line, Arc, Bezi
 use Rattle.geo.specs.Lent.{flat, kindOf, numbersOf}
 use Rattle.file.specs.Bytes.{u32Bytes, f64Bytes}
 use Rattle.file.specs.Command.{decoded, enc}
-use Rattle.fitting.specs.declared.fitting.Rule.{Rule}
+use Rattle.pieces.specs.declared.pieces.Rule.{Rule}
 use Rattle.course.specs.Course.{fitOn}
 use Rattle.laps.specs.File.{Lap, body, bodies, table, mark, encode, Bytes}
 use Rattle.lap_fit.specs.Fit.{lapEnd, fitLap, fitLaps}

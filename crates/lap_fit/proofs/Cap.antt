@@ -4,8 +4,8 @@ use mathlib.Core.Path.{_≡_, _∙_}
 use mathlib.Core.Logic.{⊎-elim}
 use native.Mathlib.Omega.{arith}
 use Rattle.floats.proofs.Order.{lt-or-ge}
-use Rattle.course.specs.Walks.{cap}
-use Rattle.course.proofs.Count.{cap-few, cap-many, cap-most, cap-next, cap-passed, cap-over}
+use Rattle.chain.specs.Chains.{cap}
+use Rattle.chain.proofs.Count.{cap-few, cap-many, cap-most, cap-next, cap-passed, cap-over}
 
 pub cap-small : (r n : ℕ) → r ≡ cap n → r ≤ 801
 cap-small r n e = omega (arith, cap-most n)

@@ -13,12 +13,14 @@ use Rattle.geo.specs.declared.types.Point3D.{Point3D}
 use Rattle.geo.specs.declared.types.Command.{Command}
 use Rattle.geo.specs.Lent.{commandOf, endOf}
 use Rattle.file.specs.Command.{commandsAt, decoded, enc}
-use Rattle.fitting.specs.declared.fitting.Rule.{Rule}
-use Rattle.course.specs.Course.{joined, fitOn, mostOn, endOn, lentCourse}
-use Rattle.course.specs.Walks.{cap, weightOf, weightsFrom}
+use Rattle.pieces.specs.declared.pieces.Rule.{Rule}
+use Rattle.chain.specs.Chains.{cap}
+use Rattle.course.specs.Walks.{weightOf, weightsFrom}
+use Rattle.chain.specs.Joins.{joined}
+use Rattle.course.specs.Course.{fitOn, mostOn, endOn, lentCourse}
 use Rattle.course.proofs.Accepted.{course-few}
 use Rattle.course.proofs.Some.{some-fitted}
-use Rattle.course.proofs.Steps.{most-of-commands}
+use Rattle.course.proofs.Most.{most-of-commands}
 use Rattle.laps.specs.File.{Lap, lapsAt, countAt, AllFull, EachFull}
 use Rattle.laps.proofs.Turns.{laps-cons, laps-nil}
 use Rattle.laps.proofs.Whole.{whole-enc}

@@ -10,7 +10,7 @@ use Rattle.floats.proofs.Order.{lt-or-ge}
 use Rattle.geo.specs.Outcome.{refusal}
 use Rattle.geo.specs.Domain.{tolerance}
 use Rattle.geo.specs.Lent.{origin}
-use Rattle.course.specs.Walks.{cap}
+use Rattle.chain.specs.Chains.{cap}
 use Rattle.geo.proofs.Rows.{row-fails, row-passes, row-passed}
 use Rattle.laps.specs.File.{lapCount, lapsOf}
 use Rattle.laps.specs.Rows.{fileSize, sizeRows}

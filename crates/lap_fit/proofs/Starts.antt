@@ -11,7 +11,7 @@ use Rattle.geo.specs.declared.types.Point3D.{Point3D}
 use Rattle.geo.specs.declared.types.Command.the-variants.{Move}
 use Rattle.geo.specs.Lent.{commandOf}
 use Rattle.file.specs.Command.{decoded, enc, pointFrom}
-use Rattle.fitting.specs.declared.fitting.Rule.{Rule}
+use Rattle.pieces.specs.declared.pieces.Rule.{Rule}
 use Rattle.course.proofs.Start as start
 use Rattle.laps.specs.File.{Lap, lacks}
 use Rattle.laps.proofs.ReadBack.{Somes}

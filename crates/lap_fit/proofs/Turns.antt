@@ -9,7 +9,7 @@ use lib.Seq.{sets}
 use Rattle.floats.specs.Ops.{_≺_, +0}
 use Rattle.geo.specs.declared.types.Point3D.{Point3D}
 use Rattle.geo.specs.Lent.{origin}
-use Rattle.fitting.specs.declared.fitting.Rule.{Rule}
+use Rattle.pieces.specs.declared.pieces.Rule.{Rule}
 use Rattle.file.specs.Bytes.{u32Bytes}
 use Rattle.file.specs.Command.{commandsAt}
 use Rattle.laps.specs.File.{Lap, lapCount, countAt, lapsAt, lapsOf, mark, encode, commandCount}

@@ -8,8 +8,8 @@ use Rattle.geo.specs.Lent.{origin}
 use Rattle.geo.specs.Domain.{tolerance}
 use Rattle.geo.specs.Outcome.{Row, row, refusal, Outcome, unless}
 use Rattle.file.specs.Command.{decoded, enc}
-use Rattle.fitting.specs.declared.fitting.Rule.{Rule}
-use Rattle.fitting.specs.Pieces.{lapsRule, hillsRule}
+use Rattle.pieces.specs.declared.pieces.Rule.{Rule}
+use Rattle.pieces.specs.Pieces.{lapsRule, hillsRule}
 use Rattle.course.specs.Course.{fitOn, mostOn, endOn, lentCourse}
 use Rattle.laps.specs.File.{Lap, lapCount, lapsOf, encode}
 use Rattle.laps.specs.Rows.{fileRows, sizeRows}

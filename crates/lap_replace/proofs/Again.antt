@@ -8,14 +8,14 @@ use lib.ListN.{length, getD, set}
 use Rattle.floats.specs.Ops.{_≺_, +0}
 use Rattle.geo.specs.declared.types.Point3D.{Point3D}
 use Rattle.geo.specs.Lent.{origin}
-use Rattle.fitting.specs.declared.fitting.Rule.{Rule}
+use Rattle.pieces.specs.declared.pieces.Rule.{Rule}
 use Rattle.laps.specs.File.{Lap, lacks, commandCount}
 use Rattle.laps.proofs.ReadBack.{Somes}
 use Rattle.lap_fit.specs.Fit.{lapEnd, startFrom, startOf, fitLap, fitLaps, mostLap, lapsMost}
 use Rattle.lap_fit.proofs.Lap.{fit-most}
 use Rattle.lap_fit.proofs.Starts.{end-some, start-not-asked, most-start-not-asked, most-no-lap}
 use Rattle.lap_fit.proofs.Turns.{total-most}
-use Rattle.lap_replace.specs.Replace.{swap, swapBoth, nextLacks, nextLap}
+use Rattle.lap_swap.specs.Swap.{swap, swapBoth, nextLacks, nextLap}
 
 -- the lap of index i and the one behind it, by their indices
 abbrev again : Bool → ℕ → Lap → Lap → List Lap → List Lap

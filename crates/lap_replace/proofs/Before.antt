@@ -7,11 +7,11 @@ use lib.ListN.{getD}
 use lib.Ieee.{Float}
 use Rattle.geo.specs.declared.types.Point3D.{Point3D}
 use Rattle.geo.specs.Lent.{origin}
-use Rattle.fitting.specs.Pieces.{lapsRule}
+use Rattle.pieces.specs.Pieces.{lapsRule}
 use Rattle.laps.specs.File.{Lap, lacks, formOk, lapTested, lapsOk}
 use Rattle.lap_fit.specs.Fit.{lapEnd, fitLap, fitLaps, mostLap, lapsMost}
 use Rattle.lap_fit.proofs.Starts.{start-not-asked, most-start-not-asked}
-use Rattle.lap_replace.specs.Replace.{nextLacks}
+use Rattle.lap_swap.specs.Swap.{nextLacks}
 use Rattle.lap_replace.specs.Demand.{HaveMoves, fitsApart, mostApart, formedApart, NothingChanged}
 
 fits-apart : (tol : Float) (p : Point3D) (ls : List Lap) → HaveMoves ls → fitLaps (lapsRule tol) p ls ≡ fitsApart tol ls

@@ -19,8 +19,8 @@ use Rattle.geo.proofs.Rows.{unless-gives}
 use Rattle.geo.proofs.Tolerance.{tolerance-positive}
 use Rattle.file.specs.Command.{decoded, enc, lentLap}
 use Rattle.file.proofs.Lent.{lent-commands, lent-length}
-use Rattle.fitting.specs.Pieces.{lapsRule}
-use Rattle.fitting.specs.declared.fitting.Rule.{Rule}
+use Rattle.pieces.specs.Pieces.{lapsRule}
+use Rattle.pieces.specs.declared.pieces.Rule.{Rule}
 use Rattle.course.specs.Course.{fitOn, endOn, lentCourse}
 use Rattle.course.proofs.Demand.{course-gives}
 use Rattle.laps.proofs.Canonical as form
@@ -36,12 +36,14 @@ use Rattle.lap_fit.specs.Fit.{lapEnd, startOf, fitLap, fitLaps, lapsMost, fitNe
 use Rattle.lap_fit.proofs.Accepted.{Accepted, accepted, Fitted, fitted}
 use Rattle.lap_fit.proofs.Starts.{one-back, fit-at}
 use Rattle.lap_replace.specs.Demand.{lapAt, courseWith, Canonical, ReadBack, OneCourse, LapsAreFittedBy, LapsAreFitted, StartsAtTheEndBy, StartsAtTheEnd, EachLapGivesBy, EachLapGives, FitIsLapFileBy, FitIsLapFile, Fresh, ReplacedIsFresh, OthersStay, NewIsFitted, LentAsCommands, CommandsReplaced}
-use Rattle.lap_replace.specs.Replace.{swap, swapBoth, nextLacks, nextLap, lentWhole, lentFormed, mostBoth, lentNew, mostWith, row1, row2, row3, row4, row5, row7, replaceRows, replacedLaps, replaceLap}
+use Rattle.lap_swap.specs.Swap.{swap, swapBoth, nextLacks, nextLap, mostBoth, replacedLaps}
+use Rattle.lap_checks.specs.Checks.{lentWhole, lentFormed, lentNew, mostWith, row1, row2, row3, row4, row5, row7, replaceRows}
+use Rattle.lap_replace.specs.Replace.{replaceLap}
 use Rattle.lap_replace.proofs.New.{length-lent, lent-most, lent-fit, lent-end, lent-formed, lent-near}
-use Rattle.lap_replace.proofs.Replaced.{wholes-set, new-ok, new-some, new-in-total}
+use Rattle.lap_swap.proofs.Replaced.{wholes-set, new-ok, new-some, new-in-total}
 use Rattle.lap_replace.proofs.Again.{fits-replaced, mosts-replaced}
 use Rattle.lap_replace.proofs.Finite.{lap-finite}
-use Rattle.lap_replace.proofs.Rows.{NewPassed, new-sizes}
+use Rattle.lap_checks.proofs.Rows.{NewPassed, new-sizes}
 
 -- ---- the format
 -- A file whose mark and table are right is what its laps are encoded to.

@@ -11,7 +11,7 @@ use Rattle.geo.specs.declared.types.Command.{Command}
 use Rattle.geo.specs.Lent.{origin, endOf}
 use Rattle.geo.specs.Domain.{commandIn}
 use Rattle.file.specs.Command.{decoded}
-use Rattle.fitting.specs.declared.fitting.Rule.{Rule}
+use Rattle.pieces.specs.declared.pieces.Rule.{Rule}
 use Rattle.course.specs.Course.{fitOn, endOn}
 use Rattle.course.specs.Finite.{FiniteNumbers, CommandsIn}
 use Rattle.course.proofs.FiniteCenters.{Placed}

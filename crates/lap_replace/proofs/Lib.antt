@@ -1,8 +1,4 @@
-pub mod Replaced
-pub mod Body
-pub mod Swap
-pub mod Rows
-pub mod Next
+pub mod Most
 pub mod New
 pub mod Again
 pub mod Finite

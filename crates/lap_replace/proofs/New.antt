@@ -17,12 +17,12 @@ use Rattle.geo.specs.Domain.{everyFrom, formed, commandsFormed, commandIn, comm
 use Rattle.geo.proofs.Walk.{list-length}
 use Rattle.file.specs.Command.{decoded, wellFormed, laid, enc, lentBytes, lentLap, Held, HeldPoint}
 use Rattle.file.proofs.RoundTrip.{decoded-laid, formed-laid}
-use Rattle.fitting.specs.declared.fitting.Rule.{Rule}
+use Rattle.pieces.specs.declared.pieces.Rule.{Rule}
 use Rattle.course.specs.Course.{fitOn, mostOn, endOn, lentCourse}
 use Rattle.laps.specs.File.{lacks, placed, formOk, domainOk, lapOk, lapTested}
 use Rattle.laps.proofs.Here.{cond-false}
 use Rattle.lap_fit.specs.Fit.{lapEnd, fitLap, mostLap, fitNew}
-use Rattle.lap_replace.specs.Replace.{movePlaced}
+use Rattle.lap_checks.specs.Checks.{movePlaced}
 
 pub length-lent : (ks : List ℕ) (ns : List Float) → length (lentLap ks ns) ≡ length ks
 unfolding lentLap

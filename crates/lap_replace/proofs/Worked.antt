@@ -1,7 +1,7 @@
 -- The table of worked laps holds, and what stands beside it: each row by evaluation of the definitions. Assumes nothing.
 use mathlib.Core.Path.{refl}
 use lib.Ieee.{span, climb, size, odd, units, round, neg, sum, add, sub, mul, div, lt, eq, le, isNan, ofInt, toUnsigned, ofFields, ofBits, toBits}
-use Rattle.simplify.specs.Measure as line
+use Rattle.farthest.specs.Measure as line
 use Rattle.circle.specs.Collinear as collin
 use Rattle.floats.specs.Float.{absOf, ceilOf, maxOf, clampOf}
 use Rattle.floats.specs.Root.{better, rootIn, wholeRoot, rootFrom, inUnits, rootOf, plain}
@@ -12,8 +12,8 @@ use Rattle.geo.specs.Vector.{lengthOf, distanceSq, distance, cross3, dot3}
 use Rattle.geo.specs.Walk.{fold, listFrom}
 use Rattle.arc.specs.Direction.{turnAt, crossSum, clockwise}
 use Rattle.segment.specs.Segment.{parameterOf, offFoot, segmentOn, segmentSq}
-use Rattle.simplify.specs.Farthest.{farther, farthestOf, farthestIn}
-use Rattle.simplify.specs.Measure.{toLine, lineSq}
+use Rattle.farthest.specs.Farthest.{farther, farthestOf, farthestIn}
+use Rattle.farthest.specs.Measure.{toLine, lineSq}
 use Rattle.simplify.specs.Simplify.{simplifyPolyline3d}
 use Rattle.simplify.specs.Thin.{keptBy, thinned, thinnedPoints}
 use Rattle.circle.specs.Bisector.{movedBy, projected}
@@ -26,19 +26,23 @@ use Rattle.trial.specs.Deviation.{spokeOf, cosine, sagittaOf, endsOf, stepOf, s
 use Rattle.trial.specs.Traversal.{offsetOf, cross2, dot2, atCentre, halfOf, turned, turnsOf, justBehind, justAhead, passesBy, awayFrom, traverses}
 use Rattle.trial.specs.Trial.{sharpTurn, sharpAt, closedRange, measuredBy, goingRound, ofMeasured, trialRound, trialOf, ofCircle, ofCenter, trialThree, trialLeast, threeTried, leastTried, orElse, tryArcs}
 use Rattle.fitting.specs.Calls.{fitRows, fitCall, worstCall}
-use Rattle.fitting.specs.Commands.{normalOf, shaped, pieceCommand, fitIn, worstStep, pieceWorst, worstIn, chainFit}
-use Rattle.fitting.specs.Pieces.{rooted, lineDeviation, arcOrCut, chooseBy, choice, follow, piecesBy}
+use Rattle.pieces.specs.Commands.{normalOf, shaped, pieceCommand, fitIn, worstStep, pieceWorst, worstIn, chainFit}
+use Rattle.deviations.specs.Line.{rooted, lineDeviation}
+use Rattle.pieces.specs.Pieces.{arcOrCut, chooseBy, choice, follow, piecesBy}
 use Rattle.bezier.specs.Linearize.{steps, firstThird, lastThird, polygonLength, stepCount, stepsNeeded, paramSteps}
 use Rattle.geo.specs.Vector as vector
 use Rattle.file.specs.Bytes.{halfAt, wordAt, u32Bytes, f64Bytes, numberAt}
 use Rattle.file.specs.Command.{pointFrom, decoded, wellFormed, commandsAt, laid, enc}
-use Rattle.course.specs.Parts as parts
-use Rattle.course.specs.Parts.{closed, carried, partsFrom, partFit, partMost, fitOf}
-use Rattle.course.specs.Course.{joined, partsOn, fitOn, mostOn, endOn, roomRows, arcsRows, arcsCall}
+use Rattle.chain.specs.Parts as parts
+use Rattle.chain.specs.Parts.{closed, carried, partsFrom, partFit, partMost, fitOf}
+use Rattle.chain.specs.Joins.{joined}
+use Rattle.course.specs.Course.{partsOn, fitOn, mostOn, endOn, roomRows, arcsRows, arcsCall}
 use Rattle.laps.specs.File.{lapCount, offsetAt, countAt, lapsAt, lapsOf, body, bodies, table, encode, commandCount, short, big, hasMark, walk, tableOk, lacks, placed, formOk, domainOk, lapOk, lapTested, lapsOk}
 use Rattle.laps.specs.Rows.{fileRows, sizeRows}
 use Rattle.lap_fit.specs.Fit.{lapEnd, startFrom, startOf, fitLap, fitLaps, mostLap, lapsMost, fitNew, fileFitRows, fitFileBy}
-use Rattle.lap_replace.specs.Replace.{swapBoth, nextLacks, nextLap, lentWhole, movePlaced, lentFormed, mostBoth, row1, row2, row3, row4, row5, row7, tableRows, laterRows, newRows, mostWith, replaceRows, replacedLaps, replaceLap}
+use Rattle.lap_swap.specs.Swap.{swapBoth, nextLacks, nextLap, mostBoth, replacedLaps}
+use Rattle.lap_checks.specs.Checks.{lentWhole, movePlaced, lentFormed, row1, row2, row3, row4, row5, row7, tableRows, laterRows, newRows, mostWith, replaceRows}
+use Rattle.lap_replace.specs.Replace.{replaceLap}
 use Rattle.lap_replace.specs.Worked.{WorkedLaps, OutAndBack, centre-right}
 
 pub worked-laps : WorkedLaps

@@ -10,15 +10,16 @@ use Rattle.geo.specs.declared.types.Point3D.{Point3D}
 use Rattle.geo.specs.declared.types.Command.{Command}
 use Rattle.geo.specs.Outcome.{gives}
 use Rattle.geo.specs.Lent.{flat, origin, endOf, kindOf, numbersOf}
-use Rattle.fitting.specs.declared.fitting.Rule.{Rule}
+use Rattle.pieces.specs.declared.pieces.Rule.{Rule}
 use Rattle.file.specs.Command.{decoded, enc, lentLap, Held}
-use Rattle.fitting.specs.Pieces.{lapsRule}
+use Rattle.pieces.specs.Pieces.{lapsRule}
 use Rattle.course.specs.Course.{partsOn, fitOn, endOn, courseFit, courseMost, lentCourse}
 use Rattle.course.specs.Demand.{PartsGive}
 use Rattle.course.specs.Finite.{FiniteNumbers}
 use Rattle.laps.specs.File.{Lap, lapCount, lapsOf, mark, encode, tableOk, Bytes, AllFull, commandCount, lacks, formOk, lapOk, lapsOk}
 use Rattle.lap_fit.specs.Fit.{startOf, fitLap, fitLaps, lapsMost, fitNew, fitFileBy, fitFile}
-use Rattle.lap_replace.specs.Replace.{swap, nextLacks, replaceLap}
+use Rattle.lap_swap.specs.Swap.{swap, nextLacks}
+use Rattle.lap_replace.specs.Replace.{replaceLap}
 
 -- lap number j of a file, its commands as they stand
 unfoldable pub lapAt : List ℕ → ℕ → Lap

@@ -9,16 +9,16 @@ use lib.Ieee.{Float}
 use Rattle.floats.specs.Ops.{_≺_, +0}
 use Rattle.geo.specs.declared.types.Point3D.{Point3D}
 use Rattle.file.specs.Command.{decoded}
-use Rattle.fitting.specs.Pieces.{lapsRule}
-use Rattle.course.specs.Parts.{Part, chain, kept, partMost}
-use Rattle.course.specs.Parts as parts
+use Rattle.pieces.specs.Pieces.{lapsRule}
+use Rattle.chain.specs.Parts.{Part, chain, kept, partMost}
+use Rattle.chain.specs.Parts as parts
 use Rattle.course.specs.Course.{partsOn, mostOn}
 use Rattle.listing.specs.Rows.{stepsIn, sumOf, chainsSteps}
 use Rattle.listing.proofs.Laws.{chain-few, course-steps, course-rows-few}
 use Rattle.laps.specs.File.{Lap}
 use Rattle.lap_fit.specs.Fit.{lapEnd, mostLap, lapsMost}
 use Rattle.lap_rows.specs.Listing.{lapRows, lapText, lapSteps, lapsSteps}
-use Rattle.lap_rows.proofs.Text.{lines-length}
+use Rattle.lap_text.proofs.Written.{lines-length}
 
 -- the chains among several parts have no more steps than the parts' most
 chains-few : (tol : Float) (ps : List Part) → chainsSteps (lapsRule tol) ps ≤ parts.mostOf ps

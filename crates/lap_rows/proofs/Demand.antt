@@ -17,7 +17,7 @@ use Rattle.geo.specs.Lent.{origin, kindOf}
 use Rattle.geo.proofs.Rows.{refusal-front, unless-gives, unless-given}
 use Rattle.geo.proofs.Tolerance.{tolerance-positive}
 use Rattle.file.specs.Command.{decoded, enc}
-use Rattle.fitting.specs.Pieces.{lapsRule}
+use Rattle.pieces.specs.Pieces.{lapsRule}
 use Rattle.course.specs.Course.{fitOn}
 use Rattle.listing.specs.Rows.{chainRows, partRows, rowsOf, rowsOn, stepsIn, sumOf}
 use Rattle.listing.proofs.Columns.{steps-append}
@@ -31,9 +31,10 @@ use Rattle.lap_fit.proofs.Accepted.{accepted}
 use Rattle.lap_fit.proofs.Rows.{fit-6, fit-sizes}
 use Rattle.lap_replace.specs.Demand.{lapAt}
 use Rattle.lap_replace.proofs.Demand.{laps-are-fitted}
-use Rattle.lap_rows.specs.Listing.{digitsBy, decimal, lapRows, lapsSteps, listText, mostText, textRows, listFile}
+use Rattle.lap_text.specs.Text.{digitsBy, decimal}
+use Rattle.lap_rows.specs.Listing.{lapRows, lapsSteps, listText, mostText, textRows, listFile}
 use Rattle.lap_rows.specs.Demand.{spelled, DigitsSpell, NoZeroInFront, RefusedAlike, EachIsListed, kindByte, KindsOfTheFit, RowsOfTheParts, RowsOfAChain, StepsOfTheChains, allRows, SumOfTheRows}
-use Rattle.lap_rows.proofs.Decimal.{last-digit, next-digit}
+use Rattle.lap_text.proofs.Decimal.{last-digit, next-digit}
 use Rattle.lap_rows.proofs.Rows.{TextPassed, text-passed, text-6, text-8, text-0}
 use Rattle.lap_rows.proofs.Counts.{laps-few, rows-steps}
 

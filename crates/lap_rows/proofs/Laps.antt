@@ -19,9 +19,10 @@ use Rattle.geo.specs.declared.types.Point3D.{Point3D}
 use Rattle.geo.specs.Lent.{origin}
 use Rattle.lap_fit.specs.Fit.{lapEnd, mostLap, lapsMost}
 use Rattle.lap_fit.proofs.Lap.{mosts-step}
-use Rattle.lap_rows.specs.Listing.{ascii, header, lapText, lapsText, lapSteps, lapsSteps, totalText, listText, mostText}
-use Rattle.lap_rows.specs.Left.{TextPut}
-use Rattle.lap_rows.proofs.Text.{put-both, put-same, total-length, Writing, write-start, write-step, write-done}
+use Rattle.lap_text.specs.Text.{ascii, totalText}
+use Rattle.lap_rows.specs.Listing.{header, lapText, lapsText, lapSteps, lapsSteps, listText, mostText}
+use Rattle.lap_text.specs.Left.{TextPut}
+use Rattle.lap_text.proofs.Written.{put-both, put-same, total-length, Writing, write-start, write-step, write-done}
 use Rattle.lap_rows.proofs.Counts.{text-few, laps-few}
 
 -- where the loop stands before lap j + 1, which is at `at` and starts at p: what is left, written from `to` on, gives the whole, and has room with the last line; its steps, added to `total`, are all

@@ -1,7 +1,4 @@
 -- What more than one function's proof cites, and what a listing says of a fit.
-pub mod Decimal
-pub mod Text
-pub mod Lines
 pub mod Counts
 pub mod Laps
 pub mod Rows

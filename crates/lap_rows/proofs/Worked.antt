@@ -1,7 +1,7 @@
 -- The right-angle case of document 01, listed: by evaluation of the definitions. Assumes nothing.
 use mathlib.Core.Path.{refl}
 use lib.Ieee.{span, climb, size, odd, units, round, neg, sum, add, sub, mul, div, lt, eq, le, isNan, ofInt, toUnsigned, ofFields, ofBits, toBits}
-use Rattle.simplify.specs.Measure as line
+use Rattle.farthest.specs.Measure as line
 use Rattle.circle.specs.Collinear as collin
 use Rattle.floats.specs.Float.{absOf, ceilOf, maxOf, clampOf}
 use Rattle.floats.specs.Root.{better, rootIn, wholeRoot, rootFrom, inUnits, rootOf, plain}
@@ -12,8 +12,8 @@ use Rattle.geo.specs.Vector.{lengthOf, distanceSq, distance, cross3, dot3}
 use Rattle.geo.specs.Walk.{fold, listFrom}
 use Rattle.arc.specs.Direction.{turnAt, crossSum, clockwise}
 use Rattle.segment.specs.Segment.{parameterOf, offFoot, segmentOn, segmentSq}
-use Rattle.simplify.specs.Farthest.{farther, farthestOf, farthestIn}
-use Rattle.simplify.specs.Measure.{toLine, lineSq}
+use Rattle.farthest.specs.Farthest.{farther, farthestOf, farthestIn}
+use Rattle.farthest.specs.Measure.{toLine, lineSq}
 use Rattle.simplify.specs.Thin.{keptBy, thinned, thinnedPoints}
 use Rattle.circle.specs.Bisector.{movedBy, projected}
 use Rattle.circle.specs.Collinear.{nearTo, besideOf, allNear, allBeside, collinearBy, collinear}
@@ -23,19 +23,22 @@ use Rattle.circle.specs.Worst.{worse, worst}
 use Rattle.trial.specs.Deviation.{spokeOf, cosine, sagittaOf, endsOf, stepOf, stepBetween, arcDeviation}
 use Rattle.trial.specs.Traversal.{offsetOf, cross2, dot2, atCentre, halfOf, turned, turnsOf, justBehind, justAhead, passesBy, awayFrom, traverses}
 use Rattle.trial.specs.Trial.{sharpTurn, sharpAt, closedRange, measuredBy, goingRound, ofMeasured, trialRound, trialOf, ofCircle, ofCenter, trialThree, trialLeast, orElse, tryArcs}
-use Rattle.fitting.specs.Commands.{normalOf, shaped, pieceCommand, fitIn}
-use Rattle.fitting.specs.Pieces.{rooted, lineDeviation, arcOrCut, chooseBy, choice, follow, piecesBy}
+use Rattle.pieces.specs.Commands.{normalOf, shaped, pieceCommand, fitIn}
+use Rattle.deviations.specs.Line.{rooted, lineDeviation}
+use Rattle.pieces.specs.Pieces.{arcOrCut, chooseBy, choice, follow, piecesBy}
 use Rattle.geo.specs.Vector as vector
 use Rattle.file.specs.Bytes.{halfAt, wordAt, u32Bytes, f64Bytes, numberAt}
 use Rattle.file.specs.Command.{pointFrom, decoded, wellFormed, commandsAt, enc}
-use Rattle.course.specs.Parts as parts
-use Rattle.course.specs.Parts.{closed, carried, partsFrom, partMost}
-use Rattle.course.specs.Course.{joined, partsOn, mostOn, endOn}
+use Rattle.chain.specs.Parts as parts
+use Rattle.chain.specs.Parts.{closed, carried, partsFrom, partMost}
+use Rattle.chain.specs.Joins.{joined}
+use Rattle.course.specs.Course.{partsOn, mostOn, endOn}
 use Rattle.listing.specs.Rows.{shapeKind, letterOf, pieceRow, chainRows, partRows, rowsOf, rowsOn, chainSteps, chainsSteps}
 use Rattle.laps.specs.File.{lapCount, offsetAt, countAt, lapsAt, lapsOf, body, bodies, table, encode, short, big, hasMark, walk, tableOk, placed, formOk, domainOk, lacks, lapOk, lapTested, lapsOk}
 use Rattle.laps.specs.Rows.{fileRows}
 use Rattle.lap_fit.specs.Fit.{lapEnd, mostLap, lapsMost}
-use Rattle.lap_rows.specs.Listing.{ascii, digitsBy, decimal, rowText, rowsText, lapRows, lapText, lapsText, lapSteps, lapsSteps, totalText, listText, textRows, listFile}
+use Rattle.lap_text.specs.Text.{ascii, digitsBy, decimal, rowText, rowsText, totalText}
+use Rattle.lap_rows.specs.Listing.{lapRows, lapText, lapsText, lapSteps, lapsSteps, listText, textRows, listFile}
 use Rattle.lap_rows.specs.Worked.{RightAngle, NoLaps}
 
 -- The right angle, as one lap of a Move and two Lines, lists as document 01 prints it, and its two steps are the sum.

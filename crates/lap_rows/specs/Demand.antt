@@ -8,8 +8,8 @@ use Rattle.geo.specs.Outcome.{refusal, gives}
 use Rattle.geo.specs.declared.types.Point3D.{Point3D}
 use Rattle.geo.specs.Lent.{flat, origin}
 use Rattle.file.specs.Command.{decoded}
-use Rattle.fitting.specs.Pieces.{lapsRule}
-use Rattle.course.specs.Parts.{chain}
+use Rattle.pieces.specs.Pieces.{lapsRule}
+use Rattle.chain.specs.Parts.{chain}
 use Rattle.course.specs.Course.{partsOn}
 use Rattle.course.specs.Demand.{chainPieces}
 use Rattle.listing.specs.Rows.{ListRow, pieceRow, partRows, kindsOf, stepsIn, sumOf, chainsSteps}
@@ -17,7 +17,8 @@ use Rattle.laps.specs.File.{Lap, lapCount, lapsOf}
 use Rattle.laps.specs.Rows.{fileSize}
 use Rattle.lap_fit.specs.Fit.{lapEnd, startOf, fileFitRows, fitFile}
 use Rattle.lap_replace.specs.Demand.{lapAt}
-use Rattle.lap_rows.specs.Listing.{decimal, lapRows, lapsSteps, listText, mostText, textRows, listFile}
+use Rattle.lap_text.specs.Text.{decimal}
+use Rattle.lap_rows.specs.Listing.{lapRows, lapsSteps, listText, mostText, textRows, listFile}
 
 -- ---- the text
 -- the number that decimal digits spell, `before` being that of the digits in front of them

@@ -1,4 +1,3 @@
 pub mod Listing
-pub mod Left
 pub mod Demand
 pub mod Worked

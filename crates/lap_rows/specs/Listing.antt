@@ -1,54 +1,23 @@
 -- The listing of a recorded file as text: which row of document 01's table refuses it, else its bytes. Definitions only.
--- "It lists lap, kind letter (M, L, A) and steps of the thinned chain covered (0 for M and a kept Arc)" (document 01, "Worked laps").
-use Prim.Native.Nat.{ℕ, zero, suc, _+_, _*_, _/_, _%_}
-use Prim.Native.Char.{code}
-use Prim.Native.String.{String, len, charAt}
+use Prim.Native.Nat.{ℕ, _+_, _*_}
 use mathlib.Core.Bool.{not}
 use mathlib.Core.List.{List, [], _∷_, _++_, map}
 use lib.Dec.{ltb}
 use lib.Ieee.{Float}
-use Rattle.floats.specs.Ops.{if_then_else_}
 use Rattle.geo.specs.declared.types.Point3D.{Point3D}
 use Rattle.geo.specs.Domain.{tolerance}
-use Rattle.geo.specs.Lent.{flat, origin}
+use Rattle.geo.specs.Lent.{origin}
 use Rattle.geo.specs.Outcome.{Row, row, refusal, Outcome, unless}
-use Rattle.geo.specs.Walk.{listFrom}
 use Rattle.file.specs.Command.{decoded}
-use Rattle.fitting.specs.Pieces.{lapsRule}
+use Rattle.pieces.specs.Pieces.{lapsRule}
 use Rattle.course.specs.Course.{partsOn}
-use Rattle.listing.specs.Rows.{ListRow, letterOf, rowsOn, chainsSteps}
+use Rattle.listing.specs.Rows.{ListRow, rowsOn, chainsSteps}
 use Rattle.laps.specs.File.{Lap, lapsOf}
 use Rattle.laps.specs.Rows.{fileRows}
 use Rattle.lap_fit.specs.Fit.{lapEnd, lapsMost}
+use Rattle.lap_text.specs.Text.{ascii, rowsText, totalText}
 
--- ---- text
--- the bytes of a text of ASCII characters
-unfoldable pub ascii : String → List ℕ
-ascii text = listFrom (λ i. code (charAt text i)) (len text) 0
-
--- a number's decimal digits, with no zero in front: at most `more` of them, and a number has no more digits than one more than itself
-unfoldable pub digitsBy : ℕ → ℕ → List ℕ
-digitsBy zero n = []
-digitsBy (suc more) n = if ltb n 10 then ((48 + n) ∷ []) else (digitsBy more (n / 10) ++ ((48 + n % 10) ∷ []))
-
-unfoldable pub decimal : ℕ → List ℕ
-decimal n = digitsBy (suc n) n
-
-abbrev pub comma : ℕ
-comma = 44
-
-abbrev pub newline : ℕ
-newline = 10
-
--- one line: lap, kind letter, steps
-unfoldable pub rowText : ℕ → ListRow → List ℕ
-rowText lap r = decimal lap ++ (comma ∷ letterOf (r .kind) ∷ comma ∷ []) ++ decimal (r .steps) ++ (newline ∷ [])
-
--- a line for each row of a lap,
-unfoldable pub rowsText : ℕ → List ListRow → List ℕ
-rowsText lap rs = flat (rowText lap) rs
-
--- whose rows are those of its commands from its start p
+-- the rows of a lap are those of its commands from its start p; its text has a line for each
 unfoldable pub lapRows : Float → Point3D → Lap → List ListRow
 lapRows tol p l = rowsOn (lapsRule tol) p (map decoded l)
 
@@ -72,17 +41,9 @@ unfoldable pub lapsSteps : Float → Point3D → List Lap → ℕ
 lapsSteps tol p [] = 0
 lapsSteps tol p (l ∷ ls) = lapSteps tol p l + lapsSteps tol (lapEnd p l) ls
 
--- "a line `total,N`"
-unfoldable pub totalText : ℕ → List ℕ
-totalText n = ascii "total," ++ decimal n ++ (newline ∷ [])
-
 -- ---- the whole
 unfoldable pub listText : Float → List Lap → List ℕ
 listText tol ls = header ++ lapsText tol 1 origin ls ++ totalText (lapsSteps tol origin ls)
-
--- "A refusal prints the one line `refused,N`"
-unfoldable pub refusalText : ℕ → List ℕ
-refusalText n = ascii "refused," ++ decimal n ++ (newline ∷ [])
 
 -- ---- the listing of the file s into an output of `room` bytes
 -- room for the first line, `most` rows and the last line: a row has at most nine bytes, as a lap's number is at most 64 and its steps at most 800; the last line has at most ten, as the sum is at most 800 too

@@ -9,7 +9,8 @@ use Rattle.file.specs.Command.{enc}
 use Rattle.floats.specs.Limits.{fraction}
 use Rattle.laps.specs.File.{encode}
 use Rattle.lap_replace.specs.Worked.{point}
-use Rattle.lap_rows.specs.Listing.{ascii, listFile}
+use Rattle.lap_text.specs.Text.{ascii}
+use Rattle.lap_rows.specs.Listing.{listFile}
 
 -- "as one lap of a Move and two Lines"
 abbrev pub angle : List Command

@@ -11,8 +11,9 @@ use Rattle.floats.proofs.Order.{and-left}
 use Rattle.file.specs.Command.{commandsAt}
 use Rattle.laps.specs.File.{Lap, lapsOf, commandCount}
 use Rattle.laps.proofs.Whole.{length-commands}
-use Rattle.lap_replace.specs.Replace.{nextLacks, mostWith, storedLaps}
-use Rattle.lap_replace.proofs.Replaced.{total-both}
+use Rattle.lap_swap.specs.Swap.{nextLacks, storedLaps}
+use Rattle.lap_checks.specs.Checks.{mostWith}
+use Rattle.lap_swap.proofs.Replaced.{total-both}
 use Rattle.lap_session.specs.declared.session.Ticket.{Ticket}
 use Rattle.lap_session.specs.Session.{refitsNext, countsAgree, partNew}
 

@@ -13,14 +13,15 @@ use Rattle.geo.specs.declared.types.Answer.the-variants as answer
 use Rattle.geo.specs.Outcome as outcome
 use Rattle.geo.specs.Outcome.{refusal, unless, left, refused, gives}
 use Rattle.geo.proofs.Rows.{row-fails, row-passes, row-passed, done, unless-refused, unless-gives}
-use Rattle.course.specs.Walks.{cap}
-use Rattle.course.proofs.Count.{cap-few}
+use Rattle.chain.specs.Chains.{cap}
+use Rattle.chain.proofs.Count.{cap-few}
 use Rattle.laps.specs.File.{Lap, lapCount, lapsOf, big, commandCount}
 use Rattle.laps.specs.Rows.{fileSize, sizeRows}
 use Rattle.laps.proofs.Rows.{refused-front}
 use Rattle.lap_fit.proofs.Cap.{told-more, told-below}
-use Rattle.lap_replace.specs.Replace.{swapBoth, nextLacks, NewLap, row2, newRows, mostWith, replaceRows, PutBoth}
-use Rattle.lap_replace.proofs.Rows.{NewPassed, new-passed-with, behind-new, new-refused, new-sizes, sizes-with, replace-passed}
+use Rattle.lap_swap.specs.Swap.{swapBoth, nextLacks, PutBoth}
+use Rattle.lap_checks.specs.Checks.{NewLap, row2, newRows, mostWith, replaceRows}
+use Rattle.lap_checks.proofs.Rows.{NewPassed, new-passed-with, behind-new, new-refused, new-sizes, sizes-with, replace-passed}
 use Rattle.lap_session.specs.declared.session.Session.{Session}
 use Rattle.lap_session.specs.declared.session.Ticket.{Ticket}
 use Rattle.lap_session.specs.declared.session.Asked.the-variants as asked

@@ -10,9 +10,10 @@ use Rattle.floats.specs.Ops.{if_then_else_}
 use Rattle.geo.specs.Domain.{whole}
 use Rattle.geo.specs.Outcome.{Row, row, refusal, Outcome, refused, gives, unless, left, Wrote}
 use Rattle.file.specs.Command.{commandsAt}
-use Rattle.fitting.specs.Pieces.{lapsRule}
+use Rattle.pieces.specs.Pieces.{lapsRule}
 use Rattle.laps.specs.File.{Lap, lapsOf, body, encode, fittedOk, finiteOk, lapOk, lapTested}
-use Rattle.lap_replace.specs.Replace.{nextLacks, NewLap, lentNew, newRows, mostWith, replaceRows, newFit, nextFit, storedLaps}
+use Rattle.lap_swap.specs.Swap.{nextLacks, newFit, nextFit, storedLaps}
+use Rattle.lap_checks.specs.Checks.{NewLap, lentNew, newRows, mostWith, replaceRows}
 use Rattle.lap_session.specs.declared.session.Session.{Session}
 use Rattle.lap_session.specs.declared.session.Ticket.{Ticket}
 use Rattle.lap_session.specs.declared.session.Asked as asking

@@ -1,22 +1,21 @@
 // Look first, then store (document 02, §9): an asking fits the laps that a replacement would fit again, into a lent buffer, and gives a
 // ticket; a commit takes the ticket and that part of the buffer, and writes the file. Session and ticket are values, and any may be forged.
 use file::command::COMMAND_BYTES;
-use fitting::fitting::Rule;
 use geo::types::Answer;
-use lap_replace::replace::check_laps;
-use lap_replace::replace::check_new;
-use lap_replace::replace::check_tables;
-use lap_replace::replace::fit_both;
-use lap_replace::replace::most_new;
-use lap_replace::replace::next_of;
-use lap_replace::replace::put_part;
-use lap_replace::replace::with_others;
+use lap_checks::checks::check_laps;
+use lap_checks::checks::check_tables;
+use lap_checks::checks::look_at_new;
+use lap_swap::swap::fit_both;
+use lap_swap::swap::next_of;
+use lap_swap::swap::put_part;
+use lap_swap::swap::with_others;
 use laps::lap_file::Check;
 use laps::lap_file::MOST_COMMANDS;
 use laps::lap_file::check_sizes;
 use laps::lap_file::commands_pass;
 use laps::lap_file::lap_count;
 use laps::lap_file::lap_passes;
+use pieces::pieces::Rule;
 ghost use mathlib.Core.Path.{_≡_};
 ghost use mathlib.Core.Bool.{true, false, _&&_};
 ghost use Prim.Native.Nat.{_+_, _*_, _/_, _≤_};
@@ -25,7 +24,7 @@ ghost use lib.Dec.{leb};
 ghost use Rattle.geo.specs.Outcome.{refusal};
 ghost use Rattle.file.specs.Command.{commandsAt};
 ghost use Rattle.laps.specs.File.{lapsOf, tableOk, tested, lapOk, lapTested};
-ghost use Rattle.lap_replace.specs.Replace.{lentNew, newRows};
+ghost use Rattle.lap_checks.specs.Checks.{lentNew, newRows};
 ghost use Rattle.lap_session.specs.Session.{begun, askRows, askLap, Answers, refitsNext, countsAgree, partNew, commitRows, commitLap, Commits};
 
 // A session: how many commits it accepted.
@@ -79,15 +78,14 @@ fn check_asking(
 ) -> u32
     ensures { λ r. ⌜ r ≡ refusal (askRows (now (s .entry)) (now (f .entry)) k (lentNew tolerance (lapsOf (now (s .entry))) k (now (kinds .entry)) (now (nums .entry))) tolerance room) ⌝ }
 {
-    let refused = check_new(s, f, k, kinds, nums, tolerance);
-    if refused != 0 {
-        return refused;
+    let new = look_at_new(s, f, k, kinds, nums, tolerance);
+    if new.refused != 0 {
+        return new.refused;
     }
-    let own = most_new(s, k, kinds, nums, tolerance);
-    if MOST_COMMANDS < with_others(s, f, k, own) {
+    if MOST_COMMANDS < new.all {
         return 8;
     }
-    if room < COMMAND_BYTES * own {
+    if room < COMMAND_BYTES * new.own {
         return 9;
     }
     0

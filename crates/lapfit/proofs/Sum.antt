@@ -11,7 +11,7 @@ use lib.Dec.{ltb}
 use lib.Ieee.{Float}
 use Rattle.floats.specs.Ops.{if_then_else_}
 use Rattle.floats.proofs.Order.{lt-or-ge}
-use Rattle.geo.specs.Lent.{flat}
+use Rattle.geo.specs.Lent.{flat, origin}
 use Rattle.geo.specs.Outcome.{Outcome, refused, gives}
 use Rattle.geo.specs.Walk.{listFrom}
 use Rattle.file.specs.Bytes.{numberAt}
@@ -19,12 +19,12 @@ use Rattle.listing.specs.Rows.{ListRow, letterOf, stepsIn, sumOf}
 use Rattle.listing.proofs.Columns.{steps-append}
 use Rattle.listing.proofs.Laws.{sum-append}
 use Rattle.laps.specs.File.{Lap, lapsOf}
-use Rattle.lap_rows.specs.Listing.{ascii, digitsBy, decimal, comma, newline, rowText, rowsText, lapRows, lapText, lapsText, lapsSteps, header, totalText, listText, refusalText, mostText, listFile}
+use Rattle.lap_text.specs.Text.{ascii, digitsBy, decimal, comma, newline, rowText, rowsText, totalText, refusalText}
+use Rattle.lap_rows.specs.Listing.{lapRows, lapText, lapsText, lapsSteps, header, listText, mostText, listFile}
 use Rattle.lap_rows.specs.Demand.{allRows}
 use Rattle.geo.specs.declared.types.Point3D.{Point3D}
-use Rattle.geo.specs.Lent.{origin}
 use Rattle.lap_fit.specs.Fit.{lapEnd}
-use Rattle.lap_rows.proofs.Decimal.{last-digit, next-digit}
+use Rattle.lap_text.proofs.Decimal.{last-digit, next-digit}
 use Rattle.lap_rows.proofs.Demand.{digits-spell, listed-passes, sum-of-the-rows}
 use Rattle.printing.specs.Printed.{printed}
 use Rattle.printing.specs.Input.{listInput}

@@ -10,7 +10,8 @@ use Rattle.geo.specs.Outcome.{refused, gives}
 use Rattle.file.specs.Bytes.{numberAt}
 use Rattle.listing.specs.Rows.{sumOf}
 use Rattle.laps.specs.File.{lapsOf}
-use Rattle.lap_rows.specs.Listing.{ascii, decimal, comma, newline, lapsSteps, mostText}
+use Rattle.lap_text.specs.Text.{ascii, decimal, comma, newline}
+use Rattle.lap_rows.specs.Listing.{lapsSteps, mostText}
 use Rattle.lap_rows.specs.Demand.{spelled}
 use Rattle.printing.specs.Input.{listInput}
 use Rattle.lapfit.specs.Input.{lapfitText}

@@ -1,7 +1,7 @@
 // Reads eight bytes of tolerance, then a lap file, from standard input. A refusal prints one line. An accepted file prints
 // the listing of its fit: lap, kind letter and steps of each command that the fit writes, and the sum of the steps under them.
 use geo::types::Answer;
-use lap_rows::lap_rows::put_refusal;
+use lap_text::text::put_refusal;
 use libc::STDIN_FILENO;
 use libc::STDOUT_FILENO;
 use printing::input::list_input;

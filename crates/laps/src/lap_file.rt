@@ -270,7 +270,7 @@ pub fn lap_passes(check: Check, must: bool, s: &[u8], at: usize, n: usize) -> bo
 }
 
 // The same of all laps. Only the first must have its Move.
-pub fn all_pass(check: Check, s: &[u8]) -> bool
+fn all_pass(check: Check, s: &[u8]) -> bool
     requires { ⌜ (8 ≤ length (now s)) × (tableOk (now s) ≡ true) ⌝ }
     ensures { λ r. ⌜ r ≡ lapsOk (tested check) true (lapsOf (now (s .entry))) ⌝ }
 {
@@ -289,7 +289,7 @@ pub fn all_pass(check: Check, s: &[u8]) -> bool
 }
 
 // The first of the rows 4 and 5 that a file falls under, or 0. A file that passes both, as nearly every one does, is read once.
-fn check_commands(s: &[u8]) -> u32
+pub fn check_commands(s: &[u8]) -> u32
     requires { ⌜ (8 ≤ length (now s)) × (tableOk (now s) ≡ true) ⌝ }
     ensures { λ r. ⌜ r ≡ refusal (commandsRows (now (s .entry))) ⌝ }
 {

@@ -1,6 +1,6 @@
 // Reads a course of SVG path data from standard input, and writes its lap file to standard output. A refusal prints one line.
 use geo::types::Answer;
-use lap_rows::lap_rows::put_refusal;
+use lap_text::text::put_refusal;
 use libc::STDIN_FILENO;
 use libc::STDOUT_FILENO;
 use printing::rest::drain;

@@ -16,16 +16,17 @@ use Rattle.geo.specs.declared.types.Command.{Command}
 use Rattle.geo.specs.declared.types.Command.the-variants.{Move, Line, Arc, Bezier}
 use Rattle.geo.specs.Lent.{triple, flat, endOf, kindOf}
 use Rattle.geo.proofs.Flat.{flat-append, flat-one}
-use Rattle.fitting.specs.declared.fitting.Rule.{Rule}
-use Rattle.fitting.specs.Pieces.{Shape, line, arc, Piece, piecesBy}
-use Rattle.fitting.specs.Commands.{shaped, pieceCommand, fitIn, keptOf, chainFit}
-use Rattle.fitting.specs.Laws.{Covers}
-use Rattle.fitting.proofs.Pieces.{pieces-cover}
-use Rattle.fitting.proofs.Chain.{kept-few, kept-some}
-use Rattle.course.specs.Parts.{Part, chain, kept, closed, carried, partsFrom, partFit, fitOf}
-use Rattle.course.specs.Course.{joined, partsOn, fitOn, mostOn}
+use Rattle.pieces.specs.declared.pieces.Rule.{Rule}
+use Rattle.pieces.specs.Pieces.{Shape, line, arc, Piece, piecesBy}
+use Rattle.pieces.specs.Commands.{shaped, pieceCommand, fitIn, keptOf, chainFit}
+use Rattle.pieces.specs.Laws.{Covers}
+use Rattle.pieces.proofs.Laws.{pieces-cover}
+use Rattle.ranges.proofs.Chain.{kept-few, kept-some}
+use Rattle.chain.specs.Parts.{Part, chain, kept, closed, carried, partsFrom, partFit, fitOf}
+use Rattle.chain.specs.Joins.{joined}
+use Rattle.chain.proofs.Parts.{parts-step, parts-end}
+use Rattle.course.specs.Course.{partsOn, fitOn, mostOn}
 use Rattle.course.specs.Demand.{thinnedAt, stepsOf, chainPieces}
-use Rattle.course.proofs.Parts.{parts-step, parts-end}
 use Rattle.course.proofs.Accepted.{course-few}
 use Rattle.listing.specs.Rows.{ListRow, keptRow, shapeKind, letterOf, pieceRow, chainRows, partRows, rowsOf, rowsOn, kindsOf, stepsIn, Lettered, sumOf, chainSteps, chainsSteps}
 use Rattle.listing.proofs.Columns.{kinds-append, steps-append, kinds-length}

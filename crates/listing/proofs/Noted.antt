@@ -9,17 +9,18 @@ use lib.Ieee.{Float}
 use Rattle.geo.specs.declared.types.Point3D.{Point3D}
 use Rattle.geo.specs.declared.types.Command.{Command}
 use Rattle.geo.specs.Lent.{flat, kindOf}
-use Rattle.fitting.specs.declared.fitting.Note.{Note}
-use Rattle.fitting.specs.declared.fitting.Note.the-variants.{Steps}
-use Rattle.fitting.specs.declared.fitting.Rule.{Rule}
-use Rattle.fitting.specs.Pieces.{Piece}
-use Rattle.fitting.specs.Commands.{pieceWorst}
-use Rattle.fitting.specs.Written.{commandsOf, notesOf, noteBy, pieceNoted, notedIn, chainNoted, NotedPlaced}
-use Rattle.fitting.proofs.Writing.{notes-append}
-use Rattle.course.specs.Parts.{Part, chain, kept}
+use Rattle.pieces.specs.declared.pieces.Note.{Note}
+use Rattle.pieces.specs.declared.pieces.Note.the-variants.{Steps}
+use Rattle.pieces.specs.declared.pieces.Rule.{Rule}
+use Rattle.pieces.specs.Pieces.{Piece}
+use Rattle.pieces.specs.Commands.{pieceWorst}
+use Rattle.pieces.specs.Written.{commandsOf, notesOf, noteBy, pieceNoted, notedIn, chainNoted, NotedPlaced}
+use Rattle.pieces.proofs.Writing.{notes-append}
+use Rattle.chain.specs.Parts.{Part, chain, kept}
+use Rattle.chain.specs.Chains.{partNoted, notedOf}
 use Rattle.course.specs.Course.{partsOn}
 use Rattle.course.specs.Demand.{thinnedAt, chainPieces}
-use Rattle.course.specs.Walks.{partNoted, notedOf, notedOn}
+use Rattle.course.specs.Walks.{notedOn}
 use Rattle.course.proofs.Accepted.{course-commands}
 use Rattle.listing.specs.Rows.{pieceRow, chainRows, partRows, rowsOf, rowsOn, kindsOf, stepsIn}
 use Rattle.listing.specs.Placed.{RowsPlaced}

@@ -9,9 +9,9 @@ use Rattle.floats.specs.Ops.{if_then_else_}
 use Rattle.geo.specs.declared.types.Point3D.{Point3D}
 use Rattle.geo.specs.declared.types.Command.{Command}
 use Rattle.geo.specs.Lent.{flat, kindOf}
-use Rattle.fitting.specs.declared.fitting.Rule.{Rule}
-use Rattle.fitting.specs.Pieces.{Shape, line, arc, Piece}
-use Rattle.course.specs.Parts.{Part, chain, kept}
+use Rattle.pieces.specs.declared.pieces.Rule.{Rule}
+use Rattle.pieces.specs.Pieces.{Shape, line, arc, Piece}
+use Rattle.chain.specs.Parts.{Part, chain, kept}
 use Rattle.course.specs.Course.{partsOn}
 use Rattle.course.specs.Demand.{thinnedChain, chainPieces}
 

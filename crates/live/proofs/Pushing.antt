@@ -9,8 +9,8 @@ use lib.Dec.{ltb}
 use Rattle.floats.specs.Ops.{_≺_}
 use Rattle.floats.proofs.Order.{lt-or-ge, or-false}
 use Rattle.geo.specs.declared.types.Point3D.{Point3D}
-use Rattle.simplify.specs.Measure.{lineSq}
-use Rattle.fitting.specs.Pieces.{lineDeviation}
+use Rattle.deviations.specs.Line.{lineDeviation}
+use Rattle.farthest.specs.Measure.{lineSq}
 use Rattle.live.specs.declared.live.Live.{Live}
 use Rattle.live.specs.declared.live.End.the-variants.{At, Nothing}
 use Rattle.live.specs.declared.live.Fed.{Fed}

@@ -9,8 +9,8 @@ use lib.Ieee.{Float}
 use Rattle.floats.specs.Ops.{_≺_, +0, if_then_else_}
 use Rattle.geo.specs.declared.types.Point3D.{Point3D}
 use Rattle.geo.specs.Lent.{pointAt, triple}
-use Rattle.simplify.specs.Measure.{lineSq}
-use Rattle.fitting.specs.Pieces.{lineDeviation}
+use Rattle.deviations.specs.Line.{lineDeviation}
+use Rattle.farthest.specs.Measure.{lineSq}
 use Rattle.live.specs.declared.live.Live.{Live}
 
 -- the anchor and "up to 64 points after it"

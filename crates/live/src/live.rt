@@ -1,4 +1,6 @@
 // The live thinner, its state by value: each call is given the last one's state. A refused call gives the state back as it came.
+use farthest::farthest::Ruler;
+use farthest::farthest::farthest_between;
 use floats::root::sqrt;
 use geo::domain::all_coordinates;
 use geo::domain::is_tolerance;
@@ -7,8 +9,6 @@ use geo::lent::point_at;
 use geo::lent::put_point;
 use geo::types::Answer;
 use geo::types::Point3D;
-use simplify::simplify::Ruler;
-use simplify::simplify::farthest_between;
 ghost use mathlib.Core.Path.{_≡_};
 ghost use mathlib.Core.Bool.{_||_};
 ghost use Prim.Native.Nat.{_+_, _*_, _-_, _<_, _≤_};
@@ -19,8 +19,8 @@ ghost use Rattle.floats.specs.Ops.{_≺_};
 ghost use Rattle.floats.specs.Root.{rootOf};
 ghost use Rattle.geo.specs.Lent.{flat, triple};
 ghost use Rattle.geo.specs.Outcome.{refusal};
-ghost use Rattle.simplify.specs.Measure.{lineSq};
-ghost use Rattle.fitting.specs.Pieces.{lineDeviation};
+ghost use Rattle.deviations.specs.Line.{lineDeviation};
+ghost use Rattle.farthest.specs.Measure.{lineSq};
 ghost use Rattle.live.specs.declared.live.End.the-variants.{At};
 ghost use Rattle.live.specs.Thinner.{slot, started, behind, cutting, push, forgotten};
 ghost use Rattle.live.specs.Calls.{feed, retune, close, startRows, stateRows, liveRows, liveCall, given, fedAnswer, Tuned};

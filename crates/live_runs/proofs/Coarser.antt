@@ -17,8 +17,8 @@ use Rattle.geo.specs.Lent.{pointAt}
 use Rattle.geo.specs.Domain.{within, tolerance}
 use Rattle.geo.specs.Outcome.{refusal}
 use Rattle.geo.proofs.Rows.{unless-given}
-use Rattle.simplify.specs.Measure.{lineSq}
-use Rattle.fitting.specs.Pieces.{lineDeviation}
+use Rattle.deviations.specs.Line.{lineDeviation}
+use Rattle.farthest.specs.Measure.{lineSq}
 use Rattle.live.specs.declared.live.Live.{Live}
 use Rattle.live.specs.Thinner.{slotCount, slot, put, started, behind, goesOn, push, feedAgain, anchored, forgotten, retuned}
 use Rattle.live.specs.Calls.{retune, liveRows, nextOf, liveCall}

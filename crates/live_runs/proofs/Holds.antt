@@ -17,8 +17,8 @@ use Rattle.floats.proofs.Order.{either, and-right, or-false, or-right}
 use Rattle.geo.specs.declared.types.Point3D.{Point3D}
 use Rattle.geo.specs.Lent.{pointAt}
 use Rattle.geo.specs.Domain.{point3In}
-use Rattle.simplify.specs.Measure.{lineSq}
-use Rattle.fitting.specs.Pieces.{lineDeviation}
+use Rattle.deviations.specs.Line.{lineDeviation}
+use Rattle.farthest.specs.Measure.{lineSq}
 use Rattle.live.specs.declared.live.Live.{Live}
 use Rattle.live.specs.Thinner.{Next, slotCount, slot, put, behind, cutting, goesOn, push, feedAgain, anchored, forgotten, retuned}
 use Rattle.live_runs.specs.Run.{LineEnd, endUnder}

@@ -17,9 +17,9 @@ use Rattle.floats.specs.Limits.{million}
 use Rattle.geo.specs.Domain.{coordinate, point3In}
 use Rattle.geo.specs.Vector.{lengthSq, perpDot}
 use Rattle.segment.specs.Segment.{degenerate}
-use Rattle.simplify.specs.Measure.{chordOf, toLine, lineSq}
-use Rattle.fitting.specs.Pieces.{lineDeviation}
-use Rattle.fitting.proofs.Between.{point-below}
+use Rattle.deviations.specs.Line.{lineDeviation}
+use Rattle.deviations.proofs.Between.{point-below}
+use Rattle.farthest.specs.Measure.{chordOf, toLine, lineSq}
 
 -- ---- squared distances of points in the domain
 within-number : (b : ℕ) (x : Float) → Within b x → isNan x ≡ false

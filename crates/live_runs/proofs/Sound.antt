@@ -18,10 +18,10 @@ use Rattle.geo.specs.declared.types.Point3D.{Point3D}
 use Rattle.geo.specs.Lent.{pointAt}
 use Rattle.geo.specs.Domain.{coordinate, everyFrom, numbersIn, point3In}
 use Rattle.geo.proofs.Every.{every-at, every-all}
-use Rattle.simplify.specs.declared.simplify.Farthest.{Farthest}
-use Rattle.simplify.specs.Measure.{lineSq}
-use Rattle.simplify.specs.Farthest.{farther, farthestOf, farthestIn, onChord}
-use Rattle.fitting.specs.Pieces.{rooted, lineDeviation}
+use Rattle.deviations.specs.Line.{rooted, lineDeviation}
+use Rattle.farthest.specs.declared.farthest.Farthest.{Farthest}
+use Rattle.farthest.specs.Measure.{lineSq}
+use Rattle.farthest.specs.Farthest.{farther, farthestOf, farthestIn, onChord}
 use Rattle.live.specs.declared.live.Live.{Live}
 use Rattle.live.specs.Thinner.{slotCount, slot, put, started, behind, cutting, goesOn, push, shut, feedAgain, forgotten, retuned}
 use Rattle.live.proofs.Counts.{goes-room, anchored-few}

@@ -10,9 +10,9 @@ use Rattle.geo.specs.declared.types.Point3D.{Point3D}
 use Rattle.geo.specs.Domain.{coordinate, within, point3In, everyFrom, numbersIn, whole}
 use Rattle.geo.specs.Lent.{pointAt}
 use Rattle.geo.specs.Outcome.{refusal, unless}
-use Rattle.simplify.specs.Farthest.{farther, farthestOf, farthestIn}
-use Rattle.simplify.specs.Measure.{chordOf, toLine, lineSq}
-use Rattle.fitting.specs.Pieces.{rooted, lineDeviation}
+use Rattle.deviations.specs.Line.{rooted, lineDeviation}
+use Rattle.farthest.specs.Farthest.{farther, farthestOf, farthestIn}
+use Rattle.farthest.specs.Measure.{chordOf, toLine, lineSq}
 use Rattle.live.specs.Thinner.{slot, put, started, behind, cutting, goesOn, push, shut, feedAgain, anchored, forgotten, retuned}
 use Rattle.live.specs.Calls.{Event, feed, retune, close, stateRows, liveRows, nextOf, liveCall}
 use Rattle.live_runs.specs.Run.{endUnder, fedBy, callThen, runFrom, run}

@@ -20,10 +20,10 @@ use Rattle.geo.specs.Lent.{origin, pointAt}
 use Rattle.geo.specs.Domain.{coordinate, point3In, within, tolerance, whole}
 use Rattle.geo.specs.Outcome.{row, refusal}
 use Rattle.geo.proofs.Rows.{row-passed, row-passes, whole-passes, unless-gives, unless-given}
-use Rattle.simplify.specs.Farthest.{farther, farthestOf, farthestIn}
-use Rattle.simplify.specs.Measure.{chordOf, toLine, lineSq}
-use Rattle.simplify.proofs.Thinning.{first-farthest}
-use Rattle.fitting.specs.Pieces.{rooted, lineDeviation}
+use Rattle.deviations.specs.Line.{rooted, lineDeviation}
+use Rattle.farthest.specs.Farthest.{farther, farthestOf, farthestIn}
+use Rattle.farthest.specs.Measure.{chordOf, toLine, lineSq}
+use Rattle.farthest.proofs.First.{first-farthest}
 use Rattle.live.specs.declared.live.Live.{Live}
 use Rattle.live.specs.Thinner.{Next, slotCount, slot, put, started, behind, cutting, goesOn, push, feedAgain, anchored, forgotten, retuned}
 use Rattle.live.specs.Calls.{Event, feed, retune, mostEnds, stateRows, liveRows, nextOf, liveCall}

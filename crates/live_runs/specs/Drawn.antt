@@ -10,7 +10,7 @@ use Rattle.floats.specs.Root.{rootOf}
 use Rattle.geo.specs.declared.types.Point3D.{Point3D}
 use Rattle.geo.specs.Domain.{point3In, tolerance}
 use Rattle.geo.specs.Outcome.{refused, gives}
-use Rattle.simplify.specs.Measure.{lineSq}
+use Rattle.farthest.specs.Measure.{lineSq}
 use Rattle.simplify.specs.Words.{Ascending}
 use Rattle.live.specs.declared.live.Live.{Live}
 use Rattle.live.specs.Thinner.{Next, push}

@@ -8,9 +8,9 @@ use Rattle.geo.specs.declared.types.Answer.{Answer}
 use Rattle.geo.specs.declared.types.Answer.the-variants.{Written, Refused}
 use Rattle.geo.specs.Outcome.{Outcome, refused, gives, answer, left, Wrote}
 use Rattle.geo.proofs.Stores.{sets-front}
-use Rattle.lap_rows.specs.Listing.{refusalText}
-use Rattle.lap_rows.specs.Left.{TextPut}
-use Rattle.lap_rows.proofs.Text.{refused-length}
+use Rattle.lap_text.specs.Text.{refusalText}
+use Rattle.lap_text.specs.Left.{TextPut}
+use Rattle.lap_text.proofs.Written.{refused-length}
 use Rattle.printing.specs.Printed.{printed}
 
 -- the first n bytes are what is printed, and then what stood there

@@ -2,7 +2,7 @@
 use Prim.Native.Nat.{ℕ}
 use mathlib.Core.List.{List}
 use Rattle.geo.specs.Outcome.{Outcome, refused, gives}
-use Rattle.lap_rows.specs.Listing.{refusalText}
+use Rattle.lap_text.specs.Text.{refusalText}
 
 -- what the call gives, or the one line of a refusal
 unfoldable pub printed : Outcome (List ℕ) → List ℕ

@@ -6,8 +6,8 @@ use circle::circle::CircleThrough;
 use circle::circle::Collinear;
 use circle::circle::FittedCircle;
 use circle::circle::Projected;
-use fitting::fitting::ArcDeviation;
-use fitting::fitting::LineDeviation;
+use deviations::deviations::ArcDeviation;
+use deviations::deviations::LineDeviation;
 use geo::lent::point_at;
 use geo::lent::put_pair;
 use geo::types::Answer;
@@ -94,7 +94,7 @@ pub fn get_polyline_line_deviation(
     if out.len() < 1 {
         return Answer::Refused(DAMAGED);
     }
-    let a = fitting::fitting::get_polyline_line_deviation(points, start, end);
+    let a = deviations::deviations::get_polyline_line_deviation(points, start, end);
     match a {
         LineDeviation::Is(w) => {
             out[0] = w.dist;
@@ -116,7 +116,7 @@ pub fn get_polyline_arc_deviation(numbers: &[f64], out: &mut [f64]) -> Answer {
         x: numbers[0],
         y: numbers[1],
     };
-    let a = fitting::fitting::get_polyline_arc_deviation(&numbers[3..], center, numbers[2]);
+    let a = deviations::deviations::get_polyline_arc_deviation(&numbers[3..], center, numbers[2]);
     match a {
         ArcDeviation::Is(w) => {
             out[0] = w.dist;

@@ -1,7 +1,7 @@
 -- The division that a measure to a segment saves: where the foot does not lie strictly inside, the clamped parameter is known without it. Assumes nothing.
 use mathlib.Core.Path.{_≡_, refl, sym, ap, _∙_, subst}
 use mathlib.Core.Logic.{⊎-elim}
-use mathlib.Core.Bool.{Bool, true, false, _||_}
+use mathlib.Core.Bool.{Bool, true, false}
 use Prim.Native.Nat.{ℕ, zero, suc, _+_, _-_, _*_, _/_, _%_, _^_, _≤_, _<_, compare}
 use native.Mathlib.Omega.{arith}
 use native.Mathlib.Nat.{mul-pos, mul-one, one-mul, zero-lt-suc, eq-zero-or-pos}
@@ -16,7 +16,7 @@ use lib.Ieee.Positive.{first-pos}
 use lib.Ieee.Scale.{finite}
 use Rattle.floats.specs.Ops.{_⊕_, _⊖_, _⊘_, _≺_, _≼_, +0, one}
 use Rattle.floats.specs.Float.{clampOf}
-use Rattle.floats.proofs.Order.{either, clash, and-left, and-right, le-below, lt-trans}
+use Rattle.floats.proofs.Order.{either, clash, and-left, and-right, or-right, le-below, lt-trans}
 use Rattle.floats.proofs.Bounds.{or-le}
 use Rattle.floats.proofs.Unsigned.{Plus, Unsigned, round-plus, unsigned-not-negative}
 use Rattle.floats.proofs.float.Large.{zero-exponent}
@@ -120,10 +120,6 @@ equal-one (fin true m e) f h =
 equal-one (fin false m e) f h =
     let q = eqb-true (1 * 1 * down e) (m * up e * 1) (and-left (eqb (1 * 1 * down e) (m * up e * 1)) _ h) in
     one-float (fin false m e) (fin false 1 (pos 0)) false 1 1 (zero-lt-suc 0) f one-fits (refl, sym q ∙ ap (λ (n : ℕ). n * down e) (one-mul 1)) (refl, refl)
-
-or-right : (a b : Bool) → (a || b) ≡ true → a ≡ false → b ≡ true
-or-right true b h k = clash (sym k)
-or-right false b h k = h
 
 -- a number that is at least one is clamped to one
 clamp-high : (x : Float) → T (fits binary64 x) → (one ≼ x) ≡ true → clampOf x +0 one ≡ one

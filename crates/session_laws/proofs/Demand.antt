@@ -18,8 +18,8 @@ use Rattle.geo.specs.Outcome.{Outcome, refusal, gives}
 use Rattle.geo.proofs.Rows.{unless-given, unless-gives}
 use Rattle.geo.proofs.Tolerance.{tolerance-positive}
 use Rattle.file.specs.Command.{decoded, lentLap, Held, HeldPoint}
-use Rattle.fitting.specs.declared.fitting.Rule.{Rule}
-use Rattle.fitting.specs.Pieces.{lapsRule}
+use Rattle.pieces.specs.declared.pieces.Rule.{Rule}
+use Rattle.pieces.specs.Pieces.{lapsRule}
 use Rattle.course.specs.Course.{endOn, lentCourse}
 use Rattle.course.specs.Finite.{CommandsIn}
 use Rattle.course.proofs.FiniteCenters.{Placed}
@@ -34,11 +34,13 @@ use Rattle.laps.proofs.Whole.{length-body}
 use Rattle.lap_fit.specs.Fit.{lapEnd, startOf, fitLap, mostLap}
 use Rattle.lap_fit.proofs.Lap.{fit-some}
 use Rattle.lap_fit.proofs.Starts.{fit-no-lap}
-use Rattle.lap_replace.specs.Replace.{nextLacks, nextLap, lentFormed, movePlaced, mostBoth, lentNew, row1, row2, row4, row5, mostWith, replaceRows, newFit, nextFit, replacedLaps, storedLaps, PutBoth, replaceLap}
-use Rattle.lap_replace.proofs.Body.{first-in, next-in, both-few, whole-new-fit, whole-next-fit, as-replaced}
+use Rattle.lap_swap.specs.Swap.{nextLacks, nextLap, mostBoth, newFit, nextFit, replacedLaps, storedLaps, PutBoth}
+use Rattle.lap_checks.specs.Checks.{lentFormed, movePlaced, lentNew, row1, row2, row4, row5, mostWith, replaceRows}
+use Rattle.lap_replace.specs.Replace.{replaceLap}
+use Rattle.lap_swap.proofs.Body.{first-in, next-in, both-few, whole-new-fit, whole-next-fit, as-replaced}
 use Rattle.lap_replace.proofs.Finite.{near, at-in, lap-placed}
 use Rattle.lap_replace.proofs.New.{length-lent, lent-most, lent-fit, lent-end}
-use Rattle.lap_replace.proofs.Rows.{NewPassed, past-7, new-sizes, replace-passed}
+use Rattle.lap_checks.proofs.Rows.{NewPassed, past-7, new-sizes, replace-passed}
 use Rattle.lap_session.specs.declared.session.Session.{Session}
 use Rattle.lap_session.specs.declared.session.Ticket.{Ticket}
 use Rattle.lap_session.specs.Session.{edited, mostEdits, askRows, Answered, ticketFor, answerFor, askLap, firstPart, nextPart, partFormed, partFinite, partNew, countsAgree, commitRows, Stored, storedBy, commitLap, bytesStored}
@@ -319,7 +321,7 @@ module _ (s f : List ℕ) (k : ℕ) (ks : List ℕ) (ns : List Float) (tol : Flo
     commits : (g : List ℕ) → encode (replacedLaps rule k ks ns ls (lapsOf f)) ≡ g → commitLap t e′ s f part room ≡ gives (record { bytes = g; session = edited e′ })
     unfolding commitLap
     commits g q =
-        let b : encode (storedLaps k ls part (length fit) (length next) (lapsOf f)) ≡ g = ap encode (as-replaced rule pos s f k ks ns [] part (length fit) (length next) put) ∙ q in
+        let b : encode (storedLaps k ls part (length fit) (length next) (lapsOf f)) ≡ g = ap encode (as-replaced rule s f k ks ns [] part (length fit) (length next) put) ∙ q in
         unless-gives (refusal (commitRows t e′ s f part room)) (storedBy t e′ s f part) not-refused
         ∙ ap (storedAs e′) b
 

@@ -11,7 +11,7 @@ use Rattle.geo.specs.Domain.{isFinite, finite3}
 use Rattle.file.specs.Command.{decoded, enc, laid, HeldPoint}
 use Rattle.file.proofs.RoundTrip.{HeldCommand, laid-end, laid-second, laid-third}
 use Rattle.file.proofs.Stores.{enc-move, enc-line, enc-arc, enc-bezier}
-use Rattle.fitting.specs.declared.fitting.Rule.{Rule}
+use Rattle.pieces.specs.declared.pieces.Rule.{Rule}
 use Rattle.course.specs.Course.{fitOn}
 use Rattle.course.specs.Finite.{AllFinite, FiniteNumbers, CommandsIn}
 use Rattle.course.proofs.FiniteCenters.{Placed}

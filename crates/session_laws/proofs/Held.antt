@@ -22,11 +22,12 @@ use Rattle.file.specs.Bytes.{numberAt, wordAt}
 use Rattle.file.specs.Command.{decoded, pointFrom, HeldPoint}
 use Rattle.file.proofs.RoundTrip.{HeldCommand}
 use Rattle.simplify.specs.Thin.{thinned, thinnedPoints}
-use Rattle.fitting.specs.declared.fitting.Rule.{Rule}
-use Rattle.fitting.specs.Pieces.{distance, Shape, line, arc, Piece, piecesIn}
-use Rattle.fitting.specs.Commands.{normalOf, shaped, pieceCommand, fitIn, keptOf, chainFit}
-use Rattle.course.specs.Parts.{Part, chain, kept, closed, carried, partsFrom, partFit, fitOf}
-use Rattle.course.specs.Course.{joined, partsOn, fitOn, endOn}
+use Rattle.pieces.specs.declared.pieces.Rule.{Rule}
+use Rattle.pieces.specs.Pieces.{distance, Shape, line, arc, Piece, piecesIn}
+use Rattle.pieces.specs.Commands.{normalOf, shaped, pieceCommand, fitIn, keptOf, chainFit}
+use Rattle.chain.specs.Parts.{Part, chain, kept, closed, carried, partsFrom, partFit, fitOf}
+use Rattle.chain.specs.Joins.{joined}
+use Rattle.course.specs.Course.{partsOn, fitOn, endOn}
 use Rattle.laps.specs.File.{Lap}
 use Rattle.lap_fit.specs.Fit.{lapEnd, startFrom}
 

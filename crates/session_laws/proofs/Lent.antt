@@ -14,7 +14,7 @@ use Rattle.geo.specs.Domain.{everyFrom, formed, commandsFormed, commandIn, comm
 use Rattle.file.specs.Command.{lentBytes, lentLap, Held}
 use Rattle.laps.specs.File.{lacks, placed, formOk, domainOk, lapOk, lapTested}
 use Rattle.laps.proofs.Here.{cond-false}
-use Rattle.lap_replace.specs.Replace.{movePlaced}
+use Rattle.lap_checks.specs.Checks.{movePlaced}
 use Rattle.lap_replace.proofs.New.{decoded-lent, formed-lent, kind-lent, lacks-lent}
 
 every-here : (ok : ℕ → Bool) (n i : ℕ) → everyFrom ok (suc n) i ≡ true → (ok i ≡ true) × (everyFrom ok n (i + 1) ≡ true)

@@ -21,11 +21,12 @@ use Rattle.bezier.specs.Linearize.{stepEnd, paramSteps}
 use Rattle.file.specs.Command.{decoded, enc, wellFormed, laid, pointFrom}
 use Rattle.file.proofs.RoundTrip.{formed-laid}
 use Rattle.file.proofs.Stores.{enc-move, enc-line, enc-arc}
-use Rattle.fitting.specs.declared.fitting.Rule.{Rule}
-use Rattle.fitting.specs.Pieces.{Shape, line, arc, Piece, piecesIn}
-use Rattle.fitting.specs.Commands.{shaped, pieceCommand, fitIn, keptOf, chainFit}
-use Rattle.course.specs.Parts.{Part, chain, kept, closed, carried, partsFrom, partFit, fitOf}
-use Rattle.course.specs.Course.{joined, partsOn, fitOn}
+use Rattle.pieces.specs.declared.pieces.Rule.{Rule}
+use Rattle.pieces.specs.Pieces.{Shape, line, arc, Piece, piecesIn}
+use Rattle.pieces.specs.Commands.{shaped, pieceCommand, fitIn, keptOf, chainFit}
+use Rattle.chain.specs.Parts.{Part, chain, kept, closed, carried, partsFrom, partFit, fitOf}
+use Rattle.chain.specs.Joins.{joined}
+use Rattle.course.specs.Course.{partsOn, fitOn}
 use Rattle.course.proofs.Start.{fit-move}
 use Rattle.laps.specs.File.{Lap, lacks, placed, formOk, fittedOk, lapOk, lapTested}
 use Rattle.laps.proofs.Here.{cond-false}

@@ -10,7 +10,7 @@ use Rattle.geo.specs.declared.types.Point3D.{Point3D}
 use Rattle.geo.specs.Domain.{point3In}
 use Rattle.geo.specs.Outcome.{gives}
 use Rattle.file.specs.Command.{Held, HeldPoint}
-use Rattle.fitting.specs.declared.fitting.Rule.{Rule}
+use Rattle.pieces.specs.declared.pieces.Rule.{Rule}
 use Rattle.laps.specs.File.{Lap, lacks, formOk, domainOk, fittedOk, finiteOk, lapTested}
 use Rattle.lap_fit.specs.Fit.{fitLap, mostLap}
 use Rattle.lap_replace.specs.Replace.{replaceLap}

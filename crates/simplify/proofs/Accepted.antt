@@ -21,9 +21,10 @@ use Rattle.geo.specs.Commands.{WroteCommands}
 use Rattle.geo.proofs.Rows.{row-passed}
 use Rattle.geo.proofs.Flat.{flat-length}
 use Rattle.geo.proofs.Outcomes.{wrote-given, commands-given, nine}
-use Rattle.simplify.specs.Measure.{Measure}
+use Rattle.farthest.specs.Measure.{Measure}
+use Rattle.farthest.specs.Ends.{isMove, commandSq}
 use Rattle.simplify.specs.Thin.{thinned, thinnedPoints}
-use Rattle.simplify.specs.Data.{isMove, among, commandSq, select, keptCommands, thinnedCommands}
+use Rattle.simplify.specs.Data.{among, select, keptCommands, thinnedCommands}
 use Rattle.simplify.specs.Flags.{Copied, CopiedCommands}
 use Rattle.simplify.specs.Words.{Ascending}
 use Rattle.simplify.specs.Simplify.{pointRows, commandRows, simplifyData}

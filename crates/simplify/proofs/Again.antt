@@ -11,12 +11,13 @@ use lib.Seq.{getD-drop, drop-drop}
 use lib.Ieee.{Float, isNan}
 use Rattle.floats.specs.Ops.{_≺_, +0}
 use Rattle.floats.proofs.Order.{either}
-use Rattle.simplify.specs.declared.simplify.Farthest.{Farthest}
-use Rattle.simplify.specs.Measure.{Measure}
-use Rattle.simplify.specs.Farthest.{farthestIn}
+use Rattle.farthest.specs.declared.farthest.Farthest.{Farthest}
+use Rattle.farthest.specs.Measure.{Measure}
+use Rattle.farthest.specs.Farthest.{farthestIn}
+use Rattle.farthest.specs.Words.{FirstAbove}
+use Rattle.farthest.proofs.First.{distance, unique-in}
 use Rattle.simplify.specs.Thin.{keptBy, keptIn, thinned, thinnedPoints, thinList}
-use Rattle.simplify.specs.Words.{FirstAbove, Ascending}
-use Rattle.simplify.proofs.First.{distance, unique-in}
+use Rattle.simplify.specs.Words.{Ascending}
 use Rattle.simplify.proofs.Kept.{cut-yes, cut-no, cut-first, cut-inside, no-cut, kept-yes, kept-no, kept-ascending}
 
 -- ---- runs of indices: i, i + 1, .., n of them

@@ -16,11 +16,12 @@ use Rattle.floats.specs.Ops.{_≺_, +0}
 use Rattle.floats.proofs.Order.{either, or-true}
 use Rattle.geo.specs.declared.types.Command.{Command}
 use Rattle.geo.specs.Lent.{flat}
-use Rattle.simplify.specs.declared.simplify.Farthest.{Farthest}
-use Rattle.simplify.specs.Measure.{Measure}
-use Rattle.simplify.specs.Farthest.{farthestIn}
+use Rattle.farthest.specs.declared.farthest.Farthest.{Farthest}
+use Rattle.farthest.specs.Measure.{Measure}
+use Rattle.farthest.specs.Farthest.{farthestIn}
+use Rattle.farthest.specs.Ends.{isMove, commandSq}
 use Rattle.simplify.specs.Thin.{keptBy, keptIn, thinned, thinnedPoints}
-use Rattle.simplify.specs.Data.{among, select, isMove, commandSq, keptCommands, thinnedCommands}
+use Rattle.simplify.specs.Data.{among, select, keptCommands, thinnedCommands}
 use Rattle.simplify.specs.Flags.{marked, Copied, CopiedCommands}
 use Rattle.simplify.specs.Words.{Ascending}
 use Rattle.simplify.proofs.Kept.{kept-yes, kept-no, thinned-ascending}

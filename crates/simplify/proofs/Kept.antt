@@ -8,12 +8,13 @@ use native.Mathlib.Omega.{arith}
 use lib.Ieee.{Float}
 use Rattle.floats.specs.Ops.{_≺_, +0}
 use Rattle.floats.proofs.Order.{either, clash}
-use Rattle.simplify.specs.declared.simplify.Farthest.{Farthest}
-use Rattle.simplify.specs.Measure.{Measure}
-use Rattle.simplify.specs.Farthest.{farthestIn}
+use Rattle.farthest.specs.declared.farthest.Farthest.{Farthest}
+use Rattle.farthest.specs.Measure.{Measure}
+use Rattle.farthest.specs.Farthest.{farthestIn}
+use Rattle.farthest.specs.Words.{FirstAbove}
+use Rattle.farthest.proofs.First.{distance, found-in}
 use Rattle.simplify.specs.Thin.{cutAt, keptBy, keptIn, thinned}
-use Rattle.simplify.specs.Words.{FirstAbove, Ascending}
-use Rattle.simplify.proofs.First.{distance, found-in}
+use Rattle.simplify.specs.Words.{Ascending}
 
 -- the two cases of a cut
 pub cut-yes : (inside : ℕ → ℕ → List ℕ) (limit : Float) (lo hi : ℕ) (w : Farthest) → (limit ≺ w .square) ≡ true

@@ -1,5 +1,4 @@
 -- Thinning has the laws that a reader wants, each stated alone; the others prove them and the functions.
-pub mod First
 pub mod Kept
 pub mod Near
 pub mod Again
@@ -9,5 +8,3 @@ pub mod Copy
 pub mod InPlace
 pub mod Accepted
 pub mod Thinning
-pub mod Search
-pub mod Scan

@@ -10,12 +10,13 @@ use lib.Ieee.{Float, isNan, ofBits}
 use Rattle.floats.specs.Ops.{_≺_, +0}
 use Rattle.floats.proofs.Order.{either, clash, lt-or-ge, lt-trans, lt-nan, lt-right}
 use Rattle.floats.proofs.Unsigned.{not-above}
-use Rattle.simplify.specs.declared.simplify.Farthest.{Farthest}
-use Rattle.simplify.specs.Measure.{Measure}
-use Rattle.simplify.specs.Farthest.{farthestIn}
+use Rattle.farthest.specs.declared.farthest.Farthest.{Farthest}
+use Rattle.farthest.specs.Measure.{Measure}
+use Rattle.farthest.specs.Farthest.{farthestIn}
+use Rattle.farthest.specs.Words.{FirstAbove}
+use Rattle.farthest.proofs.First.{distance, found-in}
 use Rattle.simplify.specs.Thin.{keptBy}
-use Rattle.simplify.specs.Words.{FirstAbove, Near, Neighbours}
-use Rattle.simplify.proofs.First.{distance, found-in}
+use Rattle.simplify.specs.Words.{Near, Neighbours}
 use Rattle.simplify.proofs.Kept.{cut-yes, cut-no, cut-inside}
 
 -- ---- what is not above a number

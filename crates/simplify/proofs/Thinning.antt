@@ -1,8 +1,8 @@
 -- The laws of thinning, each stated alone; over any measure and any points, for a limit that is not below zero, as the square of a tolerance is not. The last
 -- two are of commands. Assumes nothing.
-use Prim.Native.Nat.{ℕ, zero, suc, _+_, _-_, _≤_, _<_}
+use Prim.Native.Nat.{ℕ, zero, suc, _-_, _≤_, _<_}
 use mathlib.Core.Path.{_≡_, refl, sym, ap, _∙_, subst}
-use mathlib.Core.Logic.{_⊎_, ⊎-elim}
+use mathlib.Core.Logic.{⊎-elim}
 use mathlib.Core.Bool.{true, false, _||_}
 use mathlib.Core.List.{List, [], _∷_, _++_}
 use native.Mathlib.Omega.{arith}
@@ -11,12 +11,12 @@ use lib.Ieee.{Float}
 use Rattle.floats.specs.Ops.{_≺_, +0}
 use Rattle.floats.proofs.Order.{either, clash}
 use Rattle.geo.specs.declared.types.Command.{Command}
-use Rattle.simplify.specs.Measure.{Measure}
-use Rattle.simplify.specs.Farthest.{farthestIn}
+use Rattle.farthest.specs.Measure.{Measure}
+use Rattle.farthest.specs.Farthest.{farthestIn}
+use Rattle.farthest.specs.Ends.{isMove, toCommand, commandSq}
 use Rattle.simplify.specs.Thin.{cutAt, keptIn, thinned, thinnedPoints, thinList}
-use Rattle.simplify.specs.Data.{isMove, toCommand, commandSq, among, keptCommands}
-use Rattle.simplify.specs.Words.{NoneAbove, FirstAbove, Ascending, Near, Neighbours}
-use Rattle.simplify.proofs.First.{found-in}
+use Rattle.simplify.specs.Data.{among, keptCommands}
+use Rattle.simplify.specs.Words.{Ascending, Near, Neighbours}
 use Rattle.simplify.proofs.Kept.{cut-first, cut-inside, no-cut, kept-cut, kept-yes, kept-no, thinned-ascending}
 use Rattle.simplify.proofs.Flags.{select-has, among-cut}
 use Rattle.simplify.proofs.Near.{kept-near}
@@ -27,12 +27,6 @@ use Rattle.simplify.proofs.Accepted.{ascending-length}
 on-chord : (a b c : Command) → isMove c ≡ true → commandSq a b c ≡ +0
 unfolding commandSq toCommand
 on-chord a b c h = rw h
-
--- The search finds the first farthest point strictly between lo and hi, or +0 at lo where no point lies off the chord.
-pub first-farthest : {P : Type 0} (m : Measure P) (at : ℕ → P) (lo hi : ℕ)
-    → ((farthestIn m at lo hi ≡ record { square = +0; index = lo }) × NoneAbove (λ i. m (at lo) (at hi) (at i)) (lo + 1) hi +0)
-    ⊎ FirstAbove (λ i. m (at lo) (at hi) (at i)) (lo + 1) hi +0 (farthestIn m at lo hi)
-first-farthest m at lo hi = found-in m at lo hi
 
 module _ {P : Type 0} (m : Measure P) (limit : Float) (pos : (limit ≺ +0) ≡ false) (at : ℕ → P) where
   -- What is kept strictly between lo and hi is what the rule says, with no bound on the cuts: nothing, or the cut and what is kept on either side of it.

@@ -1,31 +1,13 @@
 -- Thinning of commands, where Moves have rules of their own. Definitions only.
 use Prim.Native.Nat.{ℕ, zero, suc, _+_}
-use mathlib.Core.Bool.{Bool, true, false, _||_}
+use mathlib.Core.Bool.{Bool, false, _||_}
 use mathlib.Core.List.{List, [], _∷_, map}
 use lib.Dec.{eqb}
 use lib.Ieee.{Float}
-use Rattle.floats.specs.Ops.{+0, if_then_else_}
+use Rattle.floats.specs.Ops.{if_then_else_}
 use Rattle.geo.specs.declared.types.Command.{Command}
-use Rattle.geo.specs.declared.types.Command.the-variants.{Move, Line, Arc, Bezier}
-use Rattle.geo.specs.Lent.{endOf}
-use Rattle.simplify.specs.declared.simplify.Chord.{Chord}
-use Rattle.simplify.specs.Measure.{Measure, chordOf, toLine}
+use Rattle.farthest.specs.Ends.{isMove, commandSq}
 use Rattle.simplify.specs.Thin.{thinned}
-
-unfoldable pub isMove : Command → Bool
-isMove (Move p) = true
-isMove (Line p) = false
-isMove (Arc p o n) = false
-isMove (Bezier p c d) = false
-
--- The distance of a command to a chord is that of its end; but no Move is a candidate for a cut: it counts as on the chord, and so is never farther than another.
-unfoldable pub toCommand : Chord → Command → Float
-unfolding isMove toLine
-toCommand chord c = if isMove c then +0 else toLine chord (endOf c)
-
-unfoldable pub commandSq : Measure Command
-unfolding chordOf toCommand
-commandSq a b c = toCommand (chordOf (endOf a) (endOf b)) c
 
 -- whether k is among these indices
 unfoldable pub among : ℕ → List ℕ → Bool

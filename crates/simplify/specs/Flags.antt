@@ -8,7 +8,8 @@ use lib.Seq.{sets}
 use lib.Ieee.{Float}
 use Rattle.geo.specs.declared.types.Command.{Command}
 use Rattle.geo.specs.Lent.{flat, kindOf, numbersOf}
-use Rattle.simplify.specs.Data.{isMove, select}
+use Rattle.farthest.specs.Ends.{isMove}
+use Rattle.simplify.specs.Data.{select}
 
 -- the flags, with those at these indices set
 unfoldable pub marked : List ℕ → List Bool → List Bool

@@ -1,9 +1,6 @@
-pub mod Measure
-pub mod Farthest
 pub mod Thin
 pub mod Data
 pub mod Simplify
 pub mod Twice
 pub mod Words
 pub mod Flags
-pub mod Search

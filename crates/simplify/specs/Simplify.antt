@@ -13,7 +13,7 @@ use Rattle.geo.specs.Outcome.{Row, row, refusal, Outcome, unless}
 use Rattle.geo.specs.Lent.{pair, triple, pairAt, pointAt, commandAt}
 use Rattle.geo.specs.Domain.{mostPoints, whole, coordinate, numbersIn, tolerance}
 use Rattle.geo.specs.Commands.{inputRows}
-use Rattle.simplify.specs.Measure.{Measure, planeSq, lineSq}
+use Rattle.farthest.specs.Measure.{Measure, planeSq, lineSq}
 use Rattle.simplify.specs.Thin.{thinnedPoints}
 use Rattle.simplify.specs.Data.{thinnedCommands}
 

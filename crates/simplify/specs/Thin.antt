@@ -4,9 +4,9 @@ use mathlib.Core.List.{List, [], _∷_, _++_, map}
 use lib.ListN.{length, getD}
 use lib.Ieee.{Float}
 use Rattle.floats.specs.Ops.{_≺_, if_then_else_}
-use Rattle.simplify.specs.declared.simplify.Farthest.{Farthest}
-use Rattle.simplify.specs.Measure.{Measure}
-use Rattle.simplify.specs.Farthest.{farthestIn}
+use Rattle.farthest.specs.declared.farthest.Farthest.{Farthest}
+use Rattle.farthest.specs.Measure.{Measure}
+use Rattle.farthest.specs.Farthest.{farthestIn}
 
 -- What is kept strictly between lo and hi, w being the range's first farthest point: where its squared distance is above the limit, w and what is kept
 -- on either side of it; else nothing.

@@ -26,7 +26,7 @@ use Rattle.laps.specs.Rows.{fileRows, fileSize, sizeRows}
 use Rattle.laps.proofs.Whole.{length-encode}
 use Rattle.laps.proofs.ReadBack.{Somes, laps-encode, table-encode, lap-count-encode}
 use Rattle.laps.proofs.Rows.{file-passed, behind-file}
-use Rattle.fitting.specs.Pieces.{lapsRule}
+use Rattle.pieces.specs.Pieces.{lapsRule}
 use Rattle.lap_fit.specs.Fit.{fitLaps, lapsMost, fileFitRows, fitFileBy}
 use Rattle.svg_text.specs.Thousandths.{floatOf, TenDigits}
 use Rattle.svg_text.specs.Path.{Drawn, move, line, curve, named}

@@ -1,7 +1,7 @@
 -- `course::course::add_capped` meets its contract: a sum above 800 counts as 801. Assumes nothing.
 use native.Mathlib.Omega.{arith}
 use mathlib.Core.Path.{sym}
-use Rattle.course.proofs.Count.{cap-few, cap-many}
+use Rattle.chain.proofs.Count.{cap-few, cap-many}
 use borrow.Author.Needs.{needs}
 use Rattle.course.proofs.course.add_capped.Statement.{statement}
 use Rattle.course.proofs.course.add_capped.Tie as tie

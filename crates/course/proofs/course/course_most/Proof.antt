@@ -1,6 +1,6 @@
 -- `course::course::course_most` meets its contract: what is counted, and what the commands left count as, gives the whole. The measure is how many are left. Assumes nothing.
-use Rattle.course.proofs.Count.{cap-twice, cap-few, cap-most}
-use Rattle.course.proofs.Steps.{count-next, most-of-commands}
+use Rattle.chain.proofs.Count.{cap-twice, cap-few, cap-most}
+use Rattle.course.proofs.Most.{count-next, most-of-commands}
 use borrow.Author.Needs.{needs}
 use mathlib.Core.List.{List}
 use Rattle.geo.specs.declared.types.Command.{Command}
@@ -9,8 +9,10 @@ use mathlib.Core.Path.{_≡_, sym, ap, _∙_, subst}
 use Prim.Native.Nat.{ℕ, _+_, _-_, _≤_}
 use lib.ListN.{length}
 use Rattle.geo.specs.Lent.{commandsFrom}
-use Rattle.course.specs.Course.{joined, lentCourse}
-use Rattle.course.specs.Walks.{cap, weightsFrom}
+use Rattle.chain.specs.Joins.{joined}
+use Rattle.chain.specs.Chains.{cap}
+use Rattle.course.specs.Course.{lentCourse}
+use Rattle.course.specs.Walks.{weightsFrom}
 use Rattle.course.proofs.Walking.{commands-done}
 use Rattle.course.proofs.course.course_most.Statement.{statement}
 use Rattle.course.proofs.course.course_most.Tie as tie

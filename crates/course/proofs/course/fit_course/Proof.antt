@@ -1,5 +1,5 @@
 -- `course::course::fit_course` meets its contract: it is the fit with steps that nobody wants. Assumes nothing.
-use Rattle.fitting.proofs.Writing.{commands-placed}
+use Rattle.pieces.proofs.Writing.{commands-placed}
 use Rattle.course.specs.Course.{lentCourse}
 use Rattle.course.proofs.Accepted.{course-commands}
 use borrow.Author.Needs.{needs}

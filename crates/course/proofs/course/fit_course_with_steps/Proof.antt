@@ -1,6 +1,6 @@
 -- `course::course::fit_course_with_steps` meets its contract: it is the walk whose chains are thinned and fitted. Assumes nothing.
 use native.Mathlib.Omega.{arith}
-use Rattle.fitting.proofs.Writing.{same-noted}
+use Rattle.pieces.proofs.Writing.{same-noted}
 use Rattle.course.specs.Course.{lentCourse}
 use Rattle.course.proofs.Paths.{course-fit, course-most}
 use borrow.Author.Needs.{needs}

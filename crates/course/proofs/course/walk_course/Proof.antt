@@ -5,10 +5,10 @@ use mathlib.Core.Path.{refl, sym, ap, _∙_}
 use Prim.Native.Nat.{_-_, _*_}
 use lib.ListN.{length, take}
 use lib.Seq.{length-sets}
-use Rattle.fitting.proofs.Writing.{count-noted, placed-kinds, placed-numbers}
-use Rattle.course.specs.Walks.{underWay}
-use Rattle.course.proofs.Chains.{flushed-few}
-use Rattle.course.proofs.Walking.{take-sets, length-refront}
+use Rattle.pieces.proofs.Writing.{count-noted, placed-kinds, placed-numbers}
+use Rattle.chain.specs.Chains.{underWay}
+use Rattle.chain.proofs.Chains.{flushed-few}
+use Rattle.chain.proofs.Stepping.{take-sets, length-refront}
 use Rattle.course.proofs.Along.{On, on-new, from-new, on-room, on-step, last-room, on-done}
 use Rattle.course.proofs.course.walk_course.Statement.{statement}
 use Rattle.course.proofs.course.walk_course.Tie as tie

@@ -1,8 +1,9 @@
 -- `course::course::weight` meets its contract: by the kind of the command. Assumes nothing.
 use mathlib.Core.Path.{sym, ap, _∙_}
-use Rattle.course.specs.Course.{joined}
-use Rattle.course.specs.Walks.{cap, weightOf}
-use Rattle.course.proofs.Steps.{bezier-weight}
+use Rattle.chain.specs.Joins.{joined}
+use Rattle.chain.specs.Chains.{cap}
+use Rattle.course.specs.Walks.{weightOf}
+use Rattle.course.proofs.Most.{bezier-weight}
 use borrow.Author.Needs.{needs}
 use Rattle.course.proofs.course.weight.Statement.{statement}
 use Rattle.course.proofs.course.weight.Tie as tie

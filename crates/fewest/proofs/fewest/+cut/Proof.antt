@@ -10,7 +10,7 @@ use borrow.Fn.PlainCycle.{Measures, is, falls, and}
 use Rattle.fewest.proofs.fewest.cut.Reads as cut
 use Rattle.fewest.proofs.fewest.cut.Kinds as cut-kinds
 use Rattle.fewest.proofs.fewest.+cut.Lts-cut as cut-lts
-use Rattle.fitting.proofs.fitting.line_deviation.Reads as line-deviation-reads
+use Rattle.deviations.proofs.deviations.line_deviation.Reads as line-deviation-reads
 use Rattle.geo.proofs.lent.point_at.Reads as point-at-reads
 use Rattle.geo.proofs.lent.put_point.Reads as put-point-reads
 use Rattle.fewest.proofs.fewest.+cut.{statement}

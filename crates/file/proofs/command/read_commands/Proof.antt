@@ -1,5 +1,6 @@
 -- `file::command::read_commands` meets its contract: the commands that are left, read from here, give the whole. The measure is how many are left. Assumes nothing.
 use Prim.Native.Nat.{_-_}
+use mathlib.Core.Path.{refl}
 use native.Mathlib.Omega.{arith}
 use lib.ListN.{length-take, length-drop}
 use Rattle.file.proofs.Walks.{Reading, reading-start, reading-step, reading-done}
@@ -18,20 +19,17 @@ loop-holds c = let a = c .before .before .before .args in reading-start (a .s .n
 add-e : tie.Need-add-e Inv-loop μ-loop
 add-e c = let p = c .before .loop .inv .place in omega arith
 
-sub-read-command : tie.Need-sub-read-command Inv-loop μ-loop
-sub-read-command c = omega arith
+sub-read-to : tie.Need-sub-read-to Inv-loop μ-loop
+sub-read-to c = omega arith
 
-part-read-command-start : tie.Need-part-read-command-start Inv-loop μ-loop
-part-read-command-start c = omega arith
+part-read-to-start : tie.Need-part-read-to-start Inv-loop μ-loop
+part-read-to-start c = omega arith
 
-part-read-command-end : tie.Need-part-read-command-end Inv-loop μ-loop
-part-read-command-end c = let p = c .before .before .before .loop .inv .place in omega arith
+part-read-to-end : tie.Need-part-read-to-end Inv-loop μ-loop
+part-read-to-end c = let p = c .before .loop .inv .place in omega arith
 
-read-command-requires : tie.Need-read-command-requires Inv-loop μ-loop
-read-command-requires c κs = let p = c .before .before .before .before .loop .inv .place in simp (length-take, length-drop) (omega arith)
-
-put-command-requires : tie.Need-put-command-requires Inv-loop μ-loop
-put-command-requires c κs = let p = c .before .before .before .before .before .loop .inv in let k = p .long-kinds in let m = p .long-numbers in (omega arith, omega arith)
+read-to-requires : tie.Need-read-to-requires Inv-loop μ-loop
+read-to-requires c κs = let p = c .before .before .before .before .loop .inv in let q = p .place in let k = p .long-kinds in let m = p .long-numbers in (simp (length-take, length-drop) (omega arith), omega arith, omega arith)
 
 add-i : tie.Need-add-i Inv-loop μ-loop
 add-i c = omega arith
@@ -40,7 +38,7 @@ loop-less : tie.Need-loop-less Inv-loop μ-loop
 loop-less c = omega arith
 
 loop-again : tie.Need-loop-again Inv-loop μ-loop
-loop-again c = let a = c .before .before .before .before .before .before .before .before .before .before .before .before .before .before .args in let l = c .before .before .before .before .before .before .before .before .before .before .loop in reading-step (a .s .now) (a .at) (a .n) (a .kinds .now) (a .nums .now) (l .kinds) _ (l .nums) _ (l .b) (l .i) _ (l .inv) (c .before .before .before .before .before .before .before .before .before .loop-test .taken) (c .before .before .before .before .before .read-command .ensures) (c .before .before .before .before .put-command .ensures .0) (c .before .before .before .before .put-command .ensures .1)
+loop-again c = let a = c .before .before .before .before .before .before .before .before .before .before .before .before .before .args in let l = c .before .before .before .before .before .before .before .before .before .loop in reading-step (a .s .now) (a .at) (a .n) (a .kinds .now) (a .nums .now) (l .kinds) _ (l .nums) _ (l .b) (l .i) _ (l .inv) (c .before .before .before .before .before .before .before .before .loop-test .taken) refl (c .before .before .before .before .read-to .ensures .0) (c .before .before .before .before .read-to .ensures .1)
 
 same-length : tie.Need-same-length Inv-loop μ-loop
 same-length c = c .before .loop .inv .long-kinds
@@ -59,11 +57,10 @@ read-commands-spec =
     μ-loop
     loop-holds
     add-e
-    sub-read-command
-    part-read-command-start
-    part-read-command-end
-    read-command-requires
-    put-command-requires
+    sub-read-to
+    part-read-to-start
+    part-read-to-end
+    read-to-requires
     add-i
     loop-less
     loop-again

@@ -1,8 +1,9 @@
 -- `fitting::fitting::check_fit` meets its contract: each return is the first row that fails, by the tests before it. Assumes nothing.
 use mathlib.Core.Path.{sym, _∙_}
 use Rattle.geo.proofs.Rows.{row-fails, row-passes, not-fails, not-passes, whole-fails, whole-passes, done}
+use Rattle.deviations.proofs.Accepted.{points-refused, points-passed}
 use Rattle.fitting.specs.Calls.{fitRows}
-use Rattle.fitting.proofs.Accepted.{points-refused, points-passed, most-fails, most-passes}
+use Rattle.fitting.proofs.Accepted.{most-fails, most-passes}
 use borrow.Author.Needs.{needs}
 use Rattle.fitting.proofs.fitting.check_fit.Statement.{statement}
 use Rattle.fitting.proofs.fitting.check_fit.Tie as tie

@@ -1,11 +1,10 @@
 -- `flatten::flatten::draw_part` meets its contract: one Line where no halving is left or the part is flat, else those of its two halves, one behind the other. The measure is the number of halvings left. Assumes nothing.
 use mathlib.Core.Path.{_∙_}
-use Prim.Native.Nat.{_-_}
+use Prim.Native.Nat.{_-_, ℕ, _<_}
 use native.Mathlib.Omega.{arith}
 use borrow.Author.Needs.{needs}
 use lib.Pow.{pow-pos}
 use Rattle.flatten.proofs.Passes.{bulge-is, ray-to, ray-len, half-power, none-left, stays-whole, is-cut, whole-placed, both-low}
-use Prim.Native.Nat.{ℕ, _<_}
 use borrow.Fn.Kinds.{In}
 use borrow.Fn.PlainCycle.{Measures, is, falls, and}
 use Rattle.flatten.proofs.flatten.draw_part.Reads as draw-part

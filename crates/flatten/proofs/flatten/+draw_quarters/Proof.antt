@@ -1,10 +1,9 @@
 -- `flatten::flatten::draw_quarters` meets its contract: the Lines of the first quarter, and behind them those of the rest. The measure is the number of quarter turns left. Assumes nothing.
 use mathlib.Core.Path.{_∙_}
-use Prim.Native.Nat.{_-_}
+use Prim.Native.Nat.{_-_, ℕ, _<_}
 use native.Mathlib.Omega.{arith}
 use borrow.Author.Needs.{needs}
 use Rattle.flatten.proofs.Passes.{ray-to, ray-len, same-placed, both-low, last-quarter, more-quarters}
-use Prim.Native.Nat.{ℕ, _<_}
 use borrow.Fn.Kinds.{In}
 use borrow.Fn.PlainCycle.{Measures, is, falls, and}
 use Rattle.flatten.proofs.flatten.draw_quarters.Reads as draw-quarters

@@ -1,6 +1,6 @@
 -- `flatten::flatten::put_line` meets its contract: one command at a place. Assumes nothing.
 use Rattle.flatten.specs.Written.{lowLine}
-use Rattle.fitting.proofs.Writing.{one-placed}
+use Rattle.pieces.proofs.Writing.{one-placed}
 use borrow.Author.Needs.{needs}
 use Rattle.flatten.proofs.flatten.put_line.Statement.{statement}
 use Rattle.flatten.proofs.flatten.put_line.Tie as tie

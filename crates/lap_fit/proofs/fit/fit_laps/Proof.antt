@@ -6,7 +6,7 @@ use native.Mathlib.Omega.{arith}
 use lib.ListN.{length}
 use Rattle.geo.specs.Domain.{mostCommands}
 use Rattle.geo.specs.Lent.{origin}
-use Rattle.course.specs.Walks.{chainNumbers}
+use Rattle.chain.specs.Chains.{chainNumbers}
 use Rattle.laps.specs.File.{Lap, lapsAt, lapsOf}
 use Rattle.laps.proofs.Going.{Going, turn}
 use Rattle.laps.proofs.Here.{Here, step, start-at, all-laps}

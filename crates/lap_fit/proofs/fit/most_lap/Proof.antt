@@ -2,7 +2,7 @@
 use Prim.Native.Nat.{_+_, _-_, _*_, _≤_}
 use mathlib.Core.Path.{_≡_, sym, ap, _∙_}
 use native.Mathlib.Omega.{arith}
-use Rattle.course.specs.Walks.{cap}
+use Rattle.chain.specs.Chains.{cap}
 use Rattle.file.specs.Command.{commandsAt}
 use Rattle.lap_fit.specs.Fit.{lapEnd, mostLap}
 use Rattle.lap_fit.proofs.Cap.{cap-small, cap-step, cap-done}

@@ -4,7 +4,7 @@ use mathlib.Core.Path.{_≡_, sym, ap, _∙_}
 use native.Mathlib.Nat.{zero-add}
 use native.Mathlib.Omega.{arith}
 use Rattle.geo.specs.Lent.{origin}
-use Rattle.course.specs.Walks.{cap}
+use Rattle.chain.specs.Chains.{cap}
 use Rattle.laps.specs.File.{lapsAt, lapsOf}
 use Rattle.laps.proofs.Here.{Here, step, start-at, all-laps}
 use Rattle.lap_fit.specs.Fit.{lapsMost}

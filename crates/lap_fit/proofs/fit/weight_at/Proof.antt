@@ -1,6 +1,4 @@
 -- `lap_fit::fit::weight_at` meets its contract: any command but a Bezier counts once. Assumes nothing.
-use Prim.Native.Nat.{_+_, _-_, _*_}
-use mathlib.Core.Path.{_≡_}
 use native.Mathlib.Omega.{arith}
 use borrow.Author.Needs.{needs}
 use lib.ListN.{length-take, length-drop}

@@ -5,8 +5,9 @@ use Rattle.geo.proofs.Tolerance.{tolerance-positive}
 use Rattle.geo.proofs.Outcomes.{wrote-refused}
 use Rattle.laps.specs.File.{lapsOf}
 use Rattle.laps.proofs.Rows.{wrote-bytes}
-use Rattle.lap_replace.specs.Replace.{lentNew, replaceLap}
-use Rattle.lap_replace.proofs.Rows.{lent-nine, replace-passed, past-1, past-3, past-7}
+use Rattle.lap_checks.specs.Checks.{lentNew}
+use Rattle.lap_replace.specs.Replace.{replaceLap}
+use Rattle.lap_checks.proofs.Rows.{lent-nine, replace-passed, past-1, past-3, past-7}
 use borrow.Author.Needs.{needs}
 use Rattle.lap_replace.proofs.replace.replace_lap.Statement.{statement}
 use Rattle.lap_replace.proofs.replace.replace_lap.Tie as tie

@@ -1,12 +1,12 @@
 -- `lap_rows::lap_rows::list_commands` meets its contract: what was read into the arrays are the commands of the lap, and the rows are what their fit notes. Assumes nothing.
 use mathlib.Core.Path.{refl, sym, ap}
 use native.Mathlib.Omega.{arith}
-use Rattle.fitting.specs.Pieces.{lapsRule}
+use Rattle.pieces.specs.Pieces.{lapsRule}
 use Rattle.listing.specs.Rows.{rowsOn}
 use Rattle.listing.proofs.Noted.{rows-placed}
 use Rattle.lap_fit.proofs.Arrays.{long-kinds, long-numbers, read-back, most-read}
 use Rattle.lap_rows.specs.Listing.{lapRows}
-use Rattle.lap_rows.proofs.Lines.{placed-same}
+use Rattle.lap_text.proofs.Lines.{placed-same}
 use borrow.Author.Needs.{needs}
 use Rattle.lap_rows.proofs.lap_rows.list_commands.Statement.{statement}
 use Rattle.lap_rows.proofs.lap_rows.list_commands.Tie as tie

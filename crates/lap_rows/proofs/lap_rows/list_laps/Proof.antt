@@ -8,8 +8,8 @@ use Rattle.geo.specs.Lent.{origin}
 use Rattle.geo.specs.Walk.{listFrom}
 use Rattle.laps.specs.File.{lapsOf}
 use Rattle.geo.specs.Domain.{mostCommands}
-use Rattle.course.specs.Walks.{chainNumbers}
-use Rattle.lap_rows.specs.Listing.{ascii}
+use Rattle.chain.specs.Chains.{chainNumbers}
+use Rattle.lap_text.specs.Text.{ascii}
 use Rattle.lap_rows.proofs.Laps.{Listing, laps-start, turn, turn-sum, laps-step, laps-added, total-room, laps-done}
 use Rattle.lap_rows.proofs.Counts.{laps-few}
 use Rattle.lap_rows.proofs.lap_rows.list_laps.Statement.{statement}

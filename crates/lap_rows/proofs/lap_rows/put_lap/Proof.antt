@@ -6,7 +6,7 @@ use native.Mathlib.Omega.{arith}
 use Rattle.file.specs.Command.{commandsAt}
 use Rattle.listing.specs.Rows.{ListRow, stepsIn, sumOf}
 use Rattle.lap_rows.specs.Listing.{lapText}
-use Rattle.lap_rows.proofs.Lines.{rows-back, text-same}
+use Rattle.lap_text.proofs.Lines.{rows-back, text-same}
 use Rattle.lap_rows.proofs.Counts.{rows-few, rows-steps, rows-short}
 use borrow.Author.Needs.{needs}
 use Rattle.lap_rows.proofs.lap_rows.put_lap.Statement.{statement}

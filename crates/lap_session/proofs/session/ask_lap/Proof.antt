@@ -3,8 +3,8 @@ use mathlib.Core.Path.{sym, _∙_}
 use native.Mathlib.Omega.{arith}
 use Rattle.geo.proofs.Tolerance.{tolerance-positive}
 use Rattle.laps.specs.File.{lapsOf}
-use Rattle.lap_replace.specs.Replace.{lentNew, mostWith}
-use Rattle.lap_replace.proofs.Rows.{lent-nine, past-1, past-3, past-7}
+use Rattle.lap_checks.specs.Checks.{lentNew, mostWith}
+use Rattle.lap_checks.proofs.Rows.{lent-nine, past-1, past-3, past-7}
 use Rattle.lap_session.specs.Session.{askLap}
 use Rattle.lap_session.proofs.Rows.{ask-passed, not-asked, is-asked}
 use borrow.Author.Needs.{needs}

@@ -2,7 +2,7 @@
 use mathlib.Core.Path.{_∙_}
 use native.Mathlib.Omega.{arith}
 use Rattle.laps.specs.File.{lapsOf}
-use Rattle.lap_replace.proofs.Rows.{past-1, past-3, past-7, new-passed}
+use Rattle.lap_checks.proofs.Rows.{past-1, past-3, past-7, new-passed}
 use Rattle.lap_session.specs.Session.{partNew}
 use Rattle.lap_session.proofs.Rows.{commit-12, commit-13, part-refused, part-sizes, few-part}
 use borrow.Author.Needs.{needs}

@@ -3,7 +3,7 @@ use mathlib.Core.Path.{sym, _∙_}
 use borrow.Author.Tests.{not-true, not-false}
 use Rattle.geo.specs.Domain.{whole}
 use Rattle.laps.specs.File.{lapsOf, tested}
-use Rattle.lap_replace.proofs.Rows.{past-1, past-3, laps-of, tables-passed, tables-refused, counts-refused, laps-decide}
+use Rattle.lap_checks.proofs.Rows.{past-1, past-3, laps-of, tables-passed, tables-refused, counts-refused, laps-decide}
 use Rattle.lap_session.specs.Session.{partFormed, partFinite, partNew}
 use Rattle.lap_session.proofs.Part.{in-part}
 use borrow.Author.Needs.{needs}

@@ -2,7 +2,7 @@
 use Rattle.laps.specs.File.{lapsOf}
 use mathlib.Core.Path.{sym, _∙_}
 use native.Mathlib.Omega.{arith}
-use Rattle.lap_replace.proofs.Rows.{past-1, past-3, past-7}
+use Rattle.lap_checks.proofs.Rows.{past-1, past-3, past-7}
 use Rattle.lap_session.specs.Session.{commitLap}
 use Rattle.lap_session.proofs.Part.{in-part, stored-most}
 use Rattle.lap_session.proofs.Rows.{commit-passed, not-stored, is-stored}

@@ -9,7 +9,9 @@ use borrow.Fn.PlainCycle.{Measures, is, falls, and}
 use lib.ListN.{length-set}
 use Rattle.floats.specs.Ops.{_≺_}
 use Rattle.geo.specs.Lent.{pointAt}
-use Rattle.simplify.specs.Measure.{measureOf}
+use Rattle.farthest.specs.Measure.{measureOf}
+use Rattle.farthest.proofs.farthest.Farthest.cuts.Reads as cuts-reads
+use Rattle.farthest.proofs.farthest.farthest_between.Reads as farthest-between-reads
 use Rattle.simplify.proofs.Kept.{found-inside}
 use Rattle.simplify.proofs.Flags.{mark-cut, mark-none}
 use Rattle.simplify.proofs.simplify.+mark.{statement}
@@ -17,8 +19,6 @@ use Rattle.simplify.proofs.simplify.+mark.Tie.{close}
 use Rattle.simplify.proofs.simplify.mark.Reads as mark
 use Rattle.simplify.proofs.simplify.mark.Kinds as mark-kinds
 use Rattle.simplify.proofs.simplify.+mark.Lts-mark as mark-lts
-use Rattle.simplify.proofs.simplify.Farthest.cuts.Reads as cuts-reads
-use Rattle.simplify.proofs.simplify.farthest_between.Reads as farthest-between-reads
 
 abbrev μ-mark : Measures 2 mark-kinds.ps ℕ
 μ-mark κs a = a .1 .1 .1 .1 .0 - a .1 .1 .1 .0

@@ -9,7 +9,9 @@ use borrow.Fn.PlainCycle.{Measures, is, falls, and}
 use lib.ListN.{length-set}
 use Rattle.floats.specs.Ops.{_≺_}
 use Rattle.geo.specs.Lent.{commandAt}
-use Rattle.simplify.specs.Data.{commandSq}
+use Rattle.farthest.specs.Ends.{commandSq}
+use Rattle.farthest.proofs.farthest.Farthest.cuts.Reads as cuts-reads
+use Rattle.farthest.proofs.farthest.farthest_command.Reads as farthest-command-reads
 use Rattle.simplify.proofs.Kept.{found-inside}
 use Rattle.simplify.proofs.Flags.{mark-cut, mark-none}
 use Rattle.simplify.proofs.simplify.+mark_commands.{statement}
@@ -17,8 +19,6 @@ use Rattle.simplify.proofs.simplify.+mark_commands.Tie.{close}
 use Rattle.simplify.proofs.simplify.mark_commands.Reads as mark-commands
 use Rattle.simplify.proofs.simplify.mark_commands.Kinds as mark-commands-kinds
 use Rattle.simplify.proofs.simplify.+mark_commands.Lts-mark_commands as mark-commands-lts
-use Rattle.simplify.proofs.simplify.Farthest.cuts.Reads as cuts-reads
-use Rattle.simplify.proofs.simplify.farthest_command.Reads as farthest-command-reads
 
 abbrev μ-mark-commands : Measures 3 mark-commands-kinds.ps ℕ
 μ-mark-commands κs a = a .1 .1 .1 .1 .0 - a .1 .1 .1 .0

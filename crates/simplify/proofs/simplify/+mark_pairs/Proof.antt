@@ -9,7 +9,9 @@ use borrow.Fn.PlainCycle.{Measures, is, falls, and}
 use lib.ListN.{length-set}
 use Rattle.floats.specs.Ops.{_≺_}
 use Rattle.geo.specs.Lent.{pairAt}
-use Rattle.simplify.specs.Measure.{planeSq}
+use Rattle.farthest.specs.Measure.{planeSq}
+use Rattle.farthest.proofs.farthest.Farthest.cuts.Reads as cuts-reads
+use Rattle.farthest.proofs.farthest.farthest_pair.Reads as farthest-pair-reads
 use Rattle.simplify.proofs.Kept.{found-inside}
 use Rattle.simplify.proofs.Flags.{mark-cut, mark-none}
 use Rattle.simplify.proofs.simplify.+mark_pairs.{statement}
@@ -17,8 +19,6 @@ use Rattle.simplify.proofs.simplify.+mark_pairs.Tie.{close}
 use Rattle.simplify.proofs.simplify.mark_pairs.Reads as mark-pairs
 use Rattle.simplify.proofs.simplify.mark_pairs.Kinds as mark-pairs-kinds
 use Rattle.simplify.proofs.simplify.+mark_pairs.Lts-mark_pairs as mark-pairs-lts
-use Rattle.simplify.proofs.simplify.Farthest.cuts.Reads as cuts-reads
-use Rattle.simplify.proofs.simplify.farthest_pair.Reads as farthest-pair-reads
 
 abbrev μ-mark-pairs : Measures 2 mark-pairs-kinds.ps ℕ
 μ-mark-pairs κs a = a .1 .1 .1 .0 - a .1 .1 .0

@@ -9,7 +9,7 @@ use lib.ListN.{length, getD}
 use Rattle.geo.specs.declared.types.Command.{Command}
 use Rattle.geo.specs.Lent.{commandAt, kindOf, numbersOf}
 use Rattle.geo.proofs.Outcomes.{nine}
-use Rattle.simplify.specs.Data.{isMove}
+use Rattle.farthest.specs.Ends.{isMove}
 use Rattle.simplify.proofs.Copy.{Copying, copy-start, copy-take, copy-skip, copy-done, kindRow, kind-stored, copied-both}
 use Rattle.simplify.proofs.simplify.copy_commands.Statement.{statement}
 use Rattle.simplify.proofs.simplify.copy_commands.Tie as tie

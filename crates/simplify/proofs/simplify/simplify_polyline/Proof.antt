@@ -6,7 +6,7 @@ use lib.ListN.{length}
 use Rattle.floats.proofs.Unsigned.{square-not-negative}
 use Rattle.geo.specs.Lent.{pair, flat, pairAt}
 use Rattle.geo.proofs.Outcomes.{wrote-refused}
-use Rattle.simplify.specs.Measure.{planeSq}
+use Rattle.farthest.specs.Measure.{planeSq}
 use Rattle.simplify.specs.Simplify.{simplifyPolyline}
 use Rattle.simplify.proofs.Accepted.{points-accepted, wrote-points}
 use Rattle.simplify.proofs.simplify.simplify_polyline.Statement.{statement}

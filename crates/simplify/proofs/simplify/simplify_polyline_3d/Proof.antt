@@ -6,7 +6,7 @@ use lib.ListN.{length}
 use Rattle.floats.proofs.Unsigned.{square-not-negative}
 use Rattle.geo.specs.Lent.{triple, flat, pointAt}
 use Rattle.geo.proofs.Outcomes.{wrote-refused}
-use Rattle.simplify.specs.Measure.{lineSq}
+use Rattle.farthest.specs.Measure.{lineSq}
 use Rattle.simplify.specs.Simplify.{simplifyPolyline3d}
 use Rattle.simplify.proofs.Accepted.{points-accepted, wrote-points}
 use Rattle.simplify.proofs.simplify.simplify_polyline_3d.Statement.{statement}

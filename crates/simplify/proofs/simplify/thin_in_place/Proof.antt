@@ -4,7 +4,7 @@ use mathlib.Core.Bool.{true, false}
 use native.Mathlib.Omega.{arith}
 use lib.ListN.{length, replicate, length-set, length-replicate}
 use Rattle.geo.specs.Lent.{triple, pointAt}
-use Rattle.simplify.specs.Measure.{measureOf}
+use Rattle.farthest.specs.Measure.{measureOf}
 use Rattle.simplify.proofs.Flags.{copied-thinned, copied-none}
 use borrow.Author.Needs.{needs}
 use Rattle.simplify.proofs.simplify.thin_in_place.Statement.{statement}

@@ -5,7 +5,7 @@ use native.Mathlib.Omega.{arith}
 use borrow.Author.Needs.{needs}
 use lib.ListN.{length, replicate, length-set, length-replicate}
 use Rattle.geo.specs.Lent.{pair, pairAt}
-use Rattle.simplify.specs.Measure.{planeSq}
+use Rattle.farthest.specs.Measure.{planeSq}
 use Rattle.simplify.proofs.Flags.{copied-thinned, copied-none}
 use Rattle.simplify.proofs.simplify.thin_pairs.Statement.{statement}
 use Rattle.simplify.proofs.simplify.thin_pairs.Tie as tie

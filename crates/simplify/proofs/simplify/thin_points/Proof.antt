@@ -5,7 +5,7 @@ use native.Mathlib.Omega.{arith}
 use borrow.Author.Needs.{needs}
 use lib.ListN.{length, replicate, length-set, length-replicate}
 use Rattle.geo.specs.Lent.{triple, pointAt}
-use Rattle.simplify.specs.Measure.{lineSq}
+use Rattle.farthest.specs.Measure.{lineSq}
 use Rattle.simplify.proofs.Flags.{copied-thinned, copied-none}
 use Rattle.simplify.proofs.simplify.thin_points.Statement.{statement}
 use Rattle.simplify.proofs.simplify.thin_points.Tie as tie

@@ -1,13 +1,12 @@
 -- `subdivision::subdivision::subdivide` meets its contract: one end where it stops, else the left half's ends and the right half's behind them. The measure is the depth. Assumes nothing.
 use mathlib.Core.Path.{refl, _∙_}
-use Prim.Native.Nat.{_+_, _-_}
+use Prim.Native.Nat.{_+_, _-_, ℕ, _<_}
 use native.Mathlib.Omega.{arith}
 use borrow.Author.Needs.{needs}
 use lib.Pow.{pow-pos}
 use Rattle.geo.specs.Lent.{pair}
 use Rattle.geo.proofs.Placed.{placed-one, placed-both}
 use Rattle.subdivision.proofs.Halving.{subdivided-few, subdivided-end, subdivided-flat, subdivided-halves, half-power}
-use Prim.Native.Nat.{ℕ, _<_}
 use borrow.Fn.Kinds.{In}
 use borrow.Fn.PlainCycle.{Measures, is, falls, and}
 use Rattle.subdivision.proofs.subdivision.subdivide.Reads as subdivide

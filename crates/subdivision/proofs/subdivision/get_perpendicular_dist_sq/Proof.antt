@@ -3,8 +3,7 @@ use mathlib.Core.Path.{ap, _∙_}
 use lib.Ieee.{Float, binary64, div}
 use Rattle.geo.specs.declared.types.Point3D.{Point3D}
 use Rattle.geo.specs.Vector.{cross3}
-use Rattle.subdivision.specs.Flatten.{normSq}
-use Rattle.subdivision.specs.Flatten.{perpendicularSq}
+use Rattle.subdivision.specs.Flatten.{normSq, perpendicularSq}
 use borrow.Author.Needs.{needs}
 use Rattle.subdivision.proofs.subdivision.get_perpendicular_dist_sq.Statement.{statement}
 use Rattle.subdivision.proofs.subdivision.get_perpendicular_dist_sq.Tie as tie

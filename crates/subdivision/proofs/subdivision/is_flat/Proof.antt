@@ -4,8 +4,7 @@ use mathlib.Core.Bool.{true}
 use lib.Ieee.{Float, le}
 use Rattle.geo.proofs.And.{and-2, and-2-first}
 use Rattle.subdivision.specs.declared.subdivision.Chord.{Chord}
-use Rattle.subdivision.specs.Flatten.{offChord}
-use Rattle.subdivision.specs.Flatten.{isFlat}
+use Rattle.subdivision.specs.Flatten.{offChord, isFlat}
 use borrow.Author.Needs.{needs}
 use Rattle.subdivision.proofs.subdivision.is_flat.Statement.{statement}
 use Rattle.subdivision.proofs.subdivision.is_flat.Tie as tie

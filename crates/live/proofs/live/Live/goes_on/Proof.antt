@@ -1,6 +1,6 @@
 -- `live::live::Live::goes_on` meets its contract: below three points no test, else the root of what `farthest_between` promises. Assumes nothing.
 use borrow.Author.Tests.{lt-ltb, le-ltb}
-use Rattle.fitting.specs.Pieces.{rooted, lineDeviation}
+use Rattle.deviations.specs.Line.{rooted, lineDeviation}
 use Rattle.live.specs.Thinner.{slot}
 use borrow.Author.Needs.{needs}
 use Rattle.live.proofs.live.Live.goes_on.Statement.{statement}

@@ -1,0 +1,4 @@
+pub mod Own
+pub mod Between
+pub mod Accepted
+pub mod WorstStep

@@ -1,0 +1,4 @@
+pub mod Line
+pub mod Calls
+pub mod Own
+pub mod WorstStep

@@ -1,0 +1,5 @@
+pub mod Measure
+pub mod Farthest
+pub mod Ends
+pub mod Words
+pub mod Search

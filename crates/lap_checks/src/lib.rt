@@ -1,0 +1,2 @@
+// The rows that a replacement, its asking and its commit share.
+pub mod checks;

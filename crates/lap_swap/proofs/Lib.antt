@@ -1,0 +1,4 @@
+pub mod Replaced
+pub mod Body
+pub mod Turns
+pub mod Next

@@ -1,0 +1,2 @@
+// A fitted file with one lap replaced.
+pub mod swap;

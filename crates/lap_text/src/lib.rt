@@ -1,0 +1,2 @@
+// The text of a listing's lines.
+pub mod text;
