@@ -3,10 +3,10 @@ use Prim.Native.Nat.{ℕ, zero, suc, _+_}
 use mathlib.Core.Path.{_≡_, sym, ap, _∙_}
 use mathlib.Core.Logic.{⊎-elim}
 use mathlib.Core.Bool.{true, false}
-use lib.Ieee.{Float, lt}
+use lib.Ieee.{Float, lt, isNan}
 use Rattle.floats.specs.Ops.{_⊖_}
 use Rattle.floats.specs.Root.{rootOf}
-use Rattle.floats.proofs.Order.{either, clash, lt-trans}
+use Rattle.floats.proofs.Order.{either, clash, lt-gap, lt-trans}
 use Rattle.geo.specs.declared.types.Point.{Point}
 use Rattle.geo.specs.declared.types.Point3D.{Point3D}
 use Rattle.geo.specs.Vector.{lengthSq, lengthOf}
@@ -45,6 +45,14 @@ stays d i w tol h =
     ⊎-elim
     (λ e. rw e (⊎-elim (λ g. clash (sym h ∙ lt-trans (w .dist) d tol e g)) (λ g. g) (either (lt d tol))))
     (λ e. rw e h) (either (lt (w .dist) d))
+
+-- a number that is not below it
+pub reaches : (d : Float) (i : ℕ) (w : Deviation) (tol : Float) → isNan d ≡ false → lt d tol ≡ false → lt (worse d i w .dist) tol ≡ false
+unfolding worse
+reaches d i w tol n h =
+    ⊎-elim
+    (λ e. rw e h)
+    (λ e. rw e (⊎-elim (λ g. ⊎-elim (λ k. clash (sym e ∙ k)) (λ k. clash (sym h ∙ k)) (lt-gap (w .dist) d tol n g)) (λ g. g) (either (lt (w .dist) tol)))) (either (lt (w .dist) d))
 
 far-stays : (f : ℕ → Float) (n i : ℕ) (w : Deviation) (tol : Float) → lt (w .dist) tol ≡ false → lt (fold (walk f) n i w .dist) tol ≡ false
 unfolding fold

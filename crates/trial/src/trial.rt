@@ -14,16 +14,19 @@ use geo::point::get_length;
 use geo::types::Point;
 use geo::types::Point3D;
 ghost use mathlib.Core.Path.{_≡_};
+ghost use mathlib.Core.Bool.{true, false};
+ghost use lib.Ieee.{isNan};
 ghost use Prim.Native.Nat.{_+_, _*_, _<_, _≤_};
 ghost use lib.ListN.{length};
 ghost use lib.Signed.{mag};
-ghost use Rattle.floats.specs.Ops.{_⊖_};
+ghost use Rattle.floats.specs.Ops.{_⊖_, _≺_};
 ghost use Rattle.floats.specs.Root.{rootOf};
 ghost use Rattle.geo.specs.Domain.{mostPoints};
 ghost use Rattle.geo.specs.Vector.{flatten, lengthOf};
 ghost use Rattle.geo.specs.Lent.{pointAt};
 ghost use Rattle.arc.specs.Direction.{clockwise};
 ghost use Rattle.circle.specs.Three.{radiusFrom};
+ghost use Rattle.trial.specs.declared.trial.Spoke.{Spoke};
 ghost use Rattle.trial.specs.Deviation.{spokeOf, sagittaOf, endsOf, stepOf, arcDeviation};
 ghost use Rattle.trial.specs.Traversal.{offsetOf, cross2, dot2, atCentre, halfOf, turned, justBehind, justAhead, passesBy, traverses};
 ghost use Rattle.trial.specs.Trial.{sharpTurn, sharpAt, closedRange, measuredBy, goingRound, trialOf, trialThree, trialLeast, orElse, tryArcs};
@@ -107,6 +110,19 @@ fn deviation_of_step(p: Point3D, q: Point3D, s: Spoke, t: Spoke, r: f64, square:
     step_deviation(sqrt(l), s, t, r)
 }
 
+// Whether the end of the step from p to q, whose spoke is t, is off the circle by the tolerance or more, and the step not
+// short. Its deviation is no less then, whatever its sagitta.
+fn strays(p: Point3D, q: Point3D, t: Spoke, r: f64, tolerance: f64) -> bool
+    ensures { λ b. ⌜ (b ≡ true → (s : Spoke) → (isNan (stepOf r (lengthOf (q .x ⊖ p .x) (q .y ⊖ p .y)) s t) ≡ false) × ((stepOf r (lengthOf (q .x ⊖ p .x) (q .y ⊖ p .y)) s t ≺ tolerance) ≡ false)) ⌝ }
+{
+    let dx = q.x - p.x;
+    let dy = q.y - p.y;
+    if Spoke::SHORT_SQUARE <= dx * dx + dy * dy {
+        return tolerance <= abs(t.len - r);
+    }
+    false
+}
+
 // The greatest deviation of a step from the arc, and the first step that has it, 0 where there is none above 0. A
 // point's distance from the centre is worked out once: it serves the step before and the step after.
 pub fn arc_deviation(points: &[f64], start: usize, end: usize, m: Point, r: f64) -> Deviation
@@ -160,6 +176,9 @@ fn measure_arc(
     for i in start..end {
         let q = point_at(points, i + 1);
         let t = Spoke::new(m, q);
+        if strays(p, q, t, r, tolerance) {
+            return Measured::Outside;
+        }
         worst = worst.or(deviation_of_step(p, q, s, t, r, square), i);
         let ok = worst.dist < tolerance;
         if !ok {
