@@ -44,11 +44,11 @@
      pz_fit_points_with_primitives    4992               4992
      pz_fit_points_recursive          4992               4992
      pz_fit_arcs                     24448 + 144 * n   139648
-     pz_fit_file                    141824 + 144 * n   257024
-     pz_fit_hills                   141696 + 144 * n   256896
+     pz_fit_file                    141696 + 144 * n   256896
+     pz_fit_hills                   141568 + 144 * n   256768
      pz_replace_lap                 199936 + 144 * n   315136
      pz_ask_lap                     141568 + 144 * n   256768
-     pz_commit_lap                     512                512
+     pz_commit_lap                     640                640
      pz_fewest_straights              1280 + 160 * n    42240
      pz_flatten_arc                   4992               4992
      pz_read_course                    768                768

@@ -1,16 +1,9 @@
 /* The fit of a lap file with static buffers, and what it holds:
        fit_file TOLERANCE < recorded.laps > fitted.laps
    Both buffers are of the greatest size, so no file meets PZ_NO_ROOM; a byte more for the input shows a file that is too long. */
-#include <stdio.h>
-#include <stdlib.h>
-#include <pizhgarol.h>
+#include "lap.h"
 
 static uint8_t recorded[PZ_MOST_FILE_BYTES + 1], fitted[PZ_MOST_OUTPUT_BYTES];
-
-static uint32_t u32_at(const uint8_t *file, size_t at)
-{
-    return file[at] | (uint32_t)file[at + 1] << 8 | (uint32_t)file[at + 2] << 16 | (uint32_t)file[at + 3] << 24;
-}
 
 /* A fitted file needs no check: its laps stand where its table says, with a Move where one was recorded, Lines and Arcs. */
 static void tell(void)
