@@ -149,6 +149,20 @@ fn carried_on() -> Vec<Judged> {
     fits.into_iter().chain(replaced.map(|r| replacement_of(&r))).collect()
 }
 
+/// A Move and an Arc, and a Move and a Bezier, with each number behind the end out of the domain in turn.
+fn beyond() -> Vec<Judged> {
+    let file = |kind: u8, place: usize, x: f64| {
+        let mut lap = lines(&[0.0, 0.0]);
+        let mut nine = [9.0, 4.0, 0.0, 2.0, 2.0, 0.0, 0.0, 0.0, 1.0];
+        nine[place] = x;
+        lap.kinds.push(kind);
+        lap.numbers.extend(nine);
+        recording(&[lap])
+    };
+    let arcs = (3..9).map(|place| fit_of(&file(2, place, f64::INFINITY), 1.0, ROOM));
+    arcs.chain((3..9).map(|place| fit_of(&file(3, place, 1_000_000f64.next_up()), 1.0, ROOM))).collect()
+}
+
 /// A workout of six laps as it is and with something wrong at its last command, a lap without a Move, 64 laps and 65, 800
 /// commands and 801, the most bytes and one more.
 fn edges(draw: &mut Draw) -> Vec<Judged> {
@@ -179,11 +193,11 @@ fn edges(draw: &mut Draw) -> Vec<Judged> {
     ]
 }
 
-/// The worked cases, the shuttle, changed bits, replacements, laps that carry on, the edges, and then drawn calls, half of them
-/// replacements. One that is long, or whose answer is not owed, is drawn again.
+/// The worked cases, the shuttle, changed bits, replacements, laps that carry on, numbers out of the domain, the edges, and then
+/// drawn calls, half of them replacements. One that is long, or whose answer is not owed, is drawn again.
 pub fn records(count: usize, seed: u64) -> Vec<Record> {
     let mut draw = Draw::new(Random::new(seed));
-    let fixed = [worked(), shuttle(), flipped(), replacements(&mut draw), carried_on(), edges(&mut draw)];
+    let fixed = [worked(), shuttle(), flipped(), replacements(&mut draw), carried_on(), beyond(), edges(&mut draw)];
     let inside = |call: &&Judged| call.stands.is_none_or(|stands| stands.margins != Margins::Outside);
     let fixed: Vec<Record> = fixed.iter().flatten().filter(inside).map(|judged| record(&judged.call)).collect();
     draw.labels();
