@@ -8,7 +8,7 @@ use geo::domain::{MOST_POINTS, all_coordinates, is_centre};
 use geo::lent::pair_at;
 use geo::types::Point;
 
-#[derive(Drop)]
+#[derive(Clone, Copy)]
 pub enum Direction {
     Clockwise(bool),
     Refused(u32),

@@ -4,7 +4,7 @@ use mathlib.Core.Path.{◌≡◌, sym, ap, ◌∙◌, subst}
 use mathlib.Core.Bool.{Bool, true, false, not, ◌&&◌}
 use mathlib.Core.List.{List}
 use native.Mathlib.Omega.{arith}
-use borrow.Author.Tests.{eqb-true, not_true, not-false}
+use borrow.Author.Tests.{eqb-true, not-true, not-false}
 use lib.Dec.{eqb}
 use lib.Ieee.{Float}
 use Rattle.floats.specs.Ops.{◌≺◌, ◌⊕◌, ◌⊖◌, +0}
@@ -45,8 +45,8 @@ arc-end kind b o d e h =
 near_long : (tol r s : Float) → near_radii tol r s ≡ true → ((r ≺ nano) ≡ false) × ((s ≺ nano) ≡ false)
 unfolding near_radii
 near_long tol r s h = (
-  not_true (r ≺ nano) (and_left (not (r ≺ nano)) (not (s ≺ nano) && (abs_of (s ⊖ r) ≺ tol)) h),
-  not_true (s ≺ nano) (and_left (not (s ≺ nano)) (abs_of (s ⊖ r) ≺ tol) (and_right (not (r ≺ nano)) (not (s ≺ nano) && (abs_of (s ⊖ r) ≺ tol)) h)),
+  not-true (r ≺ nano) (and_left (not (r ≺ nano)) (not (s ≺ nano) && (abs_of (s ⊖ r) ≺ tol)) h),
+  not-true (s ≺ nano) (and_left (not (s ≺ nano)) (abs_of (s ⊖ r) ≺ tol) (and_right (not (r ≺ nano)) (not (s ≺ nano) && (abs_of (s ⊖ r) ≺ tol)) h)),
 )
 
 pub call_drawable : (kind : ℕ) (s : List Float) (a : Point3D) (tol : Float) (kinds numbers : ℕ) (cs : List Command) → flatten_call kind s a tol kinds numbers ≡ gives cs

@@ -6,7 +6,7 @@ use mathlib.Core.Logic.{◌⊎◌, inl, inr, ⊎_elim}
 use mathlib.Core.Bool.{Bool, true, false, not}
 use mathlib.Core.List.{List, [], ◌∷◌, ◌++◌}
 use native.Mathlib.Omega.{arith}
-use borrow.Author.Tests.{not_true}
+use borrow.Author.Tests.{not-true}
 use lib.Ieee.{Float, unlike, neg}
 use Rattle.floats.specs.Ops.{◌⊕◌, ◌⊗◌, ◌≺◌, +0}
 use Rattle.floats.specs.Float.{is_minus}
@@ -180,7 +180,7 @@ pub turns-inside : (clockwise : Bool) (r limit : Float) → Radius r → (k : �
     → EndsInside ps
 unfolding in_quarter
 turns-inside clockwise r limit R zero u w ps L M b t =
-    let n : (dot2 u w ≺ +0) ≡ false = not_true (dot2 u w ≺ +0) (and_right (+0 ≺ onward clockwise u w) (not (dot2 u w ≺ +0)) b) in
+    let n : (dot2 u w ≺ +0) ≡ false = not-true (dot2 u w ≺ +0) (and_right (+0 ≺ onward clockwise u w) (not (dot2 u w ≺ +0)) b) in
     all-inside r limit R u w (flat-more 24 (omega arith) L.bounds) (flat-more 24 (omega arith) M.bounds) (rest-start u w L M n) ps t.finished
 turns-inside clockwise r limit R (suc k) u w ps L M b t =
     let v = quarter_turn clockwise u in

@@ -17,13 +17,13 @@ use geo::lent::put_point;
 use geo::point::{get_distance_3d, interpolate};
 use geo::types::{Answer, CubicBezier, Point, Point3D};
 
-#[derive(Drop)]
+#[derive(Clone, Copy)]
 pub enum BezierPoint {
     At(Point),
     Refused(u32),
 }
 
-#[derive(Drop)]
+#[derive(Clone, Copy)]
 pub enum BezierSplit {
     Halves(CubicBezier, CubicBezier),
     Refused(u32),
@@ -76,7 +76,7 @@ pub fn get_bezier_point_at(p0: Point, c1: Point, c2: Point, p1: Point, t: f64) -
 }
 
 // The two parts of a curve, which meet at a parameter.
-#[derive(Drop)]
+#[derive(Clone, Copy)]
 pub struct Halves {
     pub left: CubicBezier,
     pub right: CubicBezier,

@@ -7,7 +7,7 @@ ghost use Rattle.bezier.specs.Linearize.{most_asked, share};
 use geo::types::{CubicBezier, Point, Point3D};
 
 // Bernstein's weights at a parameter.
-#[derive(Drop)]
+#[derive(Clone, Copy)]
 pub struct Weights {
     pub w0: f64,
     pub w1: f64,
@@ -69,7 +69,7 @@ fn share_of(n: usize, i: usize) -> f64
 
 // A point of a curve in space, and how often the curve was evaluated up to it. The fields are private: `at` alone makes
 // one, so a count is raised where the curve is evaluated and nowhere else.
-#[derive(Drop)]
+#[derive(Clone, Copy)]
 pub(crate) struct Evaluated {
     point: Point3D,
     count: usize,

@@ -1,3 +1,5 @@
 // Cubic Bezier curves: a point, the two parts, and the steps.
+#![tactic(auto)]
+
 pub mod bezier;
 pub mod evaluation;

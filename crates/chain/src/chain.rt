@@ -20,7 +20,7 @@ use ranges::ranges::{fit_range, flush_chain};
 use simplify::simplify::thin_in_place;
 
 // Where a walk along a course stands.
-#[derive(Drop)]
+#[derive(Clone, Copy)]
 pub struct Walk {
     // how many points the chain under way has
     pub points: usize,
@@ -31,7 +31,7 @@ pub struct Walk {
 }
 
 // What becomes of a chain that is flushed.
-#[derive(Drop)]
+#[derive(Clone, Copy)]
 pub enum Flush {
     // thinned and fitted
     Fitted,

@@ -20,7 +20,7 @@ use geo::point::get_length;
 use geo::types::{Point, Point3D};
 
 // The greatest of some distances, and the index at which it first stands.
-#[derive(Drop)]
+#[derive(Clone, Copy)]
 pub struct Deviation {
     pub dist: f64,
     pub index: usize,
@@ -39,7 +39,7 @@ impl Deviation {
 }
 
 // The chord between two points: its first point, its direction and its length in the plane.
-#[derive(Drop)]
+#[derive(Clone, Copy)]
 pub struct Chord {
     pub a: Point3D,
     pub dx: f64,
@@ -159,7 +159,7 @@ fn center_of(a: Point3D, b: Point3D, c: Point3D, d: f64) -> Point
 }
 
 // The centre of the circle through three points, or none.
-#[derive(Drop)]
+#[derive(Clone, Copy)]
 pub enum CenterThrough {
     At(Point),
     None,
@@ -185,7 +185,7 @@ impl CenterThrough {
 }
 
 // The answer of `fit_circle_to_3_points`: the circle through three points, or none.
-#[derive(Drop)]
+#[derive(Clone, Copy)]
 pub enum CircleThrough {
     Around { center: Point, radius: f64 },
     None,
@@ -209,7 +209,7 @@ impl CircleThrough {
 }
 
 // The sums of Kasa's normal equations.
-#[derive(Drop)]
+#[derive(Clone, Copy)]
 pub struct Sums {
     pub xx: f64,
     pub xy: f64,
@@ -270,7 +270,7 @@ impl Sums {
 }
 
 // Three rows as vectors. The matrix is symmetric, so a row is a column too.
-#[derive(Drop)]
+#[derive(Clone, Copy)]
 pub struct Axes {
     pub x: Point3D,
     pub y: Point3D,
@@ -335,7 +335,7 @@ fn determinant(m: [[f64; 3]; 3]) -> f64
 }
 
 // The solution of three linear equations, or none.
-#[derive(Drop)]
+#[derive(Clone, Copy)]
 pub enum Solution {
     At(Point3D),
     None,
@@ -367,7 +367,7 @@ impl Solution {
 }
 
 // The centre of the circle of least squares, and its radius squared; or none.
-#[derive(Drop)]
+#[derive(Clone, Copy)]
 pub enum Center {
     At { center: Point, square: f64 },
     None,
@@ -436,7 +436,7 @@ fn worst_error(points: &[f64], start: usize, end: usize, center: Point, r: f64) 
 }
 
 // The answer of `fit_circle_to_points_3d`: the circle of least squares and its greatest error, or none.
-#[derive(Drop)]
+#[derive(Clone, Copy)]
 pub enum FittedCircle {
     Circle {
         center: Point,
@@ -487,13 +487,13 @@ pub fn to_bisector(a: Point3D, b: Point3D, center: Point) -> Point
     }
 }
 
-#[derive(Drop)]
+#[derive(Clone, Copy)]
 pub enum Collinear {
     Is(bool),
     Refused(u32),
 }
 
-#[derive(Drop)]
+#[derive(Clone, Copy)]
 pub enum Projected {
     At(Point),
     Refused(u32),

@@ -14,14 +14,14 @@ use geo::types::Point;
 use trial::trial::arc_deviation;
 
 // What get_polyline_line_deviation answers: the greatest distance and where it first stands.
-#[derive(Drop)]
+#[derive(Clone, Copy)]
 pub enum LineDeviation {
     Is(Deviation),
     Refused(u32),
 }
 
 // What get_polyline_arc_deviation answers: the greatest deviation and the first step that reaches it.
-#[derive(Drop)]
+#[derive(Clone, Copy)]
 pub enum ArcDeviation {
     Is(Deviation),
     Refused(u32),

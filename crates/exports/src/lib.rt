@@ -3,6 +3,8 @@
 //
 // A point passes as its numbers, and a slice as a pointer and a length. A call that may be refused answers 0 or the
 // refusal's number; what else it has to say goes to memory that the caller lends, which a refusal leaves as it was.
+#![tactic(auto)]
+
 pub mod arcs;
 pub mod beziers;
 pub mod circles;

@@ -15,7 +15,7 @@ use segment::space::Climb;
 
 // Which distance of a point counts: in x and y that to the endless line through the ends of its range, or that to the segment
 // between them; or in x, y and z that to the segment.
-#[derive(Drop)]
+#[derive(Clone, Copy)]
 pub enum Ruler {
     Line,
     Segment,
@@ -23,7 +23,7 @@ pub enum Ruler {
 }
 
 // The chord of a range, worked out once for all the points between. Distances are measured in x and y.
-#[derive(Drop)]
+#[derive(Clone, Copy)]
 pub struct Chord {
     pub start: Point3D,
     pub dx: f64,
@@ -70,7 +70,7 @@ impl Chord {
 }
 
 // The first farthest point of a range, by the squared distance: the range's start with 0 where none lies off the chord.
-#[derive(Drop)]
+#[derive(Clone, Copy)]
 pub struct Farthest {
     pub square: f64,
     pub index: usize,
@@ -107,7 +107,7 @@ impl Farthest {
 
 // A search for the first farthest point. `top` is the greatest spread met: a point whose spread is not above it is no farther than
 // `best`, so that few points cost a division.
-#[derive(Drop)]
+#[derive(Clone, Copy)]
 struct Search {
     top: f64,
     best: Farthest,

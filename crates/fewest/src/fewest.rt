@@ -19,7 +19,7 @@ use geo::lent::{point_at, put_point};
 use ways::phase::{Phase, is_arrived, is_going};
 
 // What a search is asked: the tolerance of a Line, the index of the last point, and how many pairs it may test.
-#[derive(Drop)]
+#[derive(Clone, Copy)]
 pub struct Task {
     pub tolerance: f64,
     pub last: usize,
@@ -34,14 +34,14 @@ impl Task {
 }
 
 // The pairs tested so far, and where the search stands.
-#[derive(Drop)]
+#[derive(Clone, Copy)]
 pub struct Progress {
     pub tested: u64,
     pub phase: Phase,
 }
 
 // A search that has stopped: the layers finished too.
-#[derive(Drop)]
+#[derive(Clone, Copy)]
 pub struct Ended {
     pub tested: u64,
     pub finished: usize,
@@ -49,14 +49,14 @@ pub struct Ended {
 }
 
 // What the call answers beside the ends: its count of Lines, the pairs tested, and a lower bound of the count.
-#[derive(Drop)]
+#[derive(Clone, Copy)]
 pub struct Counts {
     pub count: usize,
     pub tested: u64,
     pub bound: usize,
 }
 
-#[derive(Drop)]
+#[derive(Clone, Copy)]
 pub enum Straights {
     Are {
         count: usize,

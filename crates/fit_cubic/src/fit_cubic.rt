@@ -13,7 +13,7 @@ use geo::lent::pair_at;
 use geo::point::{get_distance, interpolate};
 use geo::types::{CubicBezier, Point};
 
-#[derive(Drop)]
+#[derive(Clone, Copy)]
 pub enum FittedCubic {
     Curve(CubicBezier),
     None,
@@ -21,7 +21,7 @@ pub enum FittedCubic {
 }
 
 // The sums of the normal equations.
-#[derive(Drop)]
+#[derive(Clone, Copy)]
 pub struct Sums {
     pub a11: f64,
     pub a12: f64,

@@ -1,2 +1,4 @@
 // The cubic Bezier curve fitted to points.
+#![tactic(auto)]
+
 pub mod fit_cubic;

@@ -14,7 +14,7 @@ use pieces::pieces::Rule;
 use ranges::ranges::fit_range;
 
 // What fit_points_with_primitives answers: how many commands it wrote, and how many ranges it examined.
-#[derive(Drop)]
+#[derive(Clone, Copy)]
 pub enum Primitives {
     Fitted { count: usize, ranges: usize },
     Refused(u32),

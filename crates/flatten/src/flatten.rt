@@ -18,7 +18,7 @@ use geo::point::get_length;
 use geo::types::{Answer, Command, Point, Point3D};
 
 // A vector and its length, which is rooted once.
-#[derive(Drop)]
+#[derive(Clone, Copy)]
 struct Ray {
     to: Point,
     len: f64,
@@ -39,7 +39,7 @@ impl Ray {
 }
 
 // What all parts of an arc share: its centre, the start radius, and what a part must bulge by less than.
-#[derive(Drop)]
+#[derive(Clone, Copy)]
 struct Round {
     center: Point,
     radius: f64,

@@ -39,7 +39,7 @@ odd_plus d (suc q) k l = refl
 
 units-plus : (q k : ℕ) → Plus (units binary64 false q k)
 unfolding units
-units-plus q k = ⊎_elim (λ h. rw h (odd_plus _ q k _)) (λ h. rw h refl) (either (ltb (q * 2 ^ k) (2 ^ (low binary64 + suc (emax binary64)))))
+units-plus q k = ⊎_elim (λ h. rw h (odd_plus 54 q k (low binary64))) (λ h. rw h refl) (either (ltb (q * 2 ^ k) (2 ^ (low binary64 + suc (emax binary64)))))
 
 pub round_plus : (a b : ℕ) → Plus (round binary64 false a b)
 unfolding round

@@ -7,7 +7,7 @@ ghost use Rattle.floats.specs.Wide.{Squared, NearRoot, Moved};
 ghost use Rattle.floats.specs.Root.{root_from, root_of, plain, Rounded};
 
 // A number below 2^107, as hi * 2^52 + lo.
-#[derive(Drop)]
+#[derive(Clone, Copy)]
 struct Wide {
     hi: u64,
     lo: u64,
@@ -94,7 +94,7 @@ fn mend(r: f64, m: u64) -> u64
 }
 
 // A number m * 2^e.
-#[derive(Drop)]
+#[derive(Clone, Copy)]
 struct Scaled {
     m: u64,
     e: u64,

@@ -1,7 +1,7 @@
 -- A conjunction that the code works out test by test, and leaves at the first that fails. Assumes nothing.
 use mathlib.Core.Path.{◌≡◌, sym, ◌∙◌}
 use mathlib.Core.Bool.{Bool, true, false, not, ◌&&◌}
-use borrow.Author.Tests.{not_true, not-false}
+use borrow.Author.Tests.{not-true, not-false}
 
 -- a, b, c are what the code found of A, B, C
 module _ (A B C a b c : Bool) where
@@ -36,12 +36,12 @@ module _ (A B C D a b c d : Bool) where
   all_4_third p t q u r v =
       let h : A ≡ true = sym p ∙ not-false a t in
       let k : B ≡ true = sym q ∙ not-false b u in
-      let l : C ≡ false = sym r ∙ not_true c v in rw (h, k, l)
+      let l : C ≡ false = sym r ∙ not-true c v in rw (h, k, l)
 
   pub all_4_second : a ≡ A → not a ≡ false → b ≡ B → not b ≡ true → false ≡ A && B && C && D
   all_4_second p t q u =
       let h : A ≡ true = sym p ∙ not-false a t in
-      let k : B ≡ false = sym q ∙ not_true b u in rw (h, k)
+      let k : B ≡ false = sym q ∙ not-true b u in rw (h, k)
 
   pub all_4_first : a ≡ A → not a ≡ true → false ≡ A && B && C && D
-  all_4_first p t = let h : A ≡ false = sym p ∙ not_true a t in rw h
+  all_4_first p t = let h : A ≡ false = sym p ∙ not-true a t in rw h

@@ -5,7 +5,7 @@ use mathlib.Core.Logic.{⊎_elim}
 use mathlib.Core.Bool.{Bool, true, false, not, ◌&&◌, and-true, and-false}
 use native.Mathlib.Omega.{arith}
 use native.Mathlib.Nat.{eq-or-lt_of_le}
-use borrow.Author.Tests.{not_true, not-false}
+use borrow.Author.Tests.{not-true, not-false}
 use Rattle.floats.proofs.Order.{either, clash}
 use Rattle.geo.specs.Domain.{every_from}
 
@@ -23,7 +23,7 @@ module _ (ok : ℕ → Bool) (e : ℕ) (w : Bool) where
   unfolding every_from
   every_stop i b h q t r =
       let z : e - i ≡ suc (e - (i + 1)) = omega arith in
-      let g : ok i ≡ false = sym q ∙ not_true b t in
+      let g : ok i ≡ false = sym q ∙ not-true b t in
       sym (rw (z, g)) ∙ r
 
   pub every_start : every_from ok e 0 ≡ w → every_from ok (e - 0) 0 ≡ w
@@ -39,7 +39,7 @@ module _ (ok : ℕ → Bool) (e : ℕ) (w : Bool) where
   unfolding every_from
   all_fail i b all h q t r =
       let z : e - i ≡ suc (e - (i + 1)) = omega arith in
-      let g : ok i ≡ false = sym q ∙ not_true b t in
+      let g : ok i ≡ false = sym q ∙ not-true b t in
       sym (and-false all) ∙ sym (rw (z, g)) ∙ r
 
   -- it passed, and the finding stays

@@ -59,7 +59,7 @@ pub fn midpoint_3d(a: Point3D, b: Point3D) -> Point3D
     }
 }
 
-#[derive(Drop)]
+#[derive(Clone, Copy)]
 pub enum Midpoint {
     At(Point3D),
     Refused(u32),

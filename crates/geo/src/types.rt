@@ -4,14 +4,14 @@ ghost use Rattle.geo.specs.Lent.{end_of};
 ghost use Rattle.geo.specs.Vector.{flatten, cubic};
 
 // A position in the plane.
-#[derive(Drop)]
+#[derive(Clone, Copy)]
 pub struct Point {
     pub x: f64,
     pub y: f64,
 }
 
 // A recorded position, an offset or a normal.
-#[derive(Drop)]
+#[derive(Clone, Copy)]
 pub struct Point3D {
     pub x: f64,
     pub y: f64,
@@ -38,7 +38,7 @@ impl Point3D {
 }
 
 // A cubic Bezier curve: start, two controls, end.
-#[derive(Drop)]
+#[derive(Clone, Copy)]
 pub struct CubicBezier(pub Point, pub Point, pub Point, pub Point);
 
 impl CubicBezier {
@@ -59,7 +59,7 @@ impl CubicBezier {
 }
 
 // One step of a course. The kinds are numbered 0 to 3 in this order.
-#[derive(Drop)]
+#[derive(Clone, Copy)]
 pub enum Command {
     Move {
         end: Point3D,
@@ -102,7 +102,7 @@ impl Command {
 }
 
 // What a call that writes to a lent output answers: how many items it wrote, or why it wrote none.
-#[derive(Drop)]
+#[derive(Clone, Copy)]
 pub enum Answer {
     Written(usize),
     Refused(u32),

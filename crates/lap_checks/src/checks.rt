@@ -161,7 +161,7 @@ fn check_new(s: &[u8], f: &[u8], k: usize, kinds: &[u8], nums: &[f64], tolerance
 
 // What is found of a replacement or of its asking: the first of the rows 1 to 7 that it falls under, or 0; and where that is 0, what the laps
 // that are fitted again could become at most, 801 for all above 800, and with them the commands in all other laps.
-#[derive(Drop)]
+#[derive(Clone, Copy)]
 pub struct Found {
     pub refused: u32,
     pub own: usize,

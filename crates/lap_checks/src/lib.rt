@@ -1,2 +1,4 @@
 // The rows that a replacement, its asking and its commit share.
+#![tactic(auto)]
+
 pub mod checks;

@@ -1,2 +1,4 @@
 // The fit of a lap file.
+#![tactic(auto)]
+
 pub mod fit;

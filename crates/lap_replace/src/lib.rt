@@ -1,2 +1,4 @@
 // The replacement of one lap of a fitted file.
+#![tactic(auto)]
+
 pub mod replace;

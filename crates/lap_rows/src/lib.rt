@@ -1,2 +1,4 @@
 // The listing of a recorded file.
+#![tactic(auto)]
+
 pub mod lap_rows;

@@ -15,14 +15,14 @@ use laps::lap_file::{Check, MOST_COMMANDS, check_sizes, commands_pass, lap_count
 use pieces::pieces::Rule;
 
 // A session: how many commits it accepted.
-#[derive(Drop)]
+#[derive(Clone, Copy)]
 pub struct Session {
     pub edits: u32,
 }
 
 // What an asking gives: the lap, the tolerance and the session's edit number, and how many commands the fit of the lap has, and that of
 // the next lap, 0 where that is not fitted again.
-#[derive(Drop)]
+#[derive(Clone, Copy)]
 pub struct Ticket {
     pub lap: usize,
     pub tolerance: f64,
@@ -32,14 +32,14 @@ pub struct Ticket {
 }
 
 // What an asking answers.
-#[derive(Drop)]
+#[derive(Clone, Copy)]
 pub enum Asked {
     Given(Ticket),
     Refused(u32),
 }
 
 // What a commit answers: how many bytes the file has, and the session from now on.
-#[derive(Drop)]
+#[derive(Clone, Copy)]
 pub struct Committed {
     pub answer: Answer,
     pub session: Session,

@@ -1,2 +1,4 @@
 // A fitted file with one lap replaced.
+#![tactic(auto)]
+
 pub mod swap;

@@ -113,7 +113,7 @@ fn start_of(s: &[u8], k: usize) -> Point3D
 }
 
 // The lap behind lap k of a recorded file, where it is fitted again; else no commands.
-#[derive(Drop)]
+#[derive(Clone, Copy)]
 pub struct Next {
     pub both: bool,
     pub at: usize,
@@ -205,7 +205,7 @@ fn fit_next(
 }
 
 // How many commands the fit of the new commands has, and that of the next lap, 0 where it is not fitted again.
-#[derive(Drop)]
+#[derive(Clone, Copy)]
 pub struct Refit {
     pub count: usize,
     pub next: usize,

@@ -1,2 +1,4 @@
 // The text of a listing's lines.
+#![tactic(auto)]
+
 pub mod text;

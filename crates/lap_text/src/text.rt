@@ -52,7 +52,7 @@ fn put_row(out: &mut [u8], at: usize, lap: usize, kind: u8, steps: usize) -> usi
 }
 
 // What rows add to a listing: where their text ends, and how many steps they give together.
-#[derive(Drop)]
+#[derive(Clone, Copy)]
 pub struct Added {
     pub end: usize,
     pub steps: usize,

@@ -1,5 +1,7 @@
 // Reads eight bytes of tolerance, then a lap file, from standard input. A refusal prints one line. An accepted file prints
 // the listing of its fit: lap, kind letter and steps of each command that the fit writes, and the sum of the steps under them.
+#![tactic(auto)]
+
 ghost use Rattle.std.specs.Prelude.{◌≡◌, ◌++◌, length, drop};
 ghost use Rattle.lap_rows.specs.Listing.{most_text};
 ghost use Rattle.lapfit.specs.Input.{lapfit_text};

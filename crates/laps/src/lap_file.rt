@@ -22,7 +22,7 @@ pub const MOST_BYTES: usize = 65536;
 pub const BEZIER: u8 = 3;
 
 // What is asked of each command of a lap.
-#[derive(Drop)]
+#[derive(Clone, Copy)]
 pub enum Check {
     // row 4: its kind, its unused numbers, and where a Move stands
     Form,

@@ -1,4 +1,6 @@
 // Reads a course of SVG path data from standard input, and writes its lap file to standard output. A refusal prints one line.
+#![tactic(auto)]
+
 ghost use Rattle.std.specs.Prelude.{◌≡◌, ◌++◌, length, drop};
 ghost use Rattle.lapsvg.specs.Output.{most_file, lapsvg_bytes};
 

@@ -5,7 +5,7 @@ use mathlib.Core.Logic.{⊎_elim}
 use mathlib.Core.Bool.{Bool, true, false, not, ◌||◌}
 use mathlib.Core.List.{List, [], ◌∷◌, ◌++◌}
 use native.Mathlib.Omega.{arith}
-use borrow.Author.Tests.{ltb-false, lt-ltb, le-ltb, not_true, not-false}
+use borrow.Author.Tests.{ltb-false, lt-ltb, le-ltb, not-true, not-false}
 use lib.Dec.{ltb}
 use lib.Ieee.{Float}
 use Rattle.floats.proofs.Order.{either}
@@ -47,22 +47,22 @@ module _ (s : Live) (inside tuned : Bool) where
   module _ (n : Bool) (l : s.count ≤ slot_count) (is : n ≡ numbers_in coordinate s.points) where
     pub state_5 : not n ≡ true → 5 ≡ refusal (state_rows s inside tuned)
     unfolding state_rows refusal
-    state_5 h = rw (le-ltb slot_count s.count l, sym is ∙ not_true n h)
+    state_5 h = rw (le-ltb slot_count s.count l, sym is ∙ not-true n h)
 
     module _ (ok : not n ≡ false) where
       pub state_5_own : not inside ≡ true → 5 ≡ refusal (state_rows s inside tuned)
       unfolding state_rows refusal
-      state_5_own h = rw (le-ltb slot_count s.count l, sym is ∙ not-false n ok, not_true inside h)
+      state_5_own h = rw (le-ltb slot_count s.count l, sym is ∙ not-false n ok, not-true inside h)
 
       module _ (t : Bool) (own : not inside ≡ false) (ist : t ≡ tolerance s.tolerance) where
         pub state_6 : not t ≡ true → 6 ≡ refusal (state_rows s inside tuned)
         unfolding state_rows refusal
-        state_6 h = rw (le-ltb slot_count s.count l, sym is ∙ not-false n ok, not-false inside own, sym ist ∙ not_true t h)
+        state_6 h = rw (le-ltb slot_count s.count l, sym is ∙ not-false n ok, not-false inside own, sym ist ∙ not-true t h)
 
         module _ (okt : not t ≡ false) where
           pub state_6_own : not tuned ≡ true → 6 ≡ refusal (state_rows s inside tuned)
           unfolding state_rows refusal
-          state_6_own h = rw (le-ltb slot_count s.count l, sym is ∙ not-false n ok, not-false inside own, sym ist ∙ not-false t okt, not_true tuned h)
+          state_6_own h = rw (le-ltb slot_count s.count l, sym is ∙ not-false n ok, not-false inside own, sym ist ∙ not-false t okt, not-true tuned h)
 
           pub state_10 : not tuned ≡ false → s.closed ≡ true → 10 ≡ refusal (state_rows s inside tuned)
           unfolding state_rows refusal

@@ -20,7 +20,7 @@ use geo::types::{Answer, Point3D};
 
 // The first `count` slots hold points, three numbers each: the anchor, and the points held after it. What later slots hold does
 // not matter, but it is checked as all numbers of a state are.
-#[derive(Drop)]
+#[derive(Clone, Copy)]
 pub struct Live {
     pub tolerance: f64,
     pub points: [f64; Live::NUMBERS],
@@ -29,28 +29,28 @@ pub struct Live {
 }
 
 // What a point fed or a close hands out.
-#[derive(Drop)]
+#[derive(Clone, Copy)]
 pub enum End {
     At(Point3D),
     Nothing,
     Refused(u32),
 }
 
-#[derive(Drop)]
+#[derive(Clone, Copy)]
 pub struct Fed {
     pub end: End,
     pub state: Live,
 }
 
 // What a new tolerance comes to.
-#[derive(Drop)]
+#[derive(Clone, Copy)]
 pub struct Retuned {
     pub answer: Answer,
     pub state: Live,
 }
 
 // What a start comes to: a state, and 0 or the number of a refusal.
-#[derive(Drop)]
+#[derive(Clone, Copy)]
 pub struct Started {
     pub refused: u32,
     pub state: Live,
@@ -314,7 +314,7 @@ impl Live {
 }
 
 // What the held points come to when they are fed again: how many ends were written, and the state.
-#[derive(Drop)]
+#[derive(Clone, Copy)]
 struct Replayed {
     count: usize,
     state: Live,

@@ -15,7 +15,7 @@ use geo::types::{Command, Point, Point3D};
 use trial::trial::{Trial, try_arcs};
 
 // What is noted beside each command of a fit: how many steps it covers, or which step of an Arc is worst, 0 for a Line.
-#[derive(Drop)]
+#[derive(Clone, Copy)]
 pub enum Note {
     Steps,
     Worst,
@@ -23,7 +23,7 @@ pub enum Note {
 
 // By which rule a range is judged: which distance of a point counts, whether arcs are tried, and the tolerance; and what
 // is noted beside each command.
-#[derive(Drop)]
+#[derive(Clone, Copy)]
 pub struct Rule {
     pub ruler: Ruler,
     pub arcs: bool,
@@ -70,7 +70,7 @@ impl Rule {
 }
 
 // What the Line of a range comes to: whether its deviation is below the rule's tolerance, and its first farthest point.
-#[derive(Drop)]
+#[derive(Clone, Copy)]
 pub struct Tested {
     pub passes: bool,
     pub index: usize,

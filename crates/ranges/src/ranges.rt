@@ -15,7 +15,7 @@ use trial::trial::Trial;
 
 // A fit of a range on its way: the part that is looked at, from lo to hi; how many ends of parts behind it are waiting; and the
 // place of the next command. The ends stand in an array, so that a cut takes no room on the stack.
-#[derive(Drop)]
+#[derive(Clone, Copy)]
 struct Stand {
     lo: usize,
     hi: usize,

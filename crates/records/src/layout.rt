@@ -25,7 +25,7 @@ pub const BEFORE: f64 = -123456.789;
 
 pub const BEFORE_BYTE: u8 = 200;
 
-#[derive(Drop)]
+#[derive(Clone, Copy)]
 pub struct Head {
     pub function: u64,
     // the pattern of the tolerance, of a Bezier's parameter or of its resolution

@@ -1,5 +1,7 @@
 // What the replays of recorded calls share: floats by their patterns, and lists of words as numbers or kinds; and, in `layout`, how a
 // recorded call of a geometric function is laid out.
+#![tactic(auto)]
+
 pub mod layout;
 
 ghost use Rattle.std.specs.Prelude.{◌≡◌, ◌+◌, ◌*◌, ◌≤◌, length};

@@ -2,6 +2,8 @@
 // path data and of the fewest straights, and compares each with what the given Rust, or a plain model, answered. Standard input has the records, up to
 // 1,000,000 of them, made by `oracle/run geometry list 5690 1`. The program prints how many were compared, and how many differ; a damaged
 // one differs and ends the run.
+#![tactic(auto)]
+
 mod calls;
 mod circles;
 mod curves;
@@ -86,7 +88,7 @@ fn agrees(h: Head, body: &[u8]) -> bool
     agrees_in(h, body, &mut out, &mut bytes)
 }
 
-#[derive(Drop)]
+#[derive(Clone, Copy)]
 enum Found {
     Agrees,
     Differs,
@@ -134,7 +136,7 @@ fn body_buffer() -> [u8; 618400]
     [0; BODY_SIZE]
 }
 
-#[derive(Drop)]
+#[derive(Clone, Copy)]
 struct Tally {
     compared: u64,
     differ: u64,

@@ -1,5 +1,7 @@
 // Compares the proved root with the machine's. Standard input has up to 4,096 records of 16 bytes: the pattern of a number, and
 // that of its root as the machine gave it, each with the lowest byte first. The program prints how many differ.
+#![tactic(auto)]
+
 ghost use Rattle.std.specs.Prelude.{◌*◌, ◌≤◌, length};
 
 use file::words::{float_of, word_at};

@@ -10,7 +10,7 @@ use geo::types::Point3D;
 pub const DEGENERATE: f64 = 1e-12;
 
 // The segment of a range, worked out once for all the points between.
-#[derive(Drop)]
+#[derive(Clone, Copy)]
 pub struct Segment {
     start: Point3D,
     dx: f64,
@@ -22,7 +22,7 @@ pub struct Segment {
 }
 
 // The squared distances of two points.
-#[derive(Drop)]
+#[derive(Clone, Copy)]
 pub struct Two {
     pub first: f64,
     pub second: f64,

@@ -8,7 +8,7 @@ use floats::float::clamp;
 use geo::types::Point3D;
 
 // The segment of a range in space, worked out once for all the points between.
-#[derive(Drop)]
+#[derive(Clone, Copy)]
 pub struct Climb {
     start: Point3D,
     dx: f64,

@@ -1,1 +1,2 @@
 // What is shown of asking, committing and replacing; no code stands here.
+#![tactic(auto)]

@@ -1,2 +1,4 @@
 // Cubic Bezier curves halved until each part is flat.
+#![tactic(auto)]
+
 pub mod subdivision;

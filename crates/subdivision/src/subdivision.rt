@@ -12,14 +12,14 @@ use geo::lent::{put_pair, put_point};
 use geo::point::{get_distance_squared, midpoint_3d};
 use geo::types::{Answer, CubicBezier, Point, Point3D};
 
-#[derive(Drop)]
+#[derive(Clone, Copy)]
 pub enum Flatness {
     Is(bool),
     Refused(u32),
 }
 
 // The tolerance of `linearize_bezier_segment`: a given one, or the source's.
-#[derive(Drop)]
+#[derive(Clone, Copy)]
 pub enum Tolerance {
     Given(f64),
     Default,
@@ -40,7 +40,7 @@ impl Tolerance {
 }
 
 // A curve's chord, or none: where the ends meet there is no line to be off.
-#[derive(Drop)]
+#[derive(Clone, Copy)]
 pub struct Chord {
     pub start: Point,
     pub vx: f64,

@@ -1,3 +1,5 @@
 // Courses drawn as SVG path data, read into a lap file.
+#![tactic(auto)]
+
 pub mod reading;
 pub mod tally;

@@ -15,7 +15,7 @@ use svg_text::letters::MOVE;
 pub const MOST_TEXT: usize = 65536;
 
 // How many commands a lap of the text has, and where the text goes on behind it: at the next M, or at its end.
-#[derive(Drop)]
+#[derive(Clone, Copy)]
 pub struct LapRead {
     pub commands: usize,
     pub next: usize,

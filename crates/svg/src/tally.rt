@@ -11,7 +11,7 @@ use svg_text::letters::{MOVE, SPACE};
 
 // What the walk found: how many laps and commands there are, and whether each number lies in the domain; or the text breaks
 // the rules.
-#[derive(Drop)]
+#[derive(Clone, Copy)]
 pub enum Tally {
     Course {
         laps: usize,

@@ -9,7 +9,7 @@ ghost use Rattle.svg_items.specs.Numbers.{RunAt, DecimalsAt, UnsignedAt, FigureA
 use svg_text::letters::{MINUS, MOST_DECIMALS, MOST_DIGITS, NINE, POINT, ZERO};
 
 // Digits that were read: their value, how many more there might have been, and where the text goes on.
-#[derive(Drop)]
+#[derive(Clone, Copy)]
 pub struct Run {
     pub value: u64,
     pub room: usize,
@@ -17,14 +17,14 @@ pub struct Run {
 }
 
 // A number without its sign, in thousandths.
-#[derive(Drop)]
+#[derive(Clone, Copy)]
 pub enum Magnitude {
     Amount { value: u64, next: usize },
     NoAmount,
 }
 
 // A number in thousandths.
-#[derive(Drop)]
+#[derive(Clone, Copy)]
 pub enum Figure {
     Found { value: i64, next: usize },
     Broken,

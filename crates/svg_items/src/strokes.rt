@@ -8,14 +8,14 @@ use geo::types::{Command, Point3D};
 use svg_text::letters::{CURVE, LINE, MOVE, SPACE};
 
 // A point that was read, and where the text goes on.
-#[derive(Drop)]
+#[derive(Clone, Copy)]
 pub enum Spot {
     At { p: Point3D, next: usize },
     Nowhere,
 }
 
 // A command that was read, and where the text goes on.
-#[derive(Drop)]
+#[derive(Clone, Copy)]
 pub enum Stroke {
     Is { c: Command, next: usize },
     Unread,

@@ -1,2 +1,4 @@
 // What a text of SVG path data is made of.
+#![tactic(auto)]
+
 pub mod letters;

@@ -24,7 +24,7 @@ use geo::point::get_length;
 use geo::types::{Point, Point3D};
 
 // A point seen from a centre: its offset and its distance.
-#[derive(Drop)]
+#[derive(Clone, Copy)]
 pub struct Spoke {
     pub x: f64,
     pub y: f64,
@@ -140,7 +140,7 @@ pub fn arc_deviation(points: &[f64], start: usize, end: usize, m: Point, r: f64)
 }
 
 // What the walk along an arc's steps found: each is below the tolerance, and which is the worst; or one is not.
-#[derive(Drop)]
+#[derive(Clone, Copy)]
 enum Measured {
     Within(usize),
     Outside,
@@ -364,7 +364,7 @@ fn is_sharp(points: &[f64], start: usize, end: usize, split: usize) -> bool
 }
 
 // What an arc trial found: the arc's centre, its direction and its worst step, or nothing.
-#[derive(Drop)]
+#[derive(Clone, Copy)]
 pub enum Trial {
     Arc {
         center: Point,

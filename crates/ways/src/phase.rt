@@ -3,7 +3,7 @@ ghost use Rattle.std.specs.Prelude.{◌≡◌};
 ghost use Rattle.ways.specs.Layers.{going, arrived};
 
 // It goes on, it has reached the end, or its budget was spent when a pair was due.
-#[derive(Drop)]
+#[derive(Clone, Copy)]
 pub enum Phase {
     Going,
     Arrived,

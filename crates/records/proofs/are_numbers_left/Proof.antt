@@ -2,7 +2,7 @@
 use mathlib.Core.Path.{◌≡◌, refl}
 use Prim.Native.Nat.{◌-◌}
 use native.Mathlib.Omega.{arith}
-use borrow.Author.Tests.{not_true, not-false}
+use borrow.Author.Tests.{not-true, not-false}
 use lib.ListN.{get_or}
 use lib.Ieee.{nan, eq, ne}
 use Rattle.geo.specs.Domain.{every_from}
@@ -30,7 +30,7 @@ shared-slice-read-if1 c = omega arith
 
 returns : tie.Need-returns invariant-loop decreases-loop
 unfolding ne
-returns c = every_stop _ c.before.before.before.before.args.to _ _ c.before.before.loop-test.true (not_true _ c.if1.true) c.before.before.before.loop.invariant
+returns c = every_stop _ c.before.before.before.before.args.to _ _ c.before.before.loop-test.true (not-true _ c.if1.true) c.before.before.before.loop.invariant
 
 add-i : tie.Need-overflow-add-i invariant-loop decreases-loop
 add-i c = omega arith

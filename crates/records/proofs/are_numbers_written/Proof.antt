@@ -3,7 +3,7 @@ use mathlib.Core.Path.{◌≡◌, refl, sym, ap, ◌∙◌}
 use Prim.Native.Nat.{◌+◌, ◌-◌, ◌*◌}
 use native.Mathlib.Omega.{arith}
 use borrow.Author.Rules.{rules}
-use borrow.Author.Tests.{not_true, not-false}
+use borrow.Author.Tests.{not-true, not-false}
 use lib.ListN.{get_or}
 use lib.Ieee.{nan}
 use Rattle.geo.specs.Domain.{every_from}
@@ -43,7 +43,7 @@ has-pattern-requires : tie.Need-has-pattern-requires invariant-loop decreases-lo
 has-pattern-requires c κs = search rules
 
 returns : tie.Need-returns invariant-loop decreases-loop
-returns c = every_stop _ c.before.before.before.before.before.before.before.before.args.n _ _ c.before.before.before.before.loop-test.true (sym (c.before.has-pattern.ensures ∙ ap (has_pattern _) c.before.before.word_at.ensures) ∙ not_true _ c.if1.true) c.before.before.before.before.before.loop.invariant
+returns c = every_stop _ c.before.before.before.before.before.before.before.before.args.n _ _ c.before.before.before.before.loop-test.true (sym (c.before.has-pattern.ensures ∙ ap (has_pattern _) c.before.before.word_at.ensures) ∙ not-true _ c.if1.true) c.before.before.before.before.before.loop.invariant
 
 add-i : tie.Need-overflow-add-i invariant-loop decreases-loop
 add-i c = omega arith

@@ -1,7 +1,7 @@
 -- `arc::arc::check_direction` meets its contract: each return is the first row that fails, by the tests before it. Assumes nothing.
 use mathlib.Core.Path.{sym, ap, ◌∙◌}
 use mathlib.Core.Bool.{true, not}
-use borrow.Author.Tests.{lt-ltb, le-ltb, eq-eqb, ne_eqb, not_true, not-false}
+use borrow.Author.Tests.{lt-ltb, le-ltb, eq-eqb, ne_eqb, not-true, not-false}
 use Rattle.geo.proofs.And.{and_3, and_3_second, and_3_first}
 use Rattle.geo.proofs.Rows.{row_fails, row-passes, whole_fails, whole-passes, done}
 use Rattle.arc.specs.Direction.{direction_rows}
@@ -22,14 +22,14 @@ all-coordinates-requires c κs = search rules
 
 returns-3 : tie.Need-returns-3
 unfolding direction_rows
-returns-3 c = sym (row-passes _ _ _ (whole-passes 2 _ c.before.before.before.if1.false) ∙ row-passes _ _ _ (le-ltb _ _ c.before.before.if2.false) ∙ row_fails _ _ _ (ap not (sym (and_3_first _ _ _ _ c.before.all-coordinates.ensures (not_true _ c.if3.true)))))
+returns-3 c = sym (row-passes _ _ _ (whole-passes 2 _ c.before.before.before.if1.false) ∙ row-passes _ _ _ (le-ltb _ _ c.before.before.if2.false) ∙ row_fails _ _ _ (ap not (sym (and_3_first _ _ _ _ c.before.all-coordinates.ensures (not-true _ c.if3.true)))))
 
 is-centre-requires : tie.Need-is-centre-requires
 is-centre-requires c κs = search rules
 
 returns-4 : tie.Need-returns-4
 unfolding direction_rows
-returns-4 c = sym (row-passes _ _ _ (whole-passes 2 _ c.before.before.before.before.before.if1.false) ∙ row-passes _ _ _ (le-ltb _ _ c.before.before.before.before.if2.false) ∙ row_fails _ _ _ (ap not (sym (and_3_second _ _ _ _ _ true c.before.before.before.all-coordinates.ensures (not-false _ c.before.before.if3.false) c.before.is-centre.ensures (not_true _ c.if4.true)))))
+returns-4 c = sym (row-passes _ _ _ (whole-passes 2 _ c.before.before.before.before.before.if1.false) ∙ row-passes _ _ _ (le-ltb _ _ c.before.before.before.before.if2.false) ∙ row_fails _ _ _ (ap not (sym (and_3_second _ _ _ _ _ true c.before.before.before.all-coordinates.ensures (not-false _ c.before.before.if3.false) c.before.is-centre.ensures (not-true _ c.if4.true)))))
 
 is-centre-requires-2 : tie.Need-is-centre-requires-2
 is-centre-requires-2 c κs = search rules

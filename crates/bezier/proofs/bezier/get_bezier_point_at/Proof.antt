@@ -1,6 +1,6 @@
 -- `bezier::bezier::get_bezier_point_at` meets its contract: each return is the row of the table that its tests led to. Assumes nothing.
 use Rattle.std.proofs.Common.{ap, ◌∙◌, rules}
-use borrow.Author.Tests.{not_true, not-false}
+use borrow.Author.Tests.{not-true, not-false}
 use Rattle.geo.specs.declared.types.CubicBezier.{CubicBezier}
 use Rattle.bezier.specs.Curve.{curve_in}
 use Rattle.bezier.specs.Calls.{point_call, point_answer}
@@ -16,7 +16,7 @@ curve-in-requires c κs = search rules
 returns : tie.Need-returns
 unfolding point_call point_answer
 returns c = let e = c.before.curve-in.ensures ∙ ap (λ (q : CubicBezier). curve_in q) c.before.before.new.ensures in
-    rw (← e, not_true c.before.curve-in.result c.if1.true)
+    rw (← e, not-true c.before.curve-in.result c.if1.true)
 
 is-parameter-requires : tie.Need-is-parameter-requires
 is-parameter-requires c κs = search rules
@@ -24,7 +24,7 @@ is-parameter-requires c κs = search rules
 returns-2 : tie.Need-returns-2
 unfolding point_call point_answer
 returns-2 c = let e = c.before.before.before.curve-in.ensures ∙ ap (λ (q : CubicBezier). curve_in q) c.before.before.before.before.new.ensures in
-    rw (← e, not-false c.before.before.before.curve-in.result c.before.before.if1.false, ← c.before.is-parameter.ensures, not_true c.before.is-parameter.result c.if2.true)
+    rw (← e, not-false c.before.before.before.curve-in.result c.before.before.if1.false, ← c.before.is-parameter.ensures, not-true c.before.is-parameter.result c.if2.true)
 
 point-on-requires : tie.Need-point-on-requires
 point-on-requires c κs = search rules

@@ -3,7 +3,7 @@ use mathlib.Core.Path.{refl, sym, ◌∙◌}
 use Prim.Native.Nat.{◌+◌, ◌-◌}
 use native.Mathlib.Omega.{arith}
 use borrow.Author.Rules.{rules}
-use borrow.Author.Tests.{not_true, not-false}
+use borrow.Author.Tests.{not-true, not-false}
 use Rattle.ways.specs.Layers.{in_order, try_layer}
 use Rattle.fewest.specs.Straights.{passing}
 use Rattle.fewest.specs.Lent.{begun, state_of}
@@ -30,7 +30,7 @@ is-going-requires c κs = search rules
 returns : tie.Need-returns invariant-loop decreases-loop
 returns c = let a = c.before.before.before.before.before.before.before.before.before.args in let l = c.before.before.before.before.before.before.before.loop in let r = c.before.before.try-layer in
     let t = state_of r.new.1.1.1.0 r.new.1.1.1.1.0 l.finished r.result in
-    let g = sym c.before.is-going.ensures ∙ not_true _ c.if2.true in
+    let g = sym c.before.is-going.ensures ∙ not-true _ c.if2.true in
     loop_stop (λ i. try_layer (passing a.points.now a.task.tolerance) a.task.last a.task.budget) a.task.last a.task.budget _ _ _ l.invariant (layers_steady (passing a.points.now a.task.tolerance) a.task.last a.task.budget) t (omega (arith, c.before.before.before.before.before.if1.true)) (layer_end (passing a.points.now a.task.tolerance) a.task.last a.task.budget (state_of l.level l.parent l.finished l.p) t r.ensures g) g
 
 add-finished : tie.Need-overflow-add-finished invariant-loop decreases-loop

@@ -1,6 +1,6 @@
 -- `fewest::fewest::try_later` meets its contract: the pairs left from v on give the whole; the measure is what is left of the points. Assumes nothing.
 use mathlib.Core.Path.{sym, ◌∙◌}
-use borrow.Author.Tests.{not_true, not-false}
+use borrow.Author.Tests.{not-true, not-false}
 use Rattle.ways.proofs.Steps.{pairs-steady, Loop, loop_start, loop_next, loop_stop, loop_done}
 use Prim.Native.Nat.{◌+◌, ◌-◌, ◌<◌}
 use native.Mathlib.Omega.{arith}
@@ -31,7 +31,7 @@ is-going-requires c κs = search rules
 
 returns : tie.Need-returns invariant-loop decreases-loop
 returns c = let a = c.before.before.before.before.before.before.before.before.before.args in let l = c.before.before.before.before.before.before.before.loop in let r = c.before.before.try-pair in
-    loop_stop (try_pair (passing a.points.now a.task.tolerance) a.task.last a.task.budget a.u) (a.task.last + 1) a.task.budget _ _ _ l.invariant.1 (pairs-steady (passing a.points.now a.task.tolerance) a.task.last a.task.budget a.u) (state_of r.new.1.1.1.1.1.0 r.new.1.1.1.1.1.1.0 a.finished r.result) (omega (arith, c.before.before.before.before.before.if1.true)) r.ensures (sym c.before.is-going.ensures ∙ not_true _ c.if2.true)
+    loop_stop (try_pair (passing a.points.now a.task.tolerance) a.task.last a.task.budget a.u) (a.task.last + 1) a.task.budget _ _ _ l.invariant.1 (pairs-steady (passing a.points.now a.task.tolerance) a.task.last a.task.budget a.u) (state_of r.new.1.1.1.1.1.0 r.new.1.1.1.1.1.1.0 a.finished r.result) (omega (arith, c.before.before.before.before.before.if1.true)) r.ensures (sym c.before.is-going.ensures ∙ not-true _ c.if2.true)
 
 add-v-2 : tie.Need-overflow-add-v-2 invariant-loop decreases-loop
 add-v-2 c = search rules

@@ -3,7 +3,7 @@ use mathlib.Core.Path.{sym, ◌∙◌}
 use Prim.Native.Nat.{◌+◌, ◌-◌}
 use native.Mathlib.Omega.{arith}
 use borrow.Author.Rules.{rules}
-use borrow.Author.Tests.{not_true, not-false}
+use borrow.Author.Tests.{not-true, not-false}
 use Rattle.ways.specs.Layers.{in_order, try_point}
 use Rattle.fewest.specs.Straights.{passing}
 use Rattle.fewest.specs.Lent.{state_of}
@@ -29,7 +29,7 @@ is-going-requires c κs = search rules
 
 returns : tie.Need-returns invariant-loop decreases-loop
 returns c = let a = c.before.before.before.before.before.before.before.before.before.args in let r = c.before.before.try-point in
-    loop_stop (try_point (passing a.points.now a.task.tolerance) a.task.last a.task.budget) (a.task.last + 1) a.task.budget _ _ _ c.before.before.before.before.before.before.before.loop.invariant (points-steady (passing a.points.now a.task.tolerance) a.task.last a.task.budget) (state_of r.new.1.1.1.1.0 r.new.1.1.1.1.1.0 a.finished r.result) (omega (arith, c.before.before.before.before.before.if1.true)) r.ensures (sym c.before.is-going.ensures ∙ not_true _ c.if2.true)
+    loop_stop (try_point (passing a.points.now a.task.tolerance) a.task.last a.task.budget) (a.task.last + 1) a.task.budget _ _ _ c.before.before.before.before.before.before.before.loop.invariant (points-steady (passing a.points.now a.task.tolerance) a.task.last a.task.budget) (state_of r.new.1.1.1.1.0 r.new.1.1.1.1.1.0 a.finished r.result) (omega (arith, c.before.before.before.before.before.if1.true)) r.ensures (sym c.before.is-going.ensures ∙ not-true _ c.if2.true)
 
 add-u : tie.Need-overflow-add-u invariant-loop decreases-loop
 add-u c = search rules

@@ -1,7 +1,7 @@
 -- `flatten::flatten::is_drawable` meets its contract: by the four tests. Assumes nothing.
 use mathlib.Core.Path.{◌≡◌, sym, ◌∙◌}
 use mathlib.Core.Bool.{true, false}
-use borrow.Author.Tests.{eq-eqb, ne_eqb, not_true, not-false}
+use borrow.Author.Tests.{eq-eqb, ne_eqb, not-true, not-false}
 use Rattle.geo.specs.Domain.{point3_in}
 use Rattle.flatten.specs.Calls.{upright, drawable}
 use borrow.Author.Rules.{rules}
@@ -17,7 +17,7 @@ is-upright-requires c κs = search rules
 
 returns-2 : tie.Need-returns-2
 unfolding drawable
-returns-2 c = let e : upright c.before.before.before.args.d ≡ false = sym c.before.is-upright.ensures ∙ not_true _ c.if2.true in
+returns-2 c = let e : upright c.before.before.before.args.d ≡ false = sym c.before.is-upright.ensures ∙ not-true _ c.if2.true in
     rw (eq-eqb c.before.before.before.args.kind 2 c.before.before.if1.false, e)
 
 point3-in-requires : tie.Need-point3-in-requires
@@ -26,7 +26,7 @@ point3-in-requires c κs = search rules
 returns-3 : tie.Need-returns-3
 unfolding drawable
 returns-3 c = let e : upright c.before.before.before.before.before.args.d ≡ true = sym c.before.before.before.is-upright.ensures ∙ not-false _ c.before.before.if2.false in
-    let f : point3_in c.before.before.before.before.before.args.o ≡ false = sym c.before.point3-in.ensures ∙ not_true _ c.if3.true in
+    let f : point3_in c.before.before.before.before.before.args.o ≡ false = sym c.before.point3-in.ensures ∙ not-true _ c.if3.true in
     rw (eq-eqb c.before.before.before.before.before.args.kind 2 c.before.before.before.before.if1.false, e, f)
 
 center-requires : tie.Need-center-requires

@@ -1,12 +1,12 @@
 -- `lap_checks::checks::check_forms` meets its contract: by the new lap's form, then by what was found of the file, then by the new lap's numbers. Assumes nothing.
-use borrow.Author.Tests.{not_true, not-false}
+use borrow.Author.Tests.{not-true, not-false}
 use Rattle.lap_checks.proofs.Forms.{no_lap, file-refused, both-near, not_near}
 use borrow.Author.Rules.{rules}
 use Rattle.lap_checks.proofs.checks.check_forms.Statement.{statement}
 use Rattle.lap_checks.proofs.checks.check_forms.Tie as tie
 
 returns : tie.Need-returns
-returns c = no_lap _ _ _ (not_true _ c.if1.true)
+returns c = no_lap _ _ _ (not-true _ c.if1.true)
 
 check-commands-requires : tie.Need-check-commands-requires
 check-commands-requires c κs = search rules

@@ -1,7 +1,7 @@
 -- `lap_checks::checks::is_lap` meets its contract: each return is the definition with the tests that led there. Assumes nothing.
 use mathlib.Core.Path.{◌≡◌, sym, ◌∙◌}
 use mathlib.Core.Bool.{true, false}
-use borrow.Author.Tests.{eq-eqb, ne_eqb, not_true, not-false}
+use borrow.Author.Tests.{eq-eqb, ne_eqb, not-true, not-false}
 use Rattle.lap_checks.specs.Checks.{move_placed, lent_formed}
 use native.Mathlib.Omega.{arith}
 use borrow.Author.Rules.{rules}
@@ -17,7 +17,7 @@ moves-placed-requires c κs = omega (arith, c.if1.false)
 
 returns-2 : tie.Need-returns-2
 unfolding lent_formed
-returns-2 c = let q : move_placed c.before.before.before.before.before.args.must c.before.before.before.before.before.args.kinds.now ≡ false = sym c.before.moves-placed.ensures ∙ not_true _ c.if2.true in rw (ne_eqb _ _ c.before.before.if1.false, q)
+returns-2 c = let q : move_placed c.before.before.before.before.before.args.must c.before.before.before.before.before.args.kinds.now ≡ false = sym c.before.moves-placed.ensures ∙ not-true _ c.if2.true in rw (ne_eqb _ _ c.before.before.if1.false, q)
 
 commands-formed-requires : tie.Need-commands-formed-requires
 commands-formed-requires c κs = search rules

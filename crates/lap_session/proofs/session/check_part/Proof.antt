@@ -1,6 +1,6 @@
 -- `lap_session::session::check_part` meets its contract: rows 1 to 3, the counts, then rows 4 to 7, by what was found of the part. Assumes nothing.
 use mathlib.Core.Path.{sym, ◌∙◌}
-use borrow.Author.Tests.{not_true, not-false}
+use borrow.Author.Tests.{not-true, not-false}
 use Rattle.geo.specs.Domain.{whole}
 use Rattle.laps.specs.File.{laps_of, tested}
 use Rattle.lap_checks.proofs.Rows.{past_1, past_3, laps_of_lem, tables_passed, tables_refused, counts-refused, laps_decide}
@@ -22,7 +22,7 @@ counts-agree-requires c κs = let a = c.before.before.before.before.before.args 
 
 returns-2 : tie.Need-returns-2
 unfolding whole
-returns-2 c = let a = c.before.before.before.before.before.before.before.args in counts-refused a.s.now a.f.now a.ticket.lap (part_new a.ticket (laps_of a.s.now) a.part.now) a.ticket.tolerance _ c.before.before.before.check-tables.ensures c.before.before.if1.false (sym c.before.counts-agree.ensures ∙ not_true _ c.if2.true)
+returns-2 c = let a = c.before.before.before.before.before.before.before.args in counts-refused a.s.now a.f.now a.ticket.lap (part_new a.ticket (laps_of a.s.now) a.part.now) a.ticket.tolerance _ c.before.before.before.check-tables.ensures c.before.before.if1.false (sym c.before.counts-agree.ensures ∙ not-true _ c.if2.true)
 
 part-passes-requires : tie.Need-part-passes-requires
 part-passes-requires c κs = let a = c.before.before.before.before.before.before.before.args in in_part a.ticket.lap (laps_of a.s.now) a.part.now _ _ (sym c.before.counts-agree.ensures ∙ not-false _ c.if2.false)

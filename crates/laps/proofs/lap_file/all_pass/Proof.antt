@@ -4,7 +4,7 @@ use mathlib.Core.Path.{◌≡◌, ap}
 use native.Mathlib.Omega.{arith}
 use mathlib.Core.Bool.{true}
 use lib.Dec.{eqb}
-use borrow.Author.Tests.{not_true, not-false}
+use borrow.Author.Tests.{not-true, not-false}
 use Rattle.laps.specs.File.{laps_at, laps_of, laps_ok, tested}
 use Rattle.laps.proofs.Here.{Here, step, start_at, all-laps}
 use Rattle.laps.proofs.Walks.{laps_go, laps_stop, laps-end}
@@ -36,7 +36,7 @@ lap-passes-requires : tie.Need-lap-passes-requires invariant-loop decreases-loop
 lap-passes-requires c κs = let l = c.before.before.loop in (step c.before.before.before.before.before.args.s.now l.j l.at _ _ c.count_at.ensures.0 l.invariant.1 c.before.loop-test.true).fits
 
 returns : tie.Need-returns invariant-loop decreases-loop
-returns c = let a = c.before.before.before.before.before.before.before.args in let l = c.before.before.before.before.loop in laps_stop (tested a.check) a.s.now l.j l.at _ _ _ c.before.before.before.loop-test.true c.before.before.count_at.ensures.0 _ c.before.lap-passes.ensures l.invariant.2 (not_true _ c.if1.true)
+returns c = let a = c.before.before.before.before.before.before.before.args in let l = c.before.before.before.before.loop in laps_stop (tested a.check) a.s.now l.j l.at _ _ _ c.before.before.before.loop-test.true c.before.before.count_at.ensures.0 _ c.before.lap-passes.ensures l.invariant.2 (not-true _ c.if1.true)
 
 mul-at-2 : tie.Need-overflow-mul-at-2 invariant-loop decreases-loop
 mul-at-2 c = omega arith

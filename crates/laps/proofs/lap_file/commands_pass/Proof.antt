@@ -3,7 +3,7 @@ use Prim.Native.Nat.{◌+◌, ◌-◌, ◌*◌, ◌≤◌}
 use mathlib.Core.Path.{◌≡◌}
 use native.Mathlib.Omega.{arith}
 use borrow.Author.Rules.{rules}
-use borrow.Author.Tests.{not_true, not-false}
+use borrow.Author.Tests.{not-true, not-false}
 use lib.ListN.{length-take, length-drop}
 use Rattle.file.specs.Command.{commands_at}
 use Rattle.laps.specs.File.{lap_ok, tested}
@@ -36,7 +36,7 @@ passes-requires : tie.Need-passes-requires invariant-loop decreases-loop
 passes-requires c κs = simp (length-take, length-drop) (omega arith)
 
 returns : tie.Need-returns invariant-loop decreases-loop
-returns c = let a = c.before.before.before.before.before.before.args in lap_stop (tested a.check) c.before.before.before.before.loop.first a.s.now c.before.before.before.before.loop.b a.n c.before.before.before.before.loop.i _ c.before.before.before.loop-test.true _ c.before.passes.ensures c.before.before.before.before.loop.invariant.2 (not_true _ c.if1.true)
+returns c = let a = c.before.before.before.before.before.before.args in lap_stop (tested a.check) c.before.before.before.before.loop.first a.s.now c.before.before.before.before.loop.b a.n c.before.before.before.before.loop.i _ c.before.before.before.loop-test.true _ c.before.passes.ensures c.before.before.before.before.loop.invariant.2 (not-true _ c.if1.true)
 
 add-i : tie.Need-overflow-add-i invariant-loop decreases-loop
 add-i c = omega arith

@@ -1,6 +1,6 @@
 -- `laps::lap_file::has_table` meets its contract: the mark, the room of the table, and its entries. Assumes nothing.
 use mathlib.Core.Path.{sym, ◌∙◌}
-use borrow.Author.Tests.{not_true, not-false}
+use borrow.Author.Tests.{not-true, not-false}
 use native.Mathlib.Omega.{arith}
 use Rattle.laps.proofs.Walks.{no_mark, no_room, by_walk}
 use borrow.Author.Rules.{rules}
@@ -11,7 +11,7 @@ has-mark-requires : tie.Need-has-mark-requires
 has-mark-requires c κs = search rules
 
 returns : tie.Need-returns
-returns c = no_mark c.before.before.before.args.s.now (sym c.before.has-mark.ensures ∙ not_true _ c.if1.true)
+returns c = no_mark c.before.before.before.args.s.now (sym c.before.has-mark.ensures ∙ not-true _ c.if1.true)
 
 lap-count-requires : tie.Need-lap-count-requires
 lap-count-requires c κs = search rules

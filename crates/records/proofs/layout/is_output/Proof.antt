@@ -1,6 +1,6 @@
 -- `layout::is_output` meets its contract: a conjunction that is left at the first part that fails. Assumes nothing.
 use borrow.Author.Rules.{rules}
-use borrow.Author.Tests.{not_true, not-false}
+use borrow.Author.Tests.{not-true, not-false}
 use Rattle.records.specs.Record.{is_output}
 use Rattle.records.proofs.layout.is_output.Statement.{statement}
 use Rattle.records.proofs.layout.is_output.Tie as tie
@@ -13,7 +13,7 @@ are-numbers-written-requires c κs = search rules
 
 returns : tie.Need-returns
 unfolding is_output
-returns c = rw (← c.before.before.lent-size.ensures, ← c.before.are-numbers-written.ensures, not_true c.before.are-numbers-written.result c.if1.true)
+returns c = rw (← c.before.before.lent-size.ensures, ← c.before.are-numbers-written.ensures, not-true c.before.are-numbers-written.result c.if1.true)
 
 mul-are-bytes-written : tie.Need-overflow-mul-are-bytes-written
 mul-are-bytes-written c = search rules
@@ -26,14 +26,14 @@ are-bytes-written-requires c κs = search rules
 
 returns-2 : tie.Need-returns-2
 unfolding is_output
-returns-2 c = rw (← c.before.before.before.before.before.lent-size.ensures, ← c.before.before.before.before.are-numbers-written.ensures, not-false c.before.before.before.before.are-numbers-written.result c.before.before.before.if1.false, ← c.before.are-bytes-written.ensures, not_true c.before.are-bytes-written.result c.if2.true)
+returns-2 c = rw (← c.before.before.before.before.before.lent-size.ensures, ← c.before.before.before.before.are-numbers-written.ensures, not-false c.before.before.before.before.are-numbers-written.result c.before.before.before.if1.false, ← c.before.are-bytes-written.ensures, not-true c.before.are-bytes-written.result c.if2.true)
 
 are-numbers-left-requires : tie.Need-are-numbers-left-requires
 are-numbers-left-requires c κs = search rules
 
 returns-3 : tie.Need-returns-3
 unfolding is_output
-returns-3 c = rw (← c.before.before.before.before.before.before.before.lent-size.ensures, ← c.before.before.before.before.before.before.are-numbers-written.ensures, not-false c.before.before.before.before.before.before.are-numbers-written.result c.before.before.before.before.before.if1.false, ← c.before.before.before.are-bytes-written.ensures, not-false c.before.before.before.are-bytes-written.result c.before.before.if2.false, ← c.before.are-numbers-left.ensures, not_true c.before.are-numbers-left.result c.if3.true)
+returns-3 c = rw (← c.before.before.before.before.before.before.before.lent-size.ensures, ← c.before.before.before.before.before.before.are-numbers-written.ensures, not-false c.before.before.before.before.before.before.are-numbers-written.result c.before.before.before.before.before.if1.false, ← c.before.before.before.are-bytes-written.ensures, not-false c.before.before.before.are-bytes-written.result c.before.before.if2.false, ← c.before.are-numbers-left.ensures, not-true c.before.are-numbers-left.result c.if3.true)
 
 are-bytes-left-requires : tie.Need-are-bytes-left-requires
 are-bytes-left-requires c κs = search rules

@@ -3,7 +3,7 @@ use mathlib.Core.Path.{sym, ◌∙◌}
 use native.Mathlib.Omega.{arith}
 use lib.ListN.{get_or}
 use borrow.Author.Rules.{rules}
-use borrow.Author.Tests.{not_true, not-false}
+use borrow.Author.Tests.{not-true, not-false}
 use Rattle.svg_text.proofs.Spelled.{digit_byte}
 use Rattle.svg_items.proofs.Cursor.{Going, starts, under, ends_full, ends-text, ends_other, goes_on_lem}
 use Rattle.svg_items.proofs.figures.more_digits.Statement.{statement}
@@ -28,7 +28,7 @@ is-digit-requires : tie.Need-is-digit-requires invariant-loop decreases-loop
 is-digit-requires c κs = tt
 
 returns-2 : tie.Need-returns-2 invariant-loop decreases-loop
-returns-2 c = let i = c.before.before.before.before.before.loop.invariant.inside in ends_other c.before.before.before.before.before.loop.invariant (omega arith) (sym c.before.is_digit_lem.ensures ∙ not_true _ c.if2.true)
+returns-2 c = let i = c.before.before.before.before.before.loop.invariant.inside in ends_other c.before.before.before.before.before.loop.invariant (omega arith) (sym c.before.is_digit_lem.ensures ∙ not-true _ c.if2.true)
 
 mul-value : tie.Need-overflow-mul-value invariant-loop decreases-loop
 mul-value c = let u = under c.before.before.before.before.before.loop.invariant c.before.before.before.before.before.before.before.requires.1 in omega arith

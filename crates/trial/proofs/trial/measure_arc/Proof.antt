@@ -3,7 +3,7 @@ use mathlib.Core.Path.{◌≡◌, refl, ap, ◌∙◌}
 use Prim.Native.Nat.{◌+◌, ◌-◌, ◌≤◌}
 use native.Mathlib.Omega.{arith}
 use borrow.Author.Rules.{rules}
-use borrow.Author.Tests.{not_true}
+use borrow.Author.Tests.{not-true}
 use lib.Ieee.{Float, lt}
 use Rattle.geo.specs.Lent.{point_at}
 use Rattle.geo.specs.Walk.{fold}
@@ -65,7 +65,7 @@ returns-2 c = let a = c.before.before.before.before.before.before.before.before.
     let d = step_is a.m a.first.len _ _ _ _ _ _ _ _ v.2 c.before.before.before.before.before.before.before.point-at2.ensures v.3 c.before.before.before.before.before.before.new.ensures refl c.before.before.before.deviation-of-step.ensures in
     let n = ap (λ (x : Float). worse x l.i l.worst) d in
     let f = fold_turn _ a.end _ _ _ _ c.before.before.before.before.before.before.before.before.loop-test.true (c.before.before.or.ensures ∙ n) v.4 in
-    too_far _ _ _ _ _ _ (not_true (lt c.before.before.or.result.dist a.tolerance) c.if2.true) f
+    too_far _ _ _ _ _ _ (not-true (lt c.before.before.or.result.dist a.tolerance) c.if2.true) f
 
 add-i : tie.Need-overflow-add-i invariant-loop decreases-loop
 add-i c = omega (arith, c.before.before.before.before.before.before.before.before.loop-test.true, c.before.before.before.before.before.before.before.before.before.before.before.before.before.before.ranges)

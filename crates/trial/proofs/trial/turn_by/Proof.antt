@@ -1,5 +1,5 @@
 -- `trial::trial::turn_by` meets its contract: by the two halves and the sign of the cross product; a signed number is read back from its bits. Assumes nothing.
-use borrow.Author.Tests.{not_true, not-false}
+use borrow.Author.Tests.{not-true, not-false}
 use mir.Facts.{to_z-of_z}
 use Rattle.trial.specs.Traversal.{turned}
 use Rattle.trial.proofs.Whole.{more-fits, less_fits}
@@ -12,12 +12,12 @@ sub-result c = let e = c.before.before.before in rw (to_z-of_z e.ranges.w) (less
 returns : tie.Need-returns
 unfolding turned
 returns c = let e = c.before.before.before in
-    rw (to_z-of_z e.ranges.w, to_z-of_z (less_fits e.args.w e.requires), c.before.before.if1.true, not_true e.args.k c.before.if2.true, c.if3.true)
+    rw (to_z-of_z e.ranges.w, to_z-of_z (less_fits e.args.w e.requires), c.before.before.if1.true, not-true e.args.k c.before.if2.true, c.if3.true)
 
 returns-2 : tie.Need-returns-2
 unfolding turned
 returns-2 c = let e = c.before.before.before in
-    rw (to_z-of_z e.ranges.w, c.before.before.if1.true, not_true e.args.k c.before.if2.true, c.if3.false)
+    rw (to_z-of_z e.ranges.w, c.before.before.if1.true, not-true e.args.k c.before.if2.true, c.if3.false)
 
 returns-3 : tie.Need-returns-3
 unfolding turned

@@ -1,7 +1,7 @@
 -- `live::live::Live::start` meets its contract: one row. Assumes nothing.
 use mathlib.Core.Path.{◌≡◌, sym, ◌∙◌}
 use mathlib.Core.Bool.{true, false}
-use borrow.Author.Tests.{not_true, not-false}
+use borrow.Author.Tests.{not-true, not-false}
 use Rattle.geo.specs.Outcome.{refusal}
 use Rattle.geo.specs.Domain.{tolerance}
 use Rattle.live.specs.Calls.{start_rows}
@@ -17,7 +17,7 @@ is-tolerance-requires c κs = search rules
 
 returns : tie.Need-returns
 unfolding refusal start_rows
-returns c = let e : tolerance c.before.before.before.args.tolerance ≡ false = sym c.before.is-tolerance.ensures ∙ not_true _ c.if1.true in
+returns c = let e : tolerance c.before.before.before.args.tolerance ≡ false = sym c.before.is-tolerance.ensures ∙ not-true _ c.if1.true in
     (rw e, c.before.before.new.ensures)
 
 returns-2 : tie.Need-returns-2

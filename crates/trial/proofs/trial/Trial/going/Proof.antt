@@ -1,6 +1,6 @@
 -- `trial::trial::Trial::going` meets its contract: the callees' promises, by the test. Assumes nothing.
 use borrow.Author.Rules.{rules}
-use borrow.Author.Tests.{not_true, not-false}
+use borrow.Author.Tests.{not-true, not-false}
 use Rattle.trial.specs.Trial.{going_round}
 use Rattle.trial.proofs.trial.Trial.going.Statement.{statement}
 use Rattle.trial.proofs.trial.Trial.going.Tie as tie
@@ -10,7 +10,7 @@ traversal-passes-requires c κs = search rules
 
 returns : tie.Need-returns
 unfolding going_round
-returns c = rw (← c.before.traversal-passes.ensures, not_true c.before.traversal-passes.result c.if1.true)
+returns c = rw (← c.before.traversal-passes.ensures, not-true c.before.traversal-passes.result c.if1.true)
 
 goes-clockwise-requires : tie.Need-goes-clockwise-requires
 goes-clockwise-requires c κs = search rules
