@@ -176,11 +176,34 @@ def turn_paths(body, var, fn, place, where, goal=None):
                 f"{helper} (goal.at.{goal} {var}).{fn.named(over)}",
                 body,
             )
-    return re.sub(rf"(?<![^\s(,])({paths})((?:\.before)*)\.({WORD})((?:\.{WORD})*)", swap, body)
+    body = re.sub(rf"(?<![^\s(,])({paths})((?:\.before)*)\.({WORD})((?:\.{WORD})*)", swap, body)
+    return turn_aliases(body, fn, paths)
+
+
+def turn_aliases(body, fn, paths):
+    """The fields of what a `let` calls by one name: the arguments, a loop, a callee's clauses."""
+    of_loop = {n: set(v) for (_, n), v in fn.names["loops"]}
+    clauses = {fn.step[p[0]][1]: c["fields"] for p, c in zip(fn.places, fn.names["clauses"]) if c}
+    for m in list(re.finditer(rf"\blet ({WORD}) = (?:{paths})\.({WORD})(\.ensures)? in\b", body)):
+        name, step, ensures = m.groups()
+        if step == "args" or step in of_loop:
+            keep = of_loop.get(step, set())
+            swap = lambda k: f"{name}.{k.group(1) if k.group(1) in keep else k.group(1).replace('-', '_')}"
+            body = re.sub(rf"(?<![^\s(,]){re.escape(name)}\.({WORD})", swap, body)
+        elif ensures and step in clauses:
+            fields = clauses[step]
+            swap = lambda k: f"{name}.{fields[int(k.group(1))]}" if int(k.group(1)) < len(fields) else k.group(0)
+            body = re.sub(rf"(?<![^\s(,]){re.escape(name)}\.(\d+)(?![\w-])", swap, body)
+    return body
 
 
 def turn_rest(rest, fn, place, where):
     """What a step's fields are called, by its callee's parameters and clauses."""
+    for (o, n), variables in fn.names["loops"]:
+        if fn.step[place][1] == n:
+            m = re.match(rf"\.({WORD})(.*)$", rest)
+            if m and m.group(1) not in variables and m.group(1).replace("-", "_") in variables:
+                return f".{m.group(1).replace('-', '_')}{m.group(2)}"
     callee = fn.callee[place]
     params = fn.names["params"].get(callee) if callee else None
     m = re.match(r"\.(auto|new)((?:\.[01])*)(?=\.|$)(.*)$", rest)

@@ -49,7 +49,7 @@ odd_minus d (suc q) k l = refl
 
 units-minus : (q k : ℕ) → Minus (units binary64 true q k)
 unfolding units
-units-minus q k = ⊎_elim (λ h. rw h (odd_minus _ q k _)) (λ h. rw h refl) (either (ltb (q * 2 ^ k) (2 ^ (low binary64 + suc (emax binary64)))))
+units-minus q k = ⊎_elim (λ h. rw h (odd_minus 54 q k (low binary64))) (λ h. rw h refl) (either (ltb (q * 2 ^ k) (2 ^ (low binary64 + suc (emax binary64)))))
 
 round_minus : (a b : ℕ) → Minus (round binary64 true a b)
 unfolding round

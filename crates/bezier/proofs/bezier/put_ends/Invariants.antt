@@ -1,0 +1,11 @@
+-- `bezier::bezier::put_ends` meets its contract: what is left to write, written from here, gives the whole. The measure is how many steps are left. Assumes nothing.
+use Rattle.std.proofs.Common.{◌-◌, refl, ◌∙◌, arith, rules}
+use Rattle.bezier.specs.Linearize.{step_end, step_at, steps}
+use Rattle.bezier.proofs.Ends.{WritingAt, writing_at_start, writing_at_step, writing_at_done}
+use Rattle.bezier.proofs.bezier.put_ends.Given as goal
+
+abbrev pub invariant-loop-i : goal.invariant-loop-i
+invariant-loop-i l = WritingAt step_end 3 (λ s. refl) (step_at l.start_point l.c1 l.c2 l.end l.n) l.n l.at l.initial.out l.out l.i
+
+abbrev pub decreases-loop-i : goal.decreases-loop-i
+decreases-loop-i l = l.n - l.i

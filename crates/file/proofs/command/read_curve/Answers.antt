@@ -1,0 +1,6 @@
+-- `file::command::read_curve` meets its contract: a kind and three points. Assumes nothing.
+use borrow.Author.Rules.{rules}
+use Rattle.file.proofs.command.read_curve.Goals as goal
+
+pub returns : goal.returns
+returns c = rw (← c.point_from-q.ensures, ← c.point_from-r.ensures) c.make_command.ensures
