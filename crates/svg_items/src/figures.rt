@@ -37,7 +37,7 @@ fn wide(b: u8) -> u64
     b as u64
 }
 
-fn is_digit_lem(b: u8) -> bool
+fn is_digit(b: u8) -> bool
     ensures { result ≡ is_digit b }
 {
     if b < ZERO {

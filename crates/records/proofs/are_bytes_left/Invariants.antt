@@ -1,0 +1,18 @@
+-- `records::are_bytes_left` meets its contract: the bytes that are not looked at yet decide the whole answer. The measure is how many they are. Assumes nothing.
+use mathlib.Core.Path.{◌≡◌, refl}
+use Prim.Native.Nat.{◌-◌}
+use native.Mathlib.Omega.{arith}
+use borrow.Author.Tests.{eq-eqb, ne_eqb}
+use lib.Dec.{eqb}
+use lib.ListN.{get_or}
+use Rattle.geo.specs.Domain.{every_from}
+use Rattle.records.specs.Words.{bytes_left}
+use Rattle.geo.proofs.Every.{every_done}
+use Rattle.records.proofs.Lists.{every_step, every_stop}
+use Rattle.records.proofs.are_bytes_left.Given as goal
+
+abbrev pub invariant-loop-i : goal.invariant-loop-i
+invariant-loop-i l = every_from (λ k. eqb (get_or l.bytes k 0) l.known) (l.to - l.i) l.i ≡ bytes_left l.bytes l.from l.to l.known
+
+abbrev pub decreases-loop-i : goal.decreases-loop-i
+decreases-loop-i l = l.to - l.i

@@ -1,0 +1,43 @@
+-- `trial::trial::arc_deviation` meets its contract: the loop's invariant is that the steps left decide the greatest deviation, and that p and s are the point and the spoke reached. The measure is how many steps are left. Assumes nothing.
+use mathlib.Core.Path.{◌≡◌, refl, ap, ◌∙◌}
+use Prim.Native.Nat.{◌+◌, ◌-◌, ◌≤◌}
+use native.Mathlib.Omega.{arith}
+use borrow.Author.Rules.{rules}
+use lib.Ieee.{Float}
+use Rattle.geo.specs.Lent.{point_at}
+use Rattle.geo.specs.Walk.{fold}
+use Rattle.geo.proofs.Walk.{fold_turn, fold_done}
+use Rattle.circle.specs.Worst.{worse, worst as worstOf}
+use Rattle.trial.specs.Deviation.{spoke_of, step_between, arc_deviation}
+use Rattle.trial.proofs.Steps.{walk, step_is}
+use Rattle.trial.proofs.trial.arc_deviation.Goals as goal
+
+pub point_at-p-requires : goal.point_at-p-requires
+point_at-p-requires c = omega arith
+
+pub loop-i-init : goal.loop-i-init
+unfolding arc_deviation worstOf
+loop-i-init c = (omega arith, omega arith, c.point_at-p.ensures, c.new-s.ensures ∙ ap (spoke_of _) c.point_at-p.ensures, refl)
+
+pub overflow_add-i : goal.overflow_add-i
+overflow_add-i c = omega arith
+
+pub point_at-q-requires : goal.point_at-q-requires
+point_at-q-requires c = omega arith
+
+pub overflow_step-i : goal.overflow_step-i
+overflow_step-i c = omega (arith, c.loop-i-test.true, c)
+
+pub loop-i-smaller : goal.loop-i-smaller
+loop-i-smaller c = omega arith
+
+pub loop-i-preserved : goal.loop-i-preserved
+loop-i-preserved c = let a = c.args in
+    let v = c.loop-i.invariant in
+    let d = step_is a.m a.r _ _ _ _ _ _ _ _ v.2 c.point_at-q.ensures v.3 c.new-t.ensures c.get_length-len.ensures c.step_deviation.ensures in
+    let n = ap (λ (x : Float). worse x c.loop-i.i c.loop-i.worst) d in
+    (omega arith, omega arith, c.point_at-q.ensures, c.new-t.ensures ∙ ap (spoke_of _) c.point_at-q.ensures, fold_turn _ a.end _ _ _ _ c.loop-i-test.true (c.or-worst.ensures ∙ n) v.4)
+
+pub returns : goal.returns
+returns c = let a = c.args in
+    fold_done _ a.end _ _ _ c.loop-i-test.false c.loop-i.invariant.4

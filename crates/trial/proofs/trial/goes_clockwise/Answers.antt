@@ -1,0 +1,44 @@
+-- `trial::trial::goes_clockwise` meets its contract: the loop's invariant is that the steps left decide the whole sum, and that p is the point reached. The measure is how many steps are left. Assumes nothing.
+use mathlib.Core.Path.{◌≡◌, refl, ap, ◌∙◌}
+use Prim.Native.Nat.{◌+◌, ◌-◌, ◌≤◌}
+use native.Mathlib.Omega.{arith}
+use borrow.Author.Rules.{rules}
+use lib.Ieee.{Float, lt}
+use Rattle.floats.specs.Ops.{◌⊕◌, +0}
+use Rattle.geo.specs.declared.types.Point3D.{Point3D}
+use Rattle.geo.specs.Vector.{flatten}
+use Rattle.geo.specs.Lent.{point_at}
+use Rattle.geo.specs.Walk.{fold}
+use Rattle.geo.proofs.Walk.{fold_turn, fold_done}
+use Rattle.arc.specs.Direction.{turn_at, cross_sum, clockwise}
+use Rattle.trial.proofs.trial.goes_clockwise.Goals as goal
+
+pub point_at-requires : goal.point_at-requires
+point_at-requires c = omega arith
+
+pub loop-i-init : goal.loop-i-init
+unfolding cross_sum
+loop-i-init c = (omega arith, omega arith, c.truncate-p.ensures ∙ ap (λ (q : Point3D). flatten q) c.point_at.ensures, refl)
+
+pub overflow_add-i : goal.overflow_add-i
+overflow_add-i c = omega arith
+
+pub point_at-requires-in-loop-i : goal.point_at-requires-in-loop-i
+point_at-requires-in-loop-i c = omega arith
+
+pub overflow_step-i : goal.overflow_step-i
+overflow_step-i c = omega arith
+
+pub loop-i-smaller : goal.loop-i-smaller
+loop-i-smaller c = omega arith
+
+pub loop-i-preserved : goal.loop-i-preserved
+loop-i-preserved c = let a = c.args in
+    let v = c.loop-i.invariant in
+    let q = c.truncate-q.ensures ∙ ap (λ (x : Point3D). flatten x) c.point_at-in-loop-i.ensures in
+    (omega arith, omega arith, q, fold_turn _ a.end _ _ _ _ c.loop-i-test.true (ap (λ (x : Float). c.loop-i.sum ⊕ x) (c.turn-sum.ensures ∙ rw (v.2, q))) v.3)
+
+pub returns : goal.returns
+unfolding clockwise
+returns c = let a = c.args in
+    ap (λ (x : Float). lt x +0) (fold_done _ a.end _ _ _ c.loop-i-test.false c.loop-i.invariant.3)

@@ -1,0 +1,76 @@
+-- `trial::trial::measure_arc` meets its contract: as for `arc_deviation`, with the length of the spoke that is handed in for a radius; and a greatest deviation that is not below the tolerance stays so, so the walk may end there; so does a step whose end alone decides. Assumes nothing.
+use Rattle.std.proofs.Common.{not}
+use mathlib.Core.Path.{◌≡◌, refl, ap, ◌∙◌}
+use Prim.Native.Nat.{◌+◌, ◌-◌, ◌≤◌}
+use native.Mathlib.Omega.{arith}
+use borrow.Author.Rules.{rules}
+use borrow.Author.Tests.{not-true}
+use lib.Ieee.{Float, lt}
+use Rattle.geo.specs.Lent.{point_at}
+use Rattle.geo.specs.Walk.{fold}
+use Rattle.geo.proofs.Walk.{fold_turn, fold_done}
+use Rattle.circle.specs.Worst.{worse, worst as worstOf}
+use Rattle.circle.specs.Three.{radius_from}
+use Rattle.trial.specs.Deviation.{spoke_of, step_between, arc_deviation}
+use Rattle.trial.proofs.Steps.{walk, step_is, spoke_length, spoke_root, reaches, too_far, all-within, not_within}
+use Rattle.trial.proofs.trial.measure_arc.Goals as goal
+
+pub point_at-p-requires : goal.point_at-p-requires
+point_at-p-requires c = omega arith
+
+pub loop-i-init : goal.loop-i-init
+unfolding arc_deviation worstOf
+loop-i-init c = let e = c in
+    let a = e.args in
+    (omega arith, omega arith, c.point_at-p.ensures, e.requires.0, ap (λ (r : Float). arc_deviation a.m r (point_at a.points.now) a.start a.end) (spoke_length a.m _ a.first e.requires.0))
+
+pub overflow_add-i : goal.overflow_add-i
+overflow_add-i c = omega arith
+
+pub point_at-q-requires : goal.point_at-q-requires
+point_at-q-requires c = omega arith
+
+pub returns-then-strays : goal.returns-then-strays
+returns-then-strays c = let a = c.args in
+    let l = c.loop-i in
+    let v = l.invariant in
+    let g = c.strays.ensures c.if-strays.true l.s in
+    let d = step_is a.m a.first.len _ _ _ _ _ _ _ _ v.2 c.point_at-q.ensures v.3 c.new-t.ensures refl refl in
+    let n = ap (λ (x : Float). worse x l.i l.worst) d in
+    let f = fold_turn _ a.end _ _ _ _ c.loop-i-test.true n v.4 in
+    too_far _ _ _ _ _ _ (reaches _ l.i l.worst a.tolerance g.0 g.1) f
+
+pub deviation_of_step-requires : goal.deviation_of_step-requires
+deviation_of_step-requires c = spoke_root _ _ _ c.requires.0
+
+pub returns-then-not-ok : goal.returns-then-not-ok
+returns-then-not-ok c = let a = c.args in
+    let l = c.loop-i in
+    let v = l.invariant in
+    let d = step_is a.m a.first.len _ _ _ _ _ _ _ _ v.2 c.point_at-q.ensures v.3 c.new-t.ensures refl c.deviation_of_step.ensures in
+    let n = ap (λ (x : Float). worse x l.i l.worst) d in
+    let f = fold_turn _ a.end _ _ _ _ c.loop-i-test.true (c.or-worst.ensures ∙ n) v.4 in
+    too_far _ _ _ _ _ _ (not-true (lt c.or-worst.result.dist a.tolerance) (ap not c.if-not-ok.true)) f
+
+pub overflow_step-i : goal.overflow_step-i
+overflow_step-i c = omega (arith, c.loop-i-test.true, c.ranges)
+
+pub loop-i-smaller : goal.loop-i-smaller
+loop-i-smaller c = omega arith
+
+pub loop-i-preserved : goal.loop-i-preserved
+loop-i-preserved c = let a = c.args in
+    let l = c.loop-i in
+    let v = l.invariant in
+    let d = step_is a.m a.first.len _ _ _ _ _ _ _ _ v.2 c.point_at-q.ensures v.3 c.new-t.ensures refl c.deviation_of_step.ensures in
+    let n = ap (λ (x : Float). worse x l.i l.worst) d in
+    let f = fold_turn _ a.end _ _ _ _ c.loop-i-test.true (c.or-worst.ensures ∙ n) v.4 in
+    (omega arith, omega arith, c.point_at-q.ensures, c.new-t.ensures ∙ ap (spoke_of _) c.point_at-q.ensures, f)
+
+pub returns-then-worst-tolerance : goal.returns-then-worst-tolerance
+returns-then-worst-tolerance c = let a = c.args in
+    all-within _ _ a.tolerance (fold_done _ a.end _ _ _ c.loop-i-test.false c.loop-i.invariant.4) c.if-worst-tolerance.true
+
+pub returns : goal.returns
+returns c = let a = c.args in
+    not_within _ _ a.tolerance (fold_done _ a.end _ _ _ c.loop-i-test.false c.loop-i.invariant.4) c.if-worst-tolerance.false

@@ -1,0 +1,13 @@
+-- `trial::trial::strays` meets its contract: of a step that is not short the end decides, and of a short one it says nothing. Assumes nothing.
+use mathlib.Core.Path.{sym, ap, ◌∙◌}
+use lib.Ieee.{Float, le}
+use borrow.Author.Rules.{rules}
+use Rattle.floats.proofs.Order.{clash}
+use Rattle.trial.proofs.Squares.{end_decides}
+use Rattle.trial.proofs.trial.strays.Goals as goal
+
+pub returns-then-dx-dy : goal.returns-then-dx-dy
+returns-then-dx-dy c = λ h s. let a = c.args in end_decides _ _ a.r a.tolerance s a.t c.if-dx-dy.true (ap (λ (x : Float). le a.tolerance x) (sym c.abs.ensures) ∙ h)
+
+pub returns : goal.returns
+returns c = λ h s. clash h
