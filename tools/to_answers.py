@@ -37,6 +37,18 @@ def blocks(text):
     return out
 
 
+def joined(lines):
+    """A declaration with its signature on one line, where it is a goal's."""
+    k = next((i for i, l in enumerate(lines) if not l.startswith("--")), None)
+    if k is None or not re.match(r"(abbrev |pub )*\S+ :", lines[k]):
+        return lines
+    j = k + 1
+    while j < len(lines) and lines[j].startswith(" "):
+        j += 1
+    whole = " ".join(l.strip() for l in lines[k:j])
+    return lines[:k] + [whole] + lines[j:] if ".Need-" in whole else lines
+
+
 class Function:
     """What Rattle says of one function's goals and steps, by their old names."""
 
@@ -50,6 +62,7 @@ class Function:
         self.index = {p[0]: i for i, p in enumerate(self.places)}
         self.helpers = {}
         self.imports = set()
+        self.recursive = False
 
     def named(self, place):
         return self.names["places_by_name"][self.index[place]]
@@ -141,6 +154,8 @@ def turn_paths(body, var, fn, place, where, goal=None):
                 return f"{name}.args.{m2.group(1).replace('-', '_')}{rest[m2.end():]}"
             return f"{name}.args{rest}"
         if field == "requires":
+            if fn.recursive and re.match(r"\.1(?=\.|$)", rest):
+                rest = rest[2:]
             pre = fn.names["pre"]
             if pre:
                 got = by_position(rest, pre["fields"]) or None
@@ -172,8 +187,8 @@ def turn_paths(body, var, fn, place, where, goal=None):
     for helper, (over, _) in fn.helpers.items():
         if goal and over != place:
             body = re.sub(
-                rf"(?<![^\s(,]){re.escape(helper)} ({paths})(?![.\w])",
-                f"{helper} (goal.at.{goal} {var}).{fn.named(over)}",
+                rf"(?<![^\s(,]){re.escape(helper)} (t )?({paths})(?![.\w])",
+                lambda m: f"{helper} {m.group(1) or ''}(goal.at.{goal} {m.group(1) or ''}{var}).{fn.named(over)}",
                 body,
             )
     body = re.sub(rf"(?<![^\s(,])({paths})((?:\.before)*)\.({WORD})((?:\.{WORD})*)", swap, body)
@@ -285,8 +300,11 @@ def as_record(body, fields):
     return f"{head} record {{ " + "; ".join(f"{f} = ({t}).{i}" for i, f in enumerate(fields)) + " }"
 
 
+GOAL = re.compile(r"(?:pub )?(\S+) : (?:\(t : ℕ\) → )?\S+\.Need-(\S+)(.*)$")
+
+
 def turn_goal(lines, fn, where):
-    m = re.match(r"(?:pub )?(\S+) : tie\.Need-(\S+)(.*)$", lines[0])
+    m = GOAL.match(lines[0])
     own, old = m.group(1), m.group(2)
     i = fn.goal(old)
     if i == "settled":
@@ -306,6 +324,8 @@ def turn_goal(lines, fn, where):
         say(where, f"no clause of {own}")
         return None
     given, body = m.group(1).split(), m.group(2)
+    recursion = given[:1] == ["t"]
+    given = given[1:] if recursion else given
     var = given[0] if given else "c"
     place = fn.names["asked_at"][i][0]
     if body.strip() == "search rules" and len(out) == 1:
@@ -314,25 +334,48 @@ def turn_goal(lines, fn, where):
     fields = fn.names["asked"].get(fn.needs[i][0])
     if fields and not re.match(r"\s*(search|grind|omega)\b", body):
         body = as_record(body, fields)
-    out.append(f"{new} {var} ={body}")
-    if own != new:
-        pass
+    out.append(f"{new} {'t ' if recursion else ''}{var} ={body}")
     return "\n".join(out)
 
 
 def turn_helper(text, fn, where):
     """A lemma of the file's own, which may speak of what one step knows."""
-    m = re.search(rf"(?m)^(?:pub |abbrev )*({WORD}) : .*?\(({WORD}) : tie\.({WORD})\)", text)
-    if not m:
+    m = re.search(rf"(?m)^(?:pub |abbrev )*({WORD}) : .*?\(({WORD}) : ({WORD}\.({WORD}))(?: \(claims t\) \(\S+ t\) \S+\.Post)?\)", text)
+    if not m or not re.match(r"tie$|.*-lts$", m.group(3).split(".")[0]):
         return text
-    name, var, old = m.groups()
+    name, var, old = m.group(1), m.group(2), m.group(4)
     place = fn.place_of(old)
     if place is None:
         say(where, f"helper over {old}")
         return text
     fn.helpers[name] = (place, var)
     text = text.replace(f"tie.{old}", fn.named(place))
+    text = re.sub(rf"\S+-lts\.{re.escape(old)} \(claims t\) \(\S+ t\) \S+\.Post", f"{fn.named(place)} t", text)
     return turn_paths(text, var, fn, place, where)
+
+
+def parameters(crate, name):
+    """The names of a function's parameters, from its source."""
+    for folder, dirs, files in os.walk(os.path.join(ROOT, crate, "src")):
+        for f in files:
+            with open(os.path.join(folder, f), encoding="utf-8") as it:
+                m = re.search(rf"\bfn {name}\((.*?)\)\s*(?:->|\n\s*(?:requires|ensures)|{{)", it.read(), re.S)
+            if m:
+                return [p.split(":")[0].replace("mut ", "").replace("&", "").strip() for p in split_top(m.group(1)) if p.strip()]
+    return []
+
+
+def turn_measure(lines, crate, name, where):
+    """A recursion's measure, by its parameters' names."""
+    m = re.match(r"\S+ κs a =(.*)$", "\n".join(lines[1:]), re.S)
+    names = parameters(crate, name)
+
+    def swap(k):
+        n = k.group(1).count(".1")
+        return f"l.{names[n]}" if n < len(names) else k.group(0)
+
+    body = re.sub(r"(?<![^\s(])a((?:\.1)*)\.0(?![\w-])", swap, m.group(1))
+    return f"abbrev pub decreases-{name} : goal.decreases-{name}\ndecreases-{name} l ={body}"
 
 
 def turn_file(path, crate, names):
@@ -341,18 +384,23 @@ def turn_file(path, crate, names):
     where = f"{crate}/{module}"
     with open(path, encoding="utf-8") as f:
         text = f.read()
-    if ".Tie as tie" not in text:
+    cycle = re.search(r"(?m)^use \S+\.(Lts-(\w+)) as (\S+)$", text)
+    if cycle:
+        key = f"Rattle-{crate}-proofs.{module}.{cycle.group(1)}"
+    elif ".Tie as tie" not in text:
         say(where, "not by Tie")
         return
     if key not in names:
         say(where, "no names")
         return
     fn = Function(names[key])
+    fn.recursive = bool(cycle)
     for lines in blocks(text):
-        if "tie." in lines[0] and not re.search(r"tie\.(Need|invariant|decreases)-", lines[0]) and not re.search(r"[-_]spec : ", lines[0]):
+        if ("tie." in lines[0] or "-lts." in lines[0]) and not re.search(r"\.(Need|invariant|decreases)-", lines[0]) and not re.search(r"[-_]spec : ", lines[0]):
             turn_helper("\n".join(lines), fn, where)
     head, uses, helpers, loops, goals = [], [], [], [], []
     for lines in blocks(text):
+        lines = joined(lines)
         above = []
         while lines and lines[0].startswith("--"):
             (above if uses else head).append(lines[0])
@@ -366,15 +414,19 @@ def turn_file(path, crate, names):
             got, _ = turn_loop(lines, fn, where)
             if got:
                 loops.append(got)
-        elif re.match(r"(pub )?\S+ : tie\.Need-", lines[0]):
+        elif cycle and lines[0].startswith("abbrev μ_"):
+            loops.append((turn_measure(lines, crate, cycle.group(2), where), None))
+        elif cycle and re.match(r"abbrev (claims|\S+[-_]at|\S+[-_]below) : ℕ → ", lines[0]):
+            continue
+        elif GOAL.match(lines[0]):
             got = turn_goal(lines, fn, where)
             if got:
                 goals.append("\n".join(above + [got]))
-        elif re.match(r"(pub )?\S+[-_]spec : ", lines[0]):
+        elif re.match(r"(pub )?\+?\S+[-_]spec : ", lines[0]):
             continue
         else:
             helpers.append("\n".join(above + [turn_helper("\n".join(lines), fn, where)]))
-    uses = [u for u in uses if not re.search(r"\.(Tie as tie|Statement\.\{statement\})$", u)]
+    uses = [u for u in uses if not re.search(r"\.(Tie as tie|Statement\.\{statement\})$|\.(Reads|Kinds|Lts-\w+) as |\.\{statement\}$|\.Tie\.\{close\}|^use borrow\.Fn\.(Kinds|PlainCycle)\.", u)]
     base = f"Rattle.{crate}.proofs.{module}"
     whole = "\n\n".join(helpers)
     if "tie." in whole:

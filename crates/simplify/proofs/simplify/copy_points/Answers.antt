@@ -1,0 +1,51 @@
+-- `simplify::simplify::copy_points` meets its contract. The invariant: what is left to select, written behind what is written, gives the whole. The measure is how many are left. Assumes nothing.
+use Prim.Native.Nat.{◌-◌}
+use mathlib.Core.Path.{refl, ap, ◌∙◌}
+use mathlib.Core.Bool.{false}
+use mathlib.Core.Logic.{⊎_elim}
+use native.Mathlib.Omega.{arith}
+use lib.ListN.{length, get_or}
+use Rattle.geo.specs.Lent.{triple, point_at}
+use Rattle.simplify.proofs.Copy.{Copying, copy_start, copy_take, copy_skip, copy_done}
+use Rattle.simplify.proofs.simplify.copy_points.Goals as goal
+use Rattle.simplify.proofs.simplify.copy_points.Goals.{then-keep-i, else-keep-i}
+
+pub loop-i-init : goal.loop-i-init
+loop-i-init c = let a = c.args in copy_start triple 3 (point_at a.points.now) (λ j. get_or a.keep.now j false) a.n a.out.now
+
+pub bounds-keep-i : goal.bounds-keep-i
+bounds-keep-i c = omega arith
+
+pub overflow_mul-count : goal.overflow_mul-count
+overflow_mul-count c = omega (arith, c.loop-i.invariant.below, c.requires)
+
+pub point_at-requires : goal.point_at-requires
+point_at-requires c = omega arith
+
+pub put_point-requires : goal.put_point-requires
+put_point-requires c = omega (arith, c.loop-i.invariant.below, c.loop-i.invariant.long, c.requires)
+
+pub overflow_add-count : goal.overflow_add-count
+overflow_add-count c = omega (arith, c.loop-i.invariant.below, c.requires)
+
+pub overflow_step-i : goal.overflow_step-i
+overflow_step-i c = omega arith
+
+pub loop-i-smaller : goal.loop-i-smaller
+loop-i-smaller c = omega arith
+
+pub loop-i-preserved : goal.loop-i-preserved
+loop-i-preserved c = let a = c.args in
+    let v = c.loop-i.invariant in
+    let h = c.loop-i-test.true in
+    elim c.if-keep-i.branch [
+      | then-keep-i w ↦ copy_take triple 3 (point_at a.points.now) (λ j. get_or a.keep.now j false) a.n a.out.now _ _ _ _ _ v h _ w.if-keep-i.true w.point_at.ensures refl (w.out-is ∙ w.put_point.ensures) (ap length w.out-is ∙ w.put_point.auto.out) w.count-is
+      | else-keep-i w ↦ copy_skip triple 3 (point_at a.points.now) (λ j. get_or a.keep.now j false) a.n a.out.now _ _ _ _ _ v h w.if-keep-i.false w.out-is w.count-is
+    ]
+
+pub shape_of-out : goal.shape_of-out
+shape_of-out c = c.loop-i.invariant.long
+
+pub returns : goal.returns
+returns c = let a = c.args in
+    copy_done triple 3 (point_at a.points.now) (λ j. get_or a.keep.now j false) a.n a.out.now _ _ _ c.loop-i.invariant c.loop-i-test.false

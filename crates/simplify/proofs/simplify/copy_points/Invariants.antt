@@ -1,0 +1,16 @@
+-- `simplify::simplify::copy_points` meets its contract. The invariant: what is left to select, written behind what is written, gives the whole. The measure is how many are left. Assumes nothing.
+use Prim.Native.Nat.{◌-◌}
+use mathlib.Core.Path.{refl, ap, ◌∙◌}
+use mathlib.Core.Bool.{false}
+use mathlib.Core.Logic.{⊎_elim}
+use native.Mathlib.Omega.{arith}
+use lib.ListN.{length, get_or}
+use Rattle.geo.specs.Lent.{triple, point_at}
+use Rattle.simplify.proofs.Copy.{Copying, copy_start, copy_take, copy_skip, copy_done}
+use Rattle.simplify.proofs.simplify.copy_points.Given as goal
+
+abbrev pub invariant-loop-i : goal.invariant-loop-i
+invariant-loop-i l = Copying triple 3 (point_at l.points) (λ j. get_or l.keep j false) l.n l.initial.out l.out l.count l.i
+
+abbrev pub decreases-loop-i : goal.decreases-loop-i
+decreases-loop-i l = l.n - l.i

@@ -1,0 +1,25 @@
+-- `simplify::simplify::thin_pairs` meets its contract: the flags set are those of the kept indices, which ascend, so that what is copied is the list, thinned. Assumes nothing.
+use mathlib.Core.Path.{◌≡◌, ◌∙◌}
+use mathlib.Core.Bool.{true, false}
+use native.Mathlib.Omega.{arith}
+use borrow.Author.Rules.{rules}
+use lib.ListN.{length, replicate, length-set, length-replicate}
+use Rattle.geo.specs.Lent.{pair, pair_at}
+use Rattle.farthest.specs.Measure.{plane_sq}
+use Rattle.simplify.proofs.Flags.{copied_thinned, copied_none}
+use Rattle.simplify.proofs.simplify.thin_pairs.Goals as goal
+
+pub returns-then-n-eq0 : goal.returns-then-n-eq0
+returns-then-n-eq0 c = let a = c.args in
+    copied_none plane_sq a.limit (pair_at a.points.now) a.n pair a.out.now c.if-n-eq0.true
+
+pub mark_pairs-requires : goal.mark_pairs-requires
+mark_pairs-requires c = (c.requires.0, simp (length-set, length-replicate) (omega (arith, c.requires.1)))
+
+pub copy_pairs-requires : goal.copy_pairs-requires
+copy_pairs-requires c = let e : length c.mark_pairs.new.keep ≡ 2048 = c.mark_pairs.auto.keep ∙ length-set (replicate 2048 false) 0 true ∙ length-replicate 2048 false in
+    simp length-set (omega (arith, e))
+
+pub returns : goal.returns
+returns c = let a = c.args in
+    copied_thinned plane_sq a.limit c.requires.0 (pair_at a.points.now) 2048 a.n (omega arith) c.requires.1.0 _ c.mark_pairs.ensures pair _ _ _ c.copy_pairs.ensures
