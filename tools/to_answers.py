@@ -153,7 +153,7 @@ def turn_paths(body, var, fn, place, where, goal=None):
             if m2:
                 return f"{name}.args.{m2.group(1).replace('-', '_')}{rest[m2.end():]}"
             return f"{name}.args{rest}"
-        if field == "requires":
+        if field in ("requires", "pre"):
             if fn.recursive and re.match(r"\.1(?=\.|$)", rest):
                 rest = rest[2:]
             pre = fn.names["pre"]
@@ -175,6 +175,8 @@ def turn_paths(body, var, fn, place, where, goal=None):
         for p in order:
             old, new = fn.step[p]
             if old and alike(old) == alike(field):
+                rest = {".taken": ".true", ".left": ".false"}.get(rest, rest)
+                rest = re.sub(r"^\.kept(?=\.|$)", ".auto", rest)
                 if new.startswith("if-not-") and rest in (".true", ".false"):
                     fn.imports |= {"ap", "not"}
                     return f"(ap not {name}.{new}{rest})"
@@ -199,6 +201,24 @@ def turn_aliases(body, fn, paths):
     """The fields of what a `let` calls by one name: the arguments, a loop, a callee's clauses."""
     of_loop = {n: set(v) for (_, n), v in fn.names["loops"]}
     clauses = {fn.step[p[0]][1]: c["fields"] for p, c in zip(fn.places, fn.names["clauses"]) if c}
+    callees = {fn.step[p[0]][1]: fn.names["params"].get(p[3]) for p in fn.places if p[3]}
+    for m in list(re.finditer(rf"\blet ({WORD}) = (?:{paths})\.({WORD})\.(?:new|auto) in\b", body)):
+        name, step = m.groups()
+        if callees.get(step):
+            def swap(k):
+                got = by_position(k.group(1), callees[step])
+                return f"{name}.{got[0]}{got[1]}" if got else k.group(0)
+            body = re.sub(rf"(?<![^\s(,]){re.escape(name)}((?:\.[01])+)(?![\w-])", swap, body)
+    for m in list(re.finditer(rf"\blet ({WORD}) = (?:{paths})\.({WORD}) in\b", body)):
+        name, step = m.groups()
+        if callees.get(step):
+            def swap(k):
+                got = by_position(k.group(2), callees[step])
+                return f"{name}.{k.group(1)}.{got[0]}{got[1]}" if got else k.group(0)
+            body = re.sub(rf"(?<![^\s(,]){re.escape(name)}\.(new|auto)((?:\.[01])+)(?![\w-])", swap, body)
+        if step in clauses:
+            swap = lambda k: f"{name}.ensures.{clauses[step][int(k.group(1))]}"
+            body = re.sub(rf"(?<![^\s(,]){re.escape(name)}\.ensures\.(\d+)(?![\w-])", swap, body)
     for m in list(re.finditer(rf"\blet ({WORD}) = (?:{paths})\.({WORD})(\.ensures)? in\b", body)):
         name, step, ensures = m.groups()
         if step == "args" or step in of_loop:
@@ -268,6 +288,14 @@ def turn_loop(lines, fn, where):
     return (f"abbrev pub {name} : goal.{name}\n{name} l ={body}", (m.group(1), name)), None
 
 
+def tuple_of(text, n):
+    """The n parts of a tuple that may be nested to the right."""
+    parts = [p.strip() for p in split_top(text)]
+    while len(parts) < n and parts[-1].startswith("(") and parts[-1].endswith(")"):
+        parts[-1:] = [p.strip() for p in split_top(parts[-1][1:-1])]
+    return parts
+
+
 def as_record(body, fields):
     """A tuple at the end of a body as a record of these fields."""
     head, tail = "", body
@@ -283,7 +311,7 @@ def as_record(body, fields):
     head, tail = body[:k], body[k:]
     t = tail.strip()
     if t.startswith("(") and t.endswith(")"):
-        parts = split_top(t[1:-1])
+        parts = tuple_of(t[1:-1], len(fields))
         if len(parts) == len(fields):
             inner = "; ".join(f"{f} = {p.strip()}" for f, p in zip(fields, parts))
             return f"{head} record {{ {inner} }}"
@@ -293,7 +321,7 @@ def as_record(body, fields):
             depth += (t[i] == ")") - (t[i] == "(")
             if depth == 0:
                 break
-        parts = split_top(t[i + 1 : -1])
+        parts = tuple_of(t[i + 1 : -1], len(fields))
         if len(parts) == len(fields):
             inner = "; ".join(f"{f} = {p.strip()}" for f, p in zip(fields, parts))
             return f"{head} {t[:i]}record {{ {inner} }}"
@@ -334,7 +362,8 @@ def turn_goal(lines, fn, where):
     fields = fn.names["asked"].get(fn.needs[i][0])
     if fields and not re.match(r"\s*(search|grind|omega)\b", body):
         body = as_record(body, fields)
-    out.append(f"{new} {'t ' if recursion else ''}{var} ={body}")
+    more = "".join(" " + g for g in given[1:] if g != "κs")
+    out.append(f"{new} {'t ' if recursion else ''}{var}{more} ={body}")
     return "\n".join(out)
 
 
