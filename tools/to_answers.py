@@ -63,6 +63,8 @@ class Function:
         self.helpers = {}
         self.imports = set()
         self.recursive = False
+        self.taken = set()
+        self.known = set()
 
     def named(self, place):
         return self.names["places_by_name"][self.index[place]]
@@ -86,6 +88,11 @@ class Function:
         for form in forms:
             for i, (o, n) in enumerate(self.needs):
                 if alike(o) == alike(form):
+                    return i
+        m = re.match(r"^(?:overflow-|nonzero-)?(add|sub|mul|div|rem|cast|shl|shr)-t\d+(-\d+)?$", old)
+        if m:
+            for i, (o, n) in enumerate(self.needs):
+                if i not in self.taken and re.match(rf"(overflow|nonzero)_{m.group(1)}-", n) and o not in self.known:
                     return i
         for form in forms:
             if any(alike(form) == alike(s) for s in self.names["settled"]):
@@ -127,6 +134,24 @@ def by_position(rest, names):
     return None
 
 
+def inlined(body, alias, fn):
+    """A `let` of a part of a step by position, put in where it is used: an arm's fields, a part of what a call keeps."""
+    paths = "|".join(re.escape(a) for a in sorted(alias, key=len, reverse=True))
+    LET = rf"\blet ({WORD}) = ((?:{paths})(?:\.before)*\.{WORD}(?:\.given\.0|\.(?:auto|new|kept)(?:\.1)+)) in\s?"
+    m = re.search(LET, body)
+    while m:
+        name, path = m.groups()
+        rest = body[m.end() :]
+        rest = re.sub(rf"(?<![^\s(,]){re.escape(name)}((?:\.[01])+)(?![\w-])", lambda k: path + k.group(1), rest)
+        body = body[: m.start()] + rest
+        m = re.search(LET, body)
+    if fn.recursive:
+        for m in re.finditer(rf"\blet ({WORD}) = (?:{paths})(?:\.before)*\.(?:requires|pre) in", body):
+            name = m.group(1)
+            body = body[: m.end()] + re.sub(rf"(?<![^\s(,]){re.escape(name)}\.1(?=\.|[\s),])", name, body[m.end() :])
+    return body
+
+
 def turn_paths(body, var, fn, place, where, goal=None):
     """The steps that a goal's variable names, by their new names."""
     alias = {var: place}
@@ -141,6 +166,8 @@ def turn_paths(body, var, fn, place, where, goal=None):
                 body = body[: m.start()] + f"let {m.group(1)} = {var} in" + body[m.end() :]
                 more = True
                 break
+
+    body = inlined(body, alias, fn)
 
     def swap(m):
         name, befores, field, rest = m.group(1), m.group(2), m.group(3), m.group(4)
@@ -290,7 +317,7 @@ def turn_loop(lines, fn, where):
 
 def tuple_of(text, n):
     """The n parts of a tuple that may be nested to the right."""
-    parts = [p.strip() for p in split_top(text)]
+    parts = [p.strip() for p in split_top(text) if p.strip()]
     while len(parts) < n and parts[-1].startswith("(") and parts[-1].endswith(")"):
         parts[-1:] = [p.strip() for p in split_top(parts[-1][1:-1])]
     return parts
@@ -340,6 +367,7 @@ def turn_goal(lines, fn, where):
     if i is None:
         say(where, f"no goal {old}")
         return None
+    fn.taken.add(i)
     new = fn.needs[i][1]
     out = [f"pub {new} : goal.{new}"]
     rest = lines[1:]
@@ -428,6 +456,9 @@ def turn_file(path, crate, names):
         if ("tie." in lines[0] or "-lts." in lines[0]) and not re.search(r"\.(Need|invariant|decreases)-", lines[0]) and not re.search(r"[-_]spec : ", lines[0]):
             turn_helper("\n".join(lines), fn, where)
     head, uses, helpers, loops, goals = [], [], [], [], []
+    for m in re.finditer(r"\.Need-(\S+)", text):
+        if not re.search(r"-t\d+(-\d+)?$", m.group(1)):
+            fn.known |= {m.group(1), re.sub(r"^(overflow|nonzero)-", "", m.group(1))}
     for lines in blocks(text):
         lines = joined(lines)
         above = []

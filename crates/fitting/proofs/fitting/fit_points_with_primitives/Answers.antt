@@ -12,8 +12,8 @@ ranges_of-requires c = let a = c.args in
 
 pub returns-in-Written : goal.returns-in-Written
 returns-in-Written c = let a = c.args in
-    let w = wrote-to a.points.now a.tolerance _ _ _ _ _ _ c.steps_between-last.ensures a.kinds.now _ a.nums.now _ c.fit_points_recursive-a.ensures.commands in record { says = ((answer-fitted a.points.now a.tolerance (length a.kinds.now) (length a.nums.now) (length a.worst.now) _ _ _ w.says c.in-Written.is c.ranges_of.ensures, (w.kinds, (w.numbers, left-to a.points.now a.tolerance _ _ _ _ _ _ c.steps_between-last.ensures a.worst.now _ c.fit_points_recursive-a.ensures.worst)))).0; kinds = ((answer-fitted a.points.now a.tolerance (length a.kinds.now) (length a.nums.now) (length a.worst.now) _ _ _ w.says c.in-Written.is c.ranges_of.ensures, (w.kinds, (w.numbers, left-to a.points.now a.tolerance _ _ _ _ _ _ c.steps_between-last.ensures a.worst.now _ c.fit_points_recursive-a.ensures.worst)))).1; numbers = ((answer-fitted a.points.now a.tolerance (length a.kinds.now) (length a.nums.now) (length a.worst.now) _ _ _ w.says c.in-Written.is c.ranges_of.ensures, (w.kinds, (w.numbers, left-to a.points.now a.tolerance _ _ _ _ _ _ c.steps_between-last.ensures a.worst.now _ c.fit_points_recursive-a.ensures.worst)))).2; worst = ((answer-fitted a.points.now a.tolerance (length a.kinds.now) (length a.nums.now) (length a.worst.now) _ _ _ w.says c.in-Written.is c.ranges_of.ensures, (w.kinds, (w.numbers, left-to a.points.now a.tolerance _ _ _ _ _ _ c.steps_between-last.ensures a.worst.now _ c.fit_points_recursive-a.ensures.worst)))).3 }
+    let w = wrote-to a.points.now a.tolerance _ _ _ _ _ _ c.steps_between-last.ensures a.kinds.now _ a.nums.now _ c.fit_points_recursive-a.ensures.commands in record { says = answer-fitted a.points.now a.tolerance (length a.kinds.now) (length a.nums.now) (length a.worst.now) _ _ _ w.says c.in-Written.is c.ranges_of.ensures; kinds = w.kinds; numbers = w.numbers; worst = left-to a.points.now a.tolerance _ _ _ _ _ _ c.steps_between-last.ensures a.worst.now _ c.fit_points_recursive-a.ensures.worst }
 
 pub returns-in-Refused : goal.returns-in-Refused
 returns-in-Refused c = let a = c.args in
-    let w = wrote-to a.points.now a.tolerance _ _ _ _ _ _ c.steps_between-last.ensures a.kinds.now _ a.nums.now _ c.fit_points_recursive-a.ensures.commands in record { says = ((answer-refused a.points.now a.tolerance (length a.kinds.now) (length a.nums.now) (length a.worst.now) _ _ w.says c.in-Refused.is, (w.kinds, (w.numbers, left-to a.points.now a.tolerance _ _ _ _ _ _ c.steps_between-last.ensures a.worst.now _ c.fit_points_recursive-a.ensures.worst)))).0; kinds = ((answer-refused a.points.now a.tolerance (length a.kinds.now) (length a.nums.now) (length a.worst.now) _ _ w.says c.in-Refused.is, (w.kinds, (w.numbers, left-to a.points.now a.tolerance _ _ _ _ _ _ c.steps_between-last.ensures a.worst.now _ c.fit_points_recursive-a.ensures.worst)))).1; numbers = ((answer-refused a.points.now a.tolerance (length a.kinds.now) (length a.nums.now) (length a.worst.now) _ _ w.says c.in-Refused.is, (w.kinds, (w.numbers, left-to a.points.now a.tolerance _ _ _ _ _ _ c.steps_between-last.ensures a.worst.now _ c.fit_points_recursive-a.ensures.worst)))).2; worst = ((answer-refused a.points.now a.tolerance (length a.kinds.now) (length a.nums.now) (length a.worst.now) _ _ w.says c.in-Refused.is, (w.kinds, (w.numbers, left-to a.points.now a.tolerance _ _ _ _ _ _ c.steps_between-last.ensures a.worst.now _ c.fit_points_recursive-a.ensures.worst)))).3 }
+    let w = wrote-to a.points.now a.tolerance _ _ _ _ _ _ c.steps_between-last.ensures a.kinds.now _ a.nums.now _ c.fit_points_recursive-a.ensures.commands in record { says = answer-refused a.points.now a.tolerance (length a.kinds.now) (length a.nums.now) (length a.worst.now) _ _ w.says c.in-Refused.is; kinds = w.kinds; numbers = w.numbers; worst = left-to a.points.now a.tolerance _ _ _ _ _ _ c.steps_between-last.ensures a.worst.now _ c.fit_points_recursive-a.ensures.worst }

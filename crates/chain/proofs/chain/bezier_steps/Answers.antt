@@ -1,0 +1,13 @@
+-- `chain::chain::bezier_steps` meets its contract: a count of at most 800 as a float is the whole number; one that is not is above 800. Assumes nothing.
+use Rattle.chain.proofs.Steps.{needed_above, few-steps, over-steps}
+use borrow.Author.Rules.{rules}
+use Rattle.chain.proofs.chain.bezier_steps.Goals as goal
+
+pub whole_steps-requires : goal.whole_steps-requires
+whole_steps-requires c = let a = c.args in record { fact_1 = needed_above a.end a.control1 a.control2 a.start a.resolution _ c.steps_needed-needed.ensures; fact_2 = c.if-needed.true }
+
+pub returns-then-needed : goal.returns-then-needed
+returns-then-needed c = let a = c.args in few-steps a.end a.control1 a.control2 a.start a.resolution _ c.steps_needed-needed.ensures _ c.whole_steps.ensures.0 c.whole_steps.ensures.1
+
+pub returns : goal.returns
+returns c = let a = c.args in over-steps a.end a.control1 a.control2 a.start a.resolution _ c.steps_needed-needed.ensures c.if-needed.false
