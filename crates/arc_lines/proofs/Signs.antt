@@ -54,7 +54,7 @@ odd_neg d s (suc q) k l = refl
 
 units_neg : (s : Bool) (q k : ℕ) → units binary64 (not s) q k ≡ neg (units binary64 s q k)
 unfolding units neg
-units_neg s q k = ⊎_elim (λ h. rw h (odd_neg _ s q k _)) (λ h. rw h) (either (ltb (q * 2 ^ k) (2 ^ (low binary64 + suc (emax binary64)))))
+units_neg s q k = ⊎_elim (λ h. rw h (odd_neg 54 s q k (low binary64))) (λ h. rw h) (either (ltb (q * 2 ^ k) (2 ^ (low binary64 + suc (emax binary64)))))
 
 pub round_neg : (s : Bool) (a b : ℕ) → round binary64 (not s) a b ≡ neg (round binary64 s a b)
 unfolding round

@@ -1,0 +1,16 @@
+-- `course::course::fit_course_with_steps` meets its contract: it is the walk whose chains are thinned and fitted. Assumes nothing.
+use native.Mathlib.Omega.{arith}
+use Rattle.pieces.proofs.Writing.{same_noted}
+use Rattle.course.specs.Course.{lent_course}
+use Rattle.course.proofs.Paths.{course_fit, course_most}
+use borrow.Author.Rules.{rules}
+use Rattle.course.proofs.course.fit_course_with_steps.Goals as goal
+
+pub walk_course-requires : goal.walk_course-requires
+walk_course-requires c = let a = c.args in
+    let p = c.requires.1 in
+    let m = course_most a.rule.tolerance a.start (lent_course a.kinds.now a.nums.now) in (c.requires.0, (p.0, omega (arith, p, m), omega (arith, p, m), omega (arith, p, m), p.4))
+
+pub returns : goal.returns
+returns c = let a = c.args in
+    same_noted _ _ 0 _ a.out_kinds.now _ a.out_nums.now _ a.steps.now _ (course_fit a.rule a.start (lent_course a.kinds.now a.nums.now)) c.walk_course.ensures

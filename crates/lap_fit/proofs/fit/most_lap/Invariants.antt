@@ -1,0 +1,17 @@
+-- `lap_fit::fit::most_lap` meets its contract: what is counted, and what the commands that are left count as, gives the whole. The measure is how many are left. Assumes nothing.
+use Prim.Native.Nat.{◌+◌, ◌-◌, ◌*◌, ◌≤◌}
+use mathlib.Core.Path.{◌≡◌, sym, ap, ◌∙◌}
+use native.Mathlib.Omega.{arith}
+use Rattle.chain.specs.Chains.{cap}
+use Rattle.file.specs.Command.{commands_at}
+use Rattle.lap_fit.specs.Fit.{lap_end, most_lap}
+use Rattle.lap_fit.proofs.Cap.{cap_small, cap_step, cap-done}
+use Rattle.lap_fit.proofs.Lap.{weights, weights_first, weights_step, weights_end}
+use Rattle.lap_fit.proofs.fit.most_lap.Given as goal
+
+abbrev pub invariant-loop-i : goal.invariant-loop-i
+invariant-loop-i l = (l.i ≤ l.n) × (l.most ≤ 801)
+    × (cap (l.most + weights l.tolerance l.s (lap_end l.start (commands_at l.s l.at l.i)) (l.at + 73 * l.i) (l.n - l.i)) ≡ cap (most_lap l.tolerance l.start (commands_at l.s l.at l.n)))
+
+abbrev pub decreases-loop-i : goal.decreases-loop-i
+decreases-loop-i l = l.n - l.i
