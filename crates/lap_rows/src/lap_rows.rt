@@ -18,6 +18,7 @@ use file::command::{COMMAND_BYTES, read_commands};
 use geo::domain::is_tolerance;
 use geo::types::{Answer, Point3D};
 use lap_fit::fit::{lap_end, most_of};
+use lap_text::bytes;
 use lap_text::text::{Added, put_rows, put_total};
 use laps::lap_file::{check_file, count_at, lap_count};
 use pieces::pieces::Rule;

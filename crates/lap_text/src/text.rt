@@ -4,6 +4,7 @@ ghost use Rattle.listing.specs.Rows.{steps_in, sum_of};
 ghost use Rattle.lap_text.specs.Text.{decimal, refusal_text, row_text, rows_text, total_text};
 ghost use Rattle.lap_text.specs.Left.{TextPut, listed, rows_from};
 
+use crate::bytes;
 use listing::listing::letter;
 
 // Writes a number's decimal digits from `at` on, and answers where they end.
