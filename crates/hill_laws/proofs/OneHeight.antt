@@ -41,7 +41,7 @@ odd_number d s (suc q) k l = refl
 
 units_number : (s : Bool) (q k : ℕ) → is_nan (units binary64 s q k) ≡ false
 unfolding units
-units_number s q k = ⊎_elim (λ h. rw h (odd_number _ s q k _)) (λ h. rw h (unfold is_nan in refl)) (either (ltb (q * 2 ^ k) (2 ^ (low binary64 + suc (emax binary64)))))
+units_number s q k = ⊎_elim (λ h. rw h (odd_number 54 s q k (low binary64))) (λ h. rw h (unfold is_nan in refl)) (either (ltb (q * 2 ^ k) (2 ^ (low binary64 + suc (emax binary64)))))
 
 round_number : (s : Bool) (a b : ℕ) → is_nan (round binary64 s a b) ≡ false
 unfolding round

@@ -1,0 +1,9 @@
+-- `exports::lap_files::pz_fit_file` meets its contract: what is written stays, and the answer is handed on. Assumes nothing.
+use Prim.Native.Nat.{ℕ}
+use mathlib.Core.List.{List}
+use Rattle.exports.proofs.Plain.{listed}
+use borrow.Author.Rules.{rules}
+use Rattle.exports.proofs.lap_files.pz_fit_file.Goals as goal
+
+pub returns : goal.returns
+returns c = listed (λ (bytes : List ℕ). bytes) _ c.args.out.now _ _ c.args.count.now _ _ c.fit_file-a.ensures c.hand_on.ensures

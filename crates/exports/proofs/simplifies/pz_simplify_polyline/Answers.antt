@@ -1,0 +1,8 @@
+-- `exports::simplifies::pz_simplify_polyline` meets its contract: what is written stays, and the answer is handed on. Assumes nothing.
+use Rattle.geo.specs.Lent.{flat, pair}
+use Rattle.exports.proofs.Plain.{listed}
+use borrow.Author.Rules.{rules}
+use Rattle.exports.proofs.simplifies.pz_simplify_polyline.Goals as goal
+
+pub returns : goal.returns
+returns c = listed (flat pair) _ c.args.out.now _ _ c.args.count.now _ _ c.simplify_polyline-a.ensures c.hand_on.ensures
