@@ -3,12 +3,7 @@ use Rattle.geo.specs.Lent.{pair}
 use Rattle.exports.proofs.Answers.{projected-gives, projected-refused}
 use Rattle.exports.proofs.Plain.{gave, gave_nothing}
 use borrow.Author.Rules.{rules}
-use Rattle.exports.proofs.circles.pz_project_circle_center_to_bisector.Statement.{
 use Rattle.exports.proofs.circles.pz_project_circle_center_to_bisector.Goals as goal
-
-  statement,
-}
-use Rattle.exports.proofs.circles.pz_project_circle_center_to_bisector.Tie as tie
 
 pub returns-in-At : goal.returns-in-At
 returns-in-At c = gave pair _ c.args.answer.now _ _ (projected-gives _ _ _ c.project_circle_center_to_bisector-a.ensures c.in-At.is) c.put_pair.ensures

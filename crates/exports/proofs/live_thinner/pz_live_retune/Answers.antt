@@ -4,7 +4,7 @@ use borrow.Author.Rules.{rules}
 use Rattle.exports.proofs.live_thinner.pz_live_retune.Goals as goal
 
 pub returns-in-Written : goal.returns-in-Written
-returns-in-Written c = record { state = (retold _ _ _ _ _ c.retune-tuned.ensures _ _ _ _ _ c.in-Written.is).0; ends = (retold _ _ _ _ _ c.retune-tuned.ensures _ _ _ _ _ c.in-Written.is).1 }
+returns-in-Written c = let a = c.args in record { state = (retold _ _ _ _ _ c.retune-tuned.ensures a.tolerance.now a.points.now a.count.now a.handed.now _ c.in-Written.is).0; ends = (retold _ _ _ _ _ c.retune-tuned.ensures a.tolerance.now a.points.now a.count.now a.handed.now _ c.in-Written.is).1 }
 
 pub returns-in-Refused : goal.returns-in-Refused
-returns-in-Refused c = record { state = (not_retold _ _ _ _ _ c.retune-tuned.ensures _ _ _ _ _ c.in-Refused.is).0; ends = (not_retold _ _ _ _ _ c.retune-tuned.ensures _ _ _ _ _ c.in-Refused.is).1 }
+returns-in-Refused c = let a = c.args in record { state = (not_retold _ _ _ _ _ c.retune-tuned.ensures a.tolerance.now a.points.now a.count.now a.handed.now _ c.in-Refused.is).0; ends = (not_retold _ _ _ _ _ c.retune-tuned.ensures a.tolerance.now a.points.now a.count.now a.handed.now _ c.in-Refused.is).1 }
