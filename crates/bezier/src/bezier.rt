@@ -254,8 +254,8 @@ fn last_third(start: Point3D, end: Point3D, c: Point3D) -> Point3D
 
 // A count of steps, from its float. It serves `course` too.
 pub fn whole_steps(needed: f64) -> usize
-    requires fact_1 { lt (fin true 1 (pos 0)) needed ≡ true }
-    requires fact_2 { le needed most_steps ≡ true }
+    requires above_minus_one { lt (fin true 1 (pos 0)) needed ≡ true }
+    requires at_most_all { le needed most_steps ≡ true }
     ensures { (result ≡ to_unsigned 64 needed) × (result ≤ 800) }
 {
     std::num::truncating_f64_to_u64(needed) as usize

@@ -98,8 +98,8 @@ impl Sums {
 
 // Fills in the length of the polyline up to each of n points.
 fn sum_chords(points: &[f64], n: usize, chords: &mut [f64])
-    requires le_n { (1 ≤ n) × (n ≤ length chords.old) × (2 * n ≤ length points.now) }
-    requires zero { get_or chords.old 0 nan ≡ +0 }
+    requires room { (1 ≤ n) × (n ≤ length chords.old) × (2 * n ≤ length points.now) }
+    requires starts_at_zero { get_or chords.old 0 nan ≡ +0 }
     ensures { Chords (pair_at points.now) n chords.new }
 {
     let mut last = 0.0;
@@ -111,7 +111,7 @@ fn sum_chords(points: &[f64], n: usize, chords: &mut [f64])
 
 // The sums over n points, at parameters by chord length.
 fn sum_up(points: &[f64], n: usize, chords: &[f64]) -> Sums
-    requires le_n { (1 ≤ n) × (n ≤ length chords.now) × (2 * n ≤ length points.now) }
+    requires room { (1 ≤ n) × (n ≤ length chords.now) × (2 * n ≤ length points.now) }
     requires filled { Chords (pair_at points.now) n chords.now }
     ensures { result ≡ cubic_sums (pair_at points.now) n }
 {

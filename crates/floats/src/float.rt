@@ -21,8 +21,8 @@ const ALL_WHOLE: f64 = 4503599627370496.0;
 
 // The least whole number that is not below x, for an x from +0 up and below 2^52.
 fn round_up(x: f64) -> f64
-    requires fact_1 { T (plain x) }
-    requires fact_2 { T (lt x (fin false 1 (pos 52))) }
+    requires is_plain { T (plain x) }
+    requires below_all_whole { T (lt x (fin false 1 (pos 52))) }
     ensures { result ≡ ceil_of x }
 {
     let n = std::num::truncating_f64_to_u64(x);
@@ -32,8 +32,8 @@ fn round_up(x: f64) -> f64
 
 // x without its fraction, its sign turned, for an x as above.
 fn cut_off(x: f64) -> f64
-    requires fact_1 { T (plain x) }
-    requires fact_2 { T (lt x (fin false 1 (pos 52))) }
+    requires is_plain { T (plain x) }
+    requires below_all_whole { T (lt x (fin false 1 (pos 52))) }
     ensures { result ≡ ceil_of (neg x) }
 {
     -(std::num::truncating_f64_to_u64(x) as f64)

@@ -74,8 +74,8 @@ fn put_lap(
     out: &mut [u8],
     to: usize,
 ) -> Added
-    requires tolerance_value { ((+0 ≺ tolerance) ≡ true) × (at + 73 * n ≤ length s.now) × (n ≤ most_commands) × (lap < 100) × (most_lap tolerance start (commands_at s.now at n) ≤ most_commands) × (to + 9 * most_lap tolerance start (commands_at s.now at n) ≤ length out.old) }
-    requires most_commands_in_bounds { (most_commands ≤ length kinds.old) × (9 * most_commands ≤ length nums.old) × (most_commands ≤ length row_kinds.old) × (9 * most_commands ≤ length row_nums.old) × (most_commands ≤ length row_steps.old) × (length chain.old ≡ chain_numbers) }
+    requires lap_fits { ((+0 ≺ tolerance) ≡ true) × (at + 73 * n ≤ length s.now) × (n ≤ most_commands) × (lap < 100) × (most_lap tolerance start (commands_at s.now at n) ≤ most_commands) × (to + 9 * most_lap tolerance start (commands_at s.now at n) ≤ length out.old) }
+    requires rooms { (most_commands ≤ length kinds.old) × (9 * most_commands ≤ length nums.old) × (most_commands ≤ length row_kinds.old) × (9 * most_commands ≤ length row_nums.old) × (most_commands ≤ length row_steps.old) × (length chain.old ≡ chain_numbers) }
     // All arrays but the output are lent as room to work in: what they hold at exit is left open.
     ensures text { TextPut (lap_text tolerance lap start (commands_at s.now at n)) out.old out.new to result.end }
     ensures sum { result.steps ≡ lap_steps tolerance start (commands_at s.now at n) }

@@ -74,7 +74,7 @@ pub fn head_of(s: &[u8; 112]) -> Head
 // Whether the counts fit the program's arrays, and no more is written than there is room for.
 pub fn is_whole(h: Head) -> bool
     ensures whole { result ≡ true → Whole h }
-    ensures fact { result ≡ false → Whole h → ⊥ }
+    ensures damaged { result ≡ false → Whole h → ⊥ }
 {
     if NUMBERS < h.numbers {
         return false;

@@ -18,7 +18,7 @@ returns-then-refused-gt0 c = let a = c.args in
 
 pub whole_steps-n-requires : goal.whole_steps-n-requires
 unfolding steps_needed step_count
-whole_steps-n-requires c = let e = c.steps_needed-needed.ensures in record { fact_1 = subst (λ (x : Float). lt (fin true 1 (pos 0)) x ≡ true) (sym e) (max_above _); fact_2 = c.if-needed.true }
+whole_steps-n-requires c = let e = c.steps_needed-needed.ensures in record { above_minus_one = subst (λ (x : Float). lt (fin true 1 (pos 0)) x ≡ true) (sym e) (max_above _); at_most_all = c.if-needed.true }
 
 pub returns-then-out-n : goal.returns-then-out-n
 unfolding param_call

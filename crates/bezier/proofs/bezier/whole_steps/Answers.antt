@@ -4,8 +4,8 @@ use Rattle.bezier.proofs.Count.{steps_small}
 use Rattle.bezier.proofs.bezier.whole_steps.Goals as goal
 
 pub truncating_f64_to_u64-requires : goal.truncating_f64_to_u64-requires
-truncating_f64_to_u64-requires c = record { lower_bound = subst T (sym c.requires.fact_1) tt; upper_bound = (steps_small c.args.needed c.requires.fact_1 c.requires.fact_2).0 }
+truncating_f64_to_u64-requires c = record { lower_bound = subst T (sym c.requires.above_minus_one) tt; upper_bound = (steps_small c.args.needed c.requires.above_minus_one c.requires.at_most_all).0 }
 
 pub returns : goal.returns
 returns c = let s = c in
-    (c.truncating_f64_to_u64.ensures, subst (λ (n : ℕ). n ≤ 800) (sym c.truncating_f64_to_u64.ensures) (steps_small s.args.needed s.requires.fact_1 s.requires.fact_2).1)
+    (c.truncating_f64_to_u64.ensures, subst (λ (n : ℕ). n ≤ 800) (sym c.truncating_f64_to_u64.ensures) (steps_small s.args.needed s.requires.above_minus_one s.requires.at_most_all).1)

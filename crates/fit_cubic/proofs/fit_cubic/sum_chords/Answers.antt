@@ -11,7 +11,7 @@ use Rattle.fit_cubic.proofs.Chords.{Filling, filling_start, filling_step}
 use Rattle.fit_cubic.proofs.fit_cubic.sum_chords.Goals as goal
 
 pub loop-i-init : goal.loop-i-init
-loop-i-init c = (filling_start (pair_at c.args.points.now) c.args.n c.args.chords.now c.requires.le_n.1 c.requires.zero, omega arith, refl)
+loop-i-init c = (filling_start (pair_at c.args.points.now) c.args.n c.args.chords.now c.requires.room.1 c.requires.starts_at_zero, omega arith, refl)
 
 pub pair_at-requires : goal.pair_at-requires
 pair_at-requires c = omega arith

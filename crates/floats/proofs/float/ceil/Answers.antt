@@ -19,7 +19,7 @@ both x r f e = (e, λ h. subst (λ (y : Float). LeastWhole x y) (sym e) (ceil_is
 
 pub round_up-requires : goal.round_up-requires
 unfolding of_bits
-round_up-requires c = record { fact_1 = above-plain c.args.x c.if-x.true c.if-x-2.true; fact_2 = subst T (sym c.if-x-2.true) tt }
+round_up-requires c = record { is_plain = above-plain c.args.x c.if-x.true c.if-x-2.true; below_all_whole = subst T (sym c.if-x-2.true) tt }
 
 pub returns-then-x-2 : goal.returns-then-x-2
 returns-then-x-2 c = record { value = (both _ _ (held (goal.at.returns-then-x-2 c).Start) c.round_up.ensures).0; least = (both _ _ (held (goal.at.returns-then-x-2 c).Start) c.round_up.ensures).1 }
@@ -30,7 +30,7 @@ returns-then-x c = let s = c in record { value = (both _ _ (held (goal.at.return
 
 pub cut_off-requires : goal.cut_off-requires
 unfolding of_bits
-cut_off-requires c = record { fact_1 = below_plain c.args.x c.if-x-3.true c.if-x-4.true; fact_2 = subst T (sym c.if-x-4.true) tt }
+cut_off-requires c = record { is_plain = below_plain c.args.x c.if-x-3.true c.if-x-4.true; below_all_whole = subst T (sym c.if-x-4.true) tt }
 
 pub returns-then-x-4 : goal.returns-then-x-4
 returns-then-x-4 c = let s = c in record { value = (both _ _ (held (goal.at.returns-then-x-4 c).Start) (c.cut_off.ensures ∙ ap ceil_of (neg_neg s.args.x))).0; least = (both _ _ (held (goal.at.returns-then-x-4 c).Start) (c.cut_off.ensures ∙ ap ceil_of (neg_neg s.args.x))).1 }

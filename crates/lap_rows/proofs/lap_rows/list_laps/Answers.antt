@@ -56,7 +56,7 @@ slice_bounds-put_lap-end-in-loop-j-5 c = c.loop-j.invariant.6
 
 pub put_lap-lap-requires : goal.put_lap-lap-requires
 put_lap-lap-requires c = let p = c.requires in let l = c.loop-j in let g = c.loop-j-test.true in let e = c.lap_count-l.ensures.0 in let i = l.invariant in
-    let t = turn _ _ _ _ l.out l.start _ l.at l.to l.total l.j _ i.0 g c.count_at-n.ensures.0 refl in record { tolerance_value = (p.0, t.lap.fits, t.lap.few, omega (arith, p.3, e, g), t.few, t.room); most_commands_in_bounds = (omega (arith, i.1), omega (arith, i.2), omega (arith, i.4), omega (arith, i.5), omega (arith, i.6), sym i.3) }
+    let t = turn _ _ _ _ l.out l.start _ l.at l.to l.total l.j _ i.0 g c.count_at-n.ensures.0 refl in record { lap_fits = (p.0, t.lap.fits, t.lap.few, omega (arith, p.3, e, g), t.few, t.room); rooms = (omega (arith, i.1), omega (arith, i.2), omega (arith, i.4), omega (arith, i.5), omega (arith, i.6), sym i.3) }
 
 pub overflow_add-total : goal.overflow_add-total
 overflow_add-total c = let l = c.loop-j in let t = turn_sum _ _ _ _ l.out l.start _ l.at l.to l.total l.j _ l.invariant.0 c.loop-j-test.true c.count_at-n.ensures.0 refl c.requires.4 _ c.put_lap-lap.ensures.sum in omega (arith, t)

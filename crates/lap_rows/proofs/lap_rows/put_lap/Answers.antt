@@ -12,10 +12,10 @@ use borrow.Author.Rules.{rules}
 use Rattle.lap_rows.proofs.lap_rows.put_lap.Goals as goal
 
 pub list_commands-rows-requires : goal.list_commands-rows-requires
-list_commands-rows-requires c = let p = c.requires.tolerance_value in let q = c.requires.most_commands_in_bounds in (p.0, p.1, omega (arith, p, q), omega (arith, p, q), p.4, omega (arith, p.4, q), omega (arith, p.4, q), q.5)
+list_commands-rows-requires c = let p = c.requires.lap_fits in let q = c.requires.rooms in (p.0, p.1, omega (arith, p, q), omega (arith, p, q), p.4, omega (arith, p.4, q), omega (arith, p.4, q), q.5)
 
 pub put_rows-requires : goal.put_rows-requires
-put_rows-requires c = let a = c.args in let p = c.requires.tolerance_value in let q = c.requires.most_commands_in_bounds in let w = c.list_commands-rows.ensures in
+put_rows-requires c = let a = c.args in let p = c.requires.lap_fits in let q = c.requires.rooms in let w = c.list_commands-rows.ensures in
     let l = commands_at a.s.now a.at a.n in
     let f = rows_few a.tolerance p.0 a.start l in
     let n = w.count in
@@ -25,7 +25,7 @@ put_rows-requires c = let a = c.args in let p = c.requires.tolerance_value in le
 
 pub returns : goal.returns
 unfolding lap_text
-returns c = let a = c.args in let p = c.requires.tolerance_value in let q = c.requires.most_commands_in_bounds in let w = c.list_commands-rows.ensures in
+returns c = let a = c.args in let p = c.requires.lap_fits in let q = c.requires.rooms in let w = c.list_commands-rows.ensures in
     let l = commands_at a.s.now a.at a.n in
     let f = rows_few a.tolerance p.0 a.start l in
     let e = rows_back _ _ _ _ _ _ w (omega (arith, f, p.4, q)) (omega (arith, f, p.4, q)) in record { text = text_same a.lap _ _ _ _ _ _ e c.put_rows.ensures.text; sum = c.put_rows.ensures.sum ∙ ap (λ (rs : List ListRow). sum_of (steps_in rs)) e ∙ rows-steps a.tolerance p.0 a.start l }
