@@ -1,5 +1,5 @@
 -- A count of steps as a float: at least 2, and at most 800 where it is turned into a whole number. Assumes nothing.
-use Rattle.std.proofs.Common.{◌≡◌, ℕ, ◌+◌, ◌-◌, ◌*◌, ◌^◌, ◌≤◌, Bool, true, false, T, ℤ, pos, sym, refl, ◌∙◌, subst, ⊎_elim, le_trans, mul_comm, mul-one, arith, lt→ltb}
+use Rattle.std.proofs.Common.{◌≡◌, ℕ, ◌+◌, ◌*◌, ◌^◌, ◌≤◌, Bool, true, false, T, ℤ, pos, sym, refl, ◌∙◌, subst, ⊎_elim, le_trans, mul_comm, mul-one, arith, lt→ltb}
 use native.Mathlib.Nat.{div-le_of_le-mul, min-le_left}
 use lib.Ieee.{Float, nan, inf, fin, up, down, lt, le, eq, is_nan, of_bits, to_unsigned}
 use lib.Ieee.Fits.{down_pos}

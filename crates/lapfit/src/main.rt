@@ -6,11 +6,12 @@ ghost use Rattle.std.specs.Prelude.{◌≡◌, ◌++◌, length, drop};
 ghost use Rattle.lap_rows.specs.Listing.{most_text};
 ghost use Rattle.lapfit.specs.Input.{lapfit_text};
 
+use buffers::read_full;
 use geo::types::Answer;
 use lap_text::text::put_refusal;
-use libc::{STDIN_FILENO, STDOUT_FILENO};
 use printing::input::list_input;
 use printing::rest::drain;
+use std::io;
 
 // Writes what the program prints to the front of out, and answers how many bytes it has.
 fn print_input(input: &[u8], out: &mut [u8]) -> usize
@@ -39,11 +40,12 @@ fn output_buffer() -> [u8; 7225]
     [0; 7225]
 }
 
-fn main() {
+fn main(rt: HostRuntime) -> io::Result<()> {
     let mut input = input_buffer();
     let mut out = output_buffer();
-    let n = io::read_full(STDIN_FILENO, &mut input);
-    drain(n, 65545);
+    let mut reader = rt.reader();
+    let n = read_full(&mut reader, &mut input)?;
+    drain(&mut reader, n, 65545)?;
     let m = print_input(&input[..n], &mut out);
-    io::write_all(STDOUT_FILENO, &out[..m]);
+    rt.write_all(&out[..m])
 }

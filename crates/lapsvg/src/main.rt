@@ -4,10 +4,11 @@
 ghost use Rattle.std.specs.Prelude.{◌≡◌, ◌++◌, length, drop};
 ghost use Rattle.lapsvg.specs.Output.{most_file, lapsvg_bytes};
 
+use buffers::read_full;
 use geo::types::Answer;
 use lap_text::text::put_refusal;
-use libc::{STDIN_FILENO, STDOUT_FILENO};
 use printing::rest::drain;
+use std::io;
 use svg::reading::read_course;
 
 // The bytes of a buffer for the longest text, and one byte more, by which a longer one is told.
@@ -39,11 +40,12 @@ fn output_buffer() -> [u8; 58920]
     [0; 58920]
 }
 
-fn main() {
+fn main(rt: HostRuntime) -> io::Result<()> {
     let mut input = input_buffer();
     let mut out = output_buffer();
-    let n = io::read_full(STDIN_FILENO, &mut input);
-    drain(n, INPUT);
+    let mut reader = rt.reader();
+    let n = read_full(&mut reader, &mut input)?;
+    drain(&mut reader, n, INPUT)?;
     let m = print_input(&input[..n], &mut out);
-    io::write_all(STDOUT_FILENO, &out[..m]);
+    rt.write_all(&out[..m])
 }

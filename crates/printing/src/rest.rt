@@ -1,16 +1,22 @@
-// What is left of standard input behind a full buffer.
-use libc::STDIN_FILENO;
+// What is left of a reader behind a full buffer.
+use buffers::read_full;
+use std::io;
+use std::io::Read;
+
+// How many bytes are forgotten at a time.
+const PART: usize = 65536;
 
 // Reads what is left of the input behind its first n bytes, and forgets it. An input that did not fill its buffer, of `size`
 // bytes, has ended.
-pub fn drain(n: usize, size: usize) {
+pub fn drain<R: Read>(reader: &mut R, n: usize, size: usize) -> io::Result<()> {
     if n < size {
-        return;
+        return Ok(());
     }
-    let mut rest = io::large_buffer();
-    for _ in 0..0xffff_ffff_ffff_ffffu64 {
-        if io::read_full(STDIN_FILENO, &mut rest) < 65536 {
-            return;
+    let mut rest = [0; PART];
+    for _ in 0..u64::MAX {
+        if read_full(reader, &mut rest)? < PART {
+            return Ok(());
         }
     }
+    Ok(())
 }

@@ -16,13 +16,15 @@ mod thinner;
 ghost use Rattle.std.specs.Prelude.{◌≡◌, ◌≤◌, length};
 ghost use Rattle.records.specs.Record.{Whole, body_bytes};
 
+use buffers::read_full;
 use geo::types::Answer;
-use libc::{STDIN_FILENO, STDOUT_FILENO};
 use records::layout::{
     BEFORE, BEFORE_BYTE, BODY_SIZE, BYTES, HEAD_SIZE, Head, NUMBERS, ROOM, body_size, head_of,
     is_answered, is_output, is_whole,
 };
 use records::read_numbers;
+use std::io;
+use std::io::Read;
 
 // The size of small outputs.
 const SMALL: usize = 1000;
@@ -97,36 +99,36 @@ enum Found {
 }
 
 // Reads what stands behind a head, and replays the record.
-fn replay_body(h: Head, body: &mut [u8]) -> Found
+fn replay_body<R: Read>(reader: &mut R, h: Head, body: &mut [u8]) -> io::Result<Found>
     requires { Whole h × (618400 ≤ length body.old) }
 {
     let size = body_size(h);
-    if io::read_full(STDIN_FILENO, &mut body[0..size]) < size {
-        return Found::Damaged;
+    if read_full(reader, &mut body[0..size])? < size {
+        return Ok(Found::Damaged);
     }
     if agrees(h, body) {
-        return Found::Agrees;
+        return Ok(Found::Agrees);
     }
-    Found::Differs
+    Ok(Found::Differs)
 }
 
 // Reads the next record and replays it.
-fn replay_one(body: &mut [u8]) -> Found
+fn replay_one<R: Read>(reader: &mut R, body: &mut [u8]) -> io::Result<Found>
     requires { 618400 ≤ length body.old }
 {
     let mut head = [0; HEAD_SIZE];
-    let n = io::read_full(STDIN_FILENO, &mut head);
+    let n = read_full(reader, &mut head)?;
     if n == 0 {
-        return Found::End;
+        return Ok(Found::End);
     }
     if n < HEAD_SIZE {
-        return Found::Damaged;
+        return Ok(Found::Damaged);
     }
     let h = head_of(&head);
     if is_whole(h) {
-        return replay_body(h, body);
+        return replay_body(reader, h, body);
     }
-    Found::Damaged
+    Ok(Found::Damaged)
 }
 
 // Room for what stands behind a head. The promise gives only the length, which lending the array asks.
@@ -143,40 +145,39 @@ struct Tally {
 }
 
 // Replays the records, one behind the other.
-fn replay_all() -> Tally {
+fn replay_all<R: Read>(reader: &mut R) -> io::Result<Tally> {
     let mut body = body_buffer();
     let mut differ: u64 = 0;
     for i in 0..1000000 {
-        let r = replay_one(&mut body);
-        match r {
+        match replay_one(reader, &mut body)? {
             Found::Agrees => {}
             Found::Differs => {
                 differ += 1;
             }
             Found::Damaged => {
-                return Tally {
+                return Ok(Tally {
                     compared: i,
                     differ: differ + 1,
-                };
+                });
             }
             Found::End => {
-                return Tally {
+                return Ok(Tally {
                     compared: i,
                     differ,
-                };
+                });
             }
         }
     }
-    Tally {
+    Ok(Tally {
         compared: 1000000,
         differ,
-    }
+    })
 }
 
-fn main() {
-    let t = replay_all();
-    io::print_decimal(STDOUT_FILENO, t.compared);
-    io::write_all(STDOUT_FILENO, b" compared, ");
-    io::print_decimal(STDOUT_FILENO, t.differ);
-    io::write_all(STDOUT_FILENO, b" differ\n");
+fn main(rt: HostRuntime) -> io::Result<()> {
+    let mut reader = rt.reader();
+    let t = replay_all(&mut reader)?;
+    let compared = t.compared;
+    let differ = t.differ;
+    println!(rt; "{compared} compared, {differ} differ")
 }

@@ -4,9 +4,10 @@
 
 ghost use Rattle.std.specs.Prelude.{◌*◌, ◌≤◌, length};
 
+use buffers::read_full;
 use file::words::{float_of, word_at};
-use libc::{STDIN_FILENO, STDOUT_FILENO};
 use records::has_pattern;
+use std::io;
 
 // Whether the root of the number has the expected pattern.
 fn is_same(number: u64, expected: u64) -> bool {
@@ -28,12 +29,13 @@ fn differences(s: &[u8], n: usize) -> u64
     differ
 }
 
-fn main() {
-    let mut records = io::large_buffer();
-    let n = io::read_full(STDIN_FILENO, &mut records) / 16;
+// How many bytes 4,096 records have.
+const ALL: usize = 65536;
+
+fn main(rt: HostRuntime) -> io::Result<()> {
+    let mut records = [0; ALL];
+    let mut reader = rt.reader();
+    let n = read_full(&mut reader, &mut records)? / 16;
     let differ = differences(&records, n);
-    io::print_decimal(STDOUT_FILENO, n as u64);
-    io::write_all(STDOUT_FILENO, b" compared, ");
-    io::print_decimal(STDOUT_FILENO, differ);
-    io::write_all(STDOUT_FILENO, b" differ\n");
+    println!(rt; "{n} compared, {differ} differ")
 }

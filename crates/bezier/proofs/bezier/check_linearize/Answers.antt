@@ -1,6 +1,6 @@
 -- `bezier::bezier::check_linearize` meets its contract: each return is the first row that fails, by the tests before it. Assumes nothing.
 use Rattle.std.proofs.Common.{ap, not}
-use Rattle.std.proofs.Common.{sym, ◌∙◌, rules, le-ltb, lt-ltb}
+use Rattle.std.proofs.Common.{sym, ◌∙◌, le-ltb, lt-ltb}
 use Rattle.geo.proofs.Rows.{row_fails, row-passes, not_fails, not_passes, whole_fails, whole-passes, done}
 use Rattle.bezier.specs.Calls.{linearize_rows}
 use Rattle.bezier.proofs.Rows.{none_fails, many_fails, count-passes}

@@ -1,6 +1,6 @@
 -- `bezier::bezier::check_params` meets its contract: each return is the first row that fails, by the tests before it. Assumes nothing.
 use Rattle.std.proofs.Common.{ap, not}
-use Rattle.std.proofs.Common.{sym, ◌∙◌, rules}
+use Rattle.std.proofs.Common.{sym, ◌∙◌}
 use Rattle.geo.proofs.Rows.{row_fails, row-passes, not_fails, not_passes, whole_fails, whole-passes, done}
 use Rattle.bezier.specs.Calls.{param_first_rows}
 use Rattle.bezier.proofs.bezier.check_params.Goals as goal

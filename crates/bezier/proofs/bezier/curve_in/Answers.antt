@@ -1,6 +1,6 @@
 -- `bezier::bezier::curve_in` meets its contract: a conjunction, left at the first test that fails. Assumes nothing.
 use Rattle.std.proofs.Common.{ap, not}
-use Rattle.std.proofs.Common.{true, rules}
+use Rattle.std.proofs.Common.{true}
 use Rattle.geo.proofs.And.{all_4, all_4_third, all_4_second, all_4_first}
 use Rattle.bezier.proofs.bezier.curve_in.Goals as goal
 

@@ -1,6 +1,6 @@
 -- `bezier::bezier::get_bezier_point_at` meets its contract: each return is the row of the table that its tests led to. Assumes nothing.
 use Rattle.std.proofs.Common.{not}
-use Rattle.std.proofs.Common.{ap, ◌∙◌, rules}
+use Rattle.std.proofs.Common.{ap, ◌∙◌}
 use borrow.Author.Tests.{not-true, not-false}
 use Rattle.geo.specs.declared.types.CubicBezier.{CubicBezier}
 use Rattle.bezier.specs.Curve.{curve_in}

@@ -1,5 +1,5 @@
 -- `bezier::bezier::linearize_bezier` meets its contract: a refusal by the check's number, else the steps at the front. Assumes nothing.
-use Rattle.std.proofs.Common.{◌≡◌, length, sym, refl, arith, rules}
+use Rattle.std.proofs.Common.{◌≡◌, length, sym, refl, arith}
 use Rattle.geo.specs.Lent.{flat}
 use Rattle.geo.proofs.Walk.{list_length}
 use Rattle.geo.proofs.Flat.{flat_length}

@@ -1,6 +1,6 @@
 -- `bezier::bezier::linearize_bezier_from_params` meets its contract: the first rows by their check, then the count of steps, then the room; else the steps at the front. Assumes nothing.
 use Rattle.bezier.proofs.Rows.{param_refused, param_many, param_no_room, param_accepted, param_length}
-use Rattle.std.proofs.Common.{◌≡◌, ℕ, ◌*◌, ◌<◌, ◌≤◌, true, length, pos, sym, refl, ◌∙◌, subst, arith, rules}
+use Rattle.std.proofs.Common.{◌≡◌, ℕ, ◌*◌, ◌<◌, ◌≤◌, true, length, pos, sym, refl, ◌∙◌, subst, arith}
 use lib.Ieee.{Float, fin, lt}
 use Rattle.geo.specs.Lent.{flat}
 use Rattle.geo.proofs.Flat.{flat_length}

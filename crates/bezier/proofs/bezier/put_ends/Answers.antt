@@ -1,7 +1,7 @@
 -- `bezier::bezier::put_ends` meets its contract: what is left to write, written from here, gives the whole. The measure is how many steps are left. Assumes nothing.
-use Rattle.std.proofs.Common.{◌-◌, refl, ◌∙◌, arith, rules}
+use Rattle.std.proofs.Common.{refl, ◌∙◌, arith}
 use Rattle.bezier.specs.Linearize.{step_end, step_at, steps}
-use Rattle.bezier.proofs.Ends.{WritingAt, writing_at_start, writing_at_step, writing_at_done}
+use Rattle.bezier.proofs.Ends.{writing_at_start, writing_at_step, writing_at_done}
 use Rattle.bezier.proofs.bezier.put_ends.Goals as goal
 
 pub loop-i-init : goal.loop-i-init

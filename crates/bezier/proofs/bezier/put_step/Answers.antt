@@ -1,5 +1,5 @@
 -- `bezier::bezier::put_step` meets its contract: two points stored one behind the other are one run. Assumes nothing.
-use Rattle.std.proofs.Common.{sym, ◌∙◌, rules}
+use Rattle.std.proofs.Common.{sym, ◌∙◌}
 use Rattle.geo.specs.Lent.{triple}
 use Rattle.geo.proofs.Stores.{sets_append}
 use Rattle.bezier.proofs.bezier.put_step.Goals as goal

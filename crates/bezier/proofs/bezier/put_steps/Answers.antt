@@ -1,8 +1,8 @@
 -- `bezier::bezier::put_steps` meets its contract: the loop's invariant is that the steps left, written from here, give the whole, that `from` is the point at the parameter reached, and that it counts one evaluation more than the steps made. The measure is how many steps are left. Assumes nothing.
-use Rattle.std.proofs.Common.{◌≡◌, ℕ, ◌+◌, ◌-◌, sym, refl, ap, ◌∙◌, arith, rules}
+use Rattle.std.proofs.Common.{◌≡◌, ℕ, ◌+◌, sym, refl, ap, ◌∙◌, arith}
 use Rattle.geo.proofs.Flat.{writing_start, writing_step, writing_done}
 use Rattle.bezier.specs.Linearize.{six, step_at, steps}
-use Rattle.bezier.proofs.Evaluations.{evaluations, Stepping}
+use Rattle.bezier.proofs.Evaluations.{evaluations}
 use Rattle.bezier.proofs.bezier.put_steps.Goals as goal
 
 pub loop-i-init : goal.loop-i-init

@@ -1,6 +1,5 @@
 -- `bezier::bezier::steps_needed` meets its contract: the callees' promises, put together as the definition has them. Assumes nothing.
 use Rattle.bezier.specs.Linearize.{steps_needed, step_count, polygon_length}
-use Rattle.std.proofs.Common.{rules}
 use Rattle.bezier.proofs.bezier.steps_needed.Goals as goal
 
 pub returns : goal.returns

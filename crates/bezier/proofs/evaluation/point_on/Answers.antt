@@ -1,6 +1,5 @@
 -- `bezier::evaluation::point_on` meets its contract: the weights once, and each coordinate by them. Assumes nothing.
 use Rattle.bezier.specs.Curve.{point_on}
-use Rattle.std.proofs.Common.{rules}
 use Rattle.bezier.proofs.evaluation.point_on.Goals as goal
 
 pub returns : goal.returns

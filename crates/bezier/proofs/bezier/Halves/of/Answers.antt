@@ -1,6 +1,5 @@
 -- `bezier::bezier::Halves::of` meets its contract: six points by de Casteljau's rule, as the definition has them. Assumes nothing.
 use Rattle.bezier.specs.Curve.{meeting, left_part, right_part}
-use Rattle.std.proofs.Common.{rules}
 use Rattle.bezier.proofs.bezier.Halves.of.Goals as goal
 
 pub returns : goal.returns
