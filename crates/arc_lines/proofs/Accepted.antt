@@ -1,18 +1,17 @@
 -- What an accepted call's arguments are: points and an offset in the domain, both radii 1e-9 or longer; and so its vectors are bounded, and beside each other. Assumes nothing.
 use Prim.Native.Nat.{ℕ}
-use mathlib.Core.Path.{◌≡◌, sym, ap, ◌∙◌, subst}
+use mathlib.Core.Path.{◌≡◌, subst}
 use mathlib.Core.Bool.{Bool, true, false, not, ◌&&◌}
 use mathlib.Core.List.{List}
 use native.Mathlib.Omega.{arith}
 use borrow.Author.Tests.{eqb-true, not-true, not-false}
 use lib.Dec.{eqb}
 use lib.Ieee.{Float}
-use Rattle.floats.specs.Ops.{◌≺◌, ◌⊕◌, ◌⊖◌, +0}
+use Rattle.floats.specs.Ops.{◌≺◌, ◌⊖◌}
 use Rattle.floats.specs.Limits.{nano}
 use Rattle.floats.specs.Float.{abs_of}
 use Rattle.floats.proofs.Order.{and_left, and_right}
 use Rattle.floats.proofs.Bounds.{Below, below_more, add_below, sub_below}
-use Rattle.geo.specs.declared.types.Point.{Point}
 use Rattle.geo.specs.declared.types.Point3D.{Point3D}
 use Rattle.geo.specs.declared.types.Command.{Command}
 use Rattle.geo.specs.Lent.{point_at, command_of}
@@ -20,7 +19,6 @@ use Rattle.geo.specs.Domain.{point3_in, finite3, command_in}
 use Rattle.geo.specs.Outcome.{refusal, gives}
 use Rattle.geo.proofs.Rows.{row_passed, unless-given}
 use Rattle.trial.specs.Traversal.{offset_of}
-use Rattle.course.proofs.FiniteCenters.{Placed}
 use Rattle.course.proofs.FinitePoints.{and3, point_in}
 use Rattle.flatten.specs.Parts.{centre_of, length_by}
 use Rattle.flatten.specs.Lines.{drawn}

@@ -1,8 +1,8 @@
 -- What the Lines of an Arc are: all that the marker checks, together, of every call that is accepted. Assumes nothing.
 use Prim.Native.Nat.{ℕ, zero, suc, ◌+◌, ◌-◌, ◌*◌, ◌≤◌, ◌<◌}
 use mathlib.Core.Path.{◌≡◌, refl, sym, ap, ◌∙◌, subst}
-use mathlib.Core.Bool.{Bool, true}
-use mathlib.Core.List.{List, [], ◌∷◌, ◌++◌}
+use mathlib.Core.Bool.{Bool}
+use mathlib.Core.List.{List, [], ◌∷◌}
 use native.Mathlib.Omega.{arith}
 use borrow.Author.Tests.{eq-eqb, ne_eqb}
 use lib.ListN.{length, get_or}
@@ -17,12 +17,12 @@ use Rattle.geo.specs.Lent.{point_at}
 use Rattle.geo.specs.Outcome.{refusal, gives}
 use Rattle.geo.proofs.Rows.{unless-given}
 use Rattle.trial.specs.Traversal.{offset_of, dot2}
-use Rattle.flatten.specs.Parts.{most_halvings, centre_of, length_by, quarter_turn, onward, turns_before, ArcPart, arc_part, halved, quartered, parts_between, parts_of}
+use Rattle.flatten.specs.Parts.{most_halvings, centre_of, length_by, quarter_turn, onward, turns_before, ArcPart, halved, quartered, parts_between, parts_of}
 use Rattle.flatten.specs.Lines.{height_after, end_after, line_after, numbered, lines_of, drawn}
 use Rattle.flatten.specs.Calls.{flatten_rows, flatten_call}
 use Rattle.flatten.proofs.Parts.{turns-few, quartered-some, quartered-few}
 use Rattle.flatten.proofs.Lines.{numbered_length}
-use Rattle.arc_lines.specs.Laws.{Chained, TurnDrawn, TurnsDrawn, line_to, Drawing}
+use Rattle.arc_lines.specs.Laws.{Chained, TurnsDrawn, line_to, Drawing}
 use Rattle.arc_lines.proofs.Halving.{chained-both, quarter-drawn}
 use Rattle.arc_lines.proofs.Quarters.{Sided, turns-before-end}
 use Rattle.arc_lines.proofs.Accepted.{call_drawable, vectors_sided}

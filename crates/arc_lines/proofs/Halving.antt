@@ -1,5 +1,5 @@
 -- The parts of one quarter: they follow one another, and each met the test or took all its halvings. Assumes nothing.
-use Prim.Native.Nat.{ℕ, zero, suc, ◌+◌, ◌≤◌}
+use Prim.Native.Nat.{ℕ, zero, suc}
 use mathlib.Core.Path.{◌≡◌, refl, sym, ap, subst}
 use mathlib.Core.Logic.{◌⊎◌, inl, inr, ⊎_elim}
 use mathlib.Core.Bool.{true, false}
@@ -10,9 +10,9 @@ use lib.Ieee.{Float}
 use Rattle.floats.specs.Ops.{◌≺◌}
 use Rattle.floats.proofs.Order.{either}
 use Rattle.geo.specs.declared.types.Point.{Point}
-use Rattle.flatten.specs.Parts.{most_halvings, bulge, middle, ArcPart, arc_part, halved}
+use Rattle.flatten.specs.Parts.{most_halvings, bulge, middle, ArcPart, halved}
 use Rattle.flatten.proofs.Parts.{halved-some, quarter-few}
-use Rattle.arc_lines.specs.Laws.{Chained, Half, first, second, CameBy, Finished, AllFinished, QuarterDrawn}
+use Rattle.arc_lines.specs.Laws.{Chained, Half, first, second, Finished, AllFinished, QuarterDrawn}
 
 -- ---- one run of parts behind another
 pub chained-both : (u v w : Point) (ps qs : List ArcPart) → Chained u ps v → Chained v qs w → Chained u (ps ++ qs) w

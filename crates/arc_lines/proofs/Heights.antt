@@ -1,13 +1,13 @@
 -- The height after each part of an accepted Arc is finite. Assumes nothing.
-use Prim.Native.Nat.{ℕ, ◌*◌, ◌^◌, ◌≤◌}
+use Prim.Native.Nat.{ℕ, ◌≤◌}
 use mathlib.Core.Path.{◌≡◌}
 use mathlib.Core.Bool.{true, false}
 use native.Mathlib.Omega.{arith}
 use lib.IntN.{pos}
 use lib.Dec.{lit<}
-use lib.Ieee.{Float, binary64, of_int, round}
-use Rattle.floats.specs.Ops.{◌⊕◌, ◌⊖◌, ◌⊗◌, ◌⊘◌}
-use Rattle.floats.proofs.Bounds.{Within, Below, AtLeast, round_within, below_more, add_below, sub_below, mul_below, div_below}
+use lib.Ieee.{binary64, of_int}
+use Rattle.floats.specs.Ops.{◌⊖◌, ◌⊘◌}
+use Rattle.floats.proofs.Bounds.{Below, round_within, below_more, add_below, sub_below, mul_below, div_below}
 use Rattle.geo.specs.declared.types.Point3D.{Point3D}
 use Rattle.geo.specs.Domain.{is_finite, point3_in}
 use Rattle.course.proofs.FinitePoints.{point_in}

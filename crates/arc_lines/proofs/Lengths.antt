@@ -165,7 +165,7 @@ square-units b l (fin s m e) o f h w = go s w
     go true v = unfold in_units in there v
     go false v = unfold in_units in there v
 
--- no finite x lies nearer to the exact root of s than `rootOf s` does
+-- no finite x lies nearer to the exact root of s than `root_of s` does
 root_near : (b : ℕ) (x s : Float) → T (fits binary64 x) → Within b x → T (fits binary64 s) → T (plain s) → in_units (root_of s) < in_units x
     → 4 * (in_units s * 2 ^ 1074) ≤ (in_units (root_of s) + in_units x) * (in_units (root_of s) + in_units x)
 unfolding squared

@@ -1,24 +1,24 @@
 -- The cross and the dot of two vectors, each 1e-9 long or longer, do not both come out as zero: of the two sums one adds numbers of one sign, and where these are both
 -- too small to tell, one number of the other outweighs the other. Assumes nothing.
-use Prim.Native.Nat.{ℕ, ◌+◌, ◌*◌, ◌^◌, ◌≤◌}
-use mathlib.Core.Path.{◌≡◌, refl, sym, ap, ◌∙◌, subst}
+use Prim.Native.Nat.{ℕ, ◌^◌}
+use mathlib.Core.Path.{◌≡◌, refl, sym, ◌∙◌, subst}
 use mathlib.Core.Logic.{◌⊎◌, inl, inr, ⊎_elim}
 use mathlib.Core.Bool.{Bool, true, false, not, ◌||◌}
 use native.Mathlib.Omega.{arith}
 use lib.Dec.{T}
-use lib.Ieee.{Float, nan, inf, fin, binary64, up, down, size, odd, units, round, sum, unlike, add, sub, mul, neg, lt, le, is_nan, fits, of_bits}
+use lib.Ieee.{Float, nan, inf, fin, binary64, round, unlike, sub, neg, lt, le, is_nan, of_bits}
 use lib.Ieee.Fits.{add-fits, round-fits}
-use Rattle.floats.specs.Ops.{◌⊕◌, ◌⊖◌, ◌⊗◌, ◌≺◌, +0}
+use Rattle.floats.specs.Ops.{◌⊕◌, ◌⊗◌, ◌≺◌, +0}
 use Rattle.floats.specs.Limits.{nano}
 use Rattle.floats.specs.Float.{is_minus}
-use Rattle.floats.specs.Root.{better, root_in, whole_root, root_from, in_units, root_of, plain}
-use Rattle.floats.proofs.Order.{clash, lt_gap, le_below, le_right, lt_or_ge}
-use Rattle.floats.proofs.Bounds.{Within, Below, AtLeast, add_below, mul_below, neg_below, neg_within, below_more}
+use Rattle.floats.specs.Root.{root_of, plain}
+use Rattle.floats.proofs.Order.{clash, lt_gap, le_below}
+use Rattle.floats.proofs.Bounds.{Within, Below, AtLeast, add_below, mul_below, neg_below, below_more}
 use Rattle.floats.proofs.root.Plain.{square-plain, add_plain}
 use Rattle.floats.proofs.root.Nearest.{root_is_rounded}
 use Rattle.floats.proofs.root.Monotone.{root_monotone}
 use Rattle.geo.specs.declared.types.Point.{Point}
-use Rattle.geo.specs.Vector.{length_of, length_sq}
+use Rattle.geo.specs.Vector.{length_of}
 use Rattle.trial.specs.Traversal.{cross2, dot2}
 use Rattle.flatten.specs.Parts.{length_by, onward}
 use Rattle.arc_lines.proofs.Quarters.{Sided}

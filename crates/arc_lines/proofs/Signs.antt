@@ -2,16 +2,16 @@
 use Prim.Native.Nat.{ℕ, zero, suc, ◌+◌, ◌-◌, ◌*◌, ◌/◌, ◌%◌, ◌^◌, ◌≤◌, ◌<◌, compare}
 use mathlib.Core.Path.{◌≡◌, refl, sym, ap, ◌∙◌, subst}
 use mathlib.Core.Logic.{⊎_elim}
-use mathlib.Core.Bool.{Bool, true, false, not, ◌&&◌, cond}
+use mathlib.Core.Bool.{Bool, true, false, not, cond}
 use native.Mathlib.Nat.{zero-mul, mul-pos, mul_comm, add_comm}
 use native.Mathlib.Omega.{arith}
-use borrow.Author.Tests.{lt-ltb, le-ltb, ltb-true, ltb-false}
+use borrow.Author.Tests.{lt-ltb, le-ltb}
 use lib.Dec.{ltb, eqb, lit<}
 use lib.IntN.{ℤ}
-use lib.Ieee.{Float, nan, inf, fin, binary64, low, emax, prec, up, down, size, nearest, odd, units, round, sum, unlike, add, sub, mul, neg, lt, of_bits}
-use lib.Ieee.Fits.{up_pos, down_pos}
-use Rattle.floats.specs.Ops.{◌⊕◌, ◌⊖◌, ◌⊗◌, ◌≺◌, +0}
-use Rattle.floats.proofs.Order.{either, clash, lt_or_ge}
+use lib.Ieee.{Float, nan, inf, fin, binary64, low, emax, prec, up, down, size, nearest, odd, units, round, sum, unlike, add, mul, neg, lt, of_bits}
+use lib.Ieee.Fits.{down_pos}
+use Rattle.floats.specs.Ops.{◌⊕◌, ◌⊗◌, ◌≺◌, +0}
+use Rattle.floats.proofs.Order.{either, lt_or_ge}
 use Rattle.floats.proofs.Bounds.{Within, round_within}
 use Rattle.floats.proofs.float.Large.{neg_neg}
 

@@ -2,11 +2,11 @@
 use Prim.Native.Nat.{ℕ, ◌+◌, ◌-◌, ◌*◌, ◌^◌, ◌≤◌, ◌<◌}
 use mathlib.Core.Path.{◌≡◌, refl, sym, ap, ◌∙◌, subst}
 use mathlib.Core.Logic.{◌⊎◌, inl, inr, ⊎_elim}
-use mathlib.Core.Bool.{Bool, true, false, not, ◌&&◌, ◌||◌, cond}
-use native.Mathlib.Nat.{le_trans, le_of_eq, le_of_lt, mul-pos, mul_comm, mul_assoc, mul_left_comm, mul_right_comm, mul-le-mul, mul-le-mul_right, mul-mul-mul_comm, le_of_mul-le-mul_right, one-mul, add-mul, zero-mul, mul-sub}
+use mathlib.Core.Bool.{Bool, true, false, not, ◌||◌, cond}
+use native.Mathlib.Nat.{le_trans, le_of_eq, le_of_lt, mul-pos, mul_comm, mul_assoc, mul_right_comm, mul-le-mul, mul-le-mul_right, mul-mul-mul_comm, le_of_mul-le-mul_right, one-mul, add-mul, zero-mul, mul-sub}
 use native.Mathlib.Omega.{arith}
-use borrow.Author.Tests.{lt-ltb, le-ltb, ltb-true}
-use lib.Dec.{T, ltb, eqb, lit<}
+use borrow.Author.Tests.{lt-ltb, le-ltb}
+use lib.Dec.{ltb, lit<}
 use lib.IntN.{ℤ, pos}
 use lib.Pow.{pow-add, pow_pos, pow-lt, pow_mono}
 use lib.Ieee.{Float, nan, inf, fin, binary64, up, down, round, sum, unlike, add, mul, neg, lt, le, eq, of_bits, of_int}
@@ -16,7 +16,7 @@ use lib.Ieee.Exact.{HasValue, round_exact}
 use lib.Ieee.Order.{round_mono}
 use Rattle.floats.specs.Ops.{◌⊕◌, ◌⊗◌, ◌≺◌, +0}
 use Rattle.floats.specs.Float.{is_minus}
-use Rattle.floats.proofs.Order.{either, clash, lt_or_ge}
+use Rattle.floats.proofs.Order.{clash, lt_or_ge}
 use Rattle.floats.proofs.Bounds.{Within, AtLeast, or_le, neg_within, round_within}
 use Rattle.floats.proofs.Unsigned.{Plus, round_plus}
 use Rattle.floats.proofs.float.Large.{neg_neg}

@@ -2,7 +2,7 @@
 use Rattle.std.specs.Prelude.{ℕ, ◌≡◌, List, [], ◌∷◌, Float}
 use Rattle.std.specs.Float.Ieee.{neg}
 use Rattle.floats.specs.Ops.{◌⊗◌, ◌⊘◌, +0, half, one, two, three}
-use Rattle.floats.specs.Limits.{fraction, thousandth, nano}
+use Rattle.floats.specs.Limits.{fraction, nano}
 use Rattle.floats.specs.Root.{root_of}
 use Rattle.geo.specs.declared.types.Point3D.{Point3D}
 use Rattle.geo.specs.declared.types.Command.{Command}

@@ -9,7 +9,6 @@ use lib.IntN.{pos}
 use lib.Ieee.{Float, fin, lt, le, to_unsigned}
 use Rattle.floats.specs.Ops.{◌⊘◌}
 use Rattle.geo.specs.declared.types.Point3D.{Point3D}
-use Rattle.geo.specs.declared.types.Command.TheVariants.{Bezier}
 use Rattle.geo.specs.Lent.{flat}
 use Rattle.geo.proofs.Flat.{flat_length}
 use Rattle.bezier.specs.Linearize.{Step, step_end, steps, polygon_length, steps_needed, step_count, param_steps, first_third, last_third}

@@ -15,7 +15,7 @@ use geo::lent::put_pair;
 use geo::types::{CubicBezier, Point, Point3D};
 use subdivision::subdivision::{Flatness, Tolerance};
 
-// The planePoint at t of a curve in the plane.
+// The plane_point at t of a curve in the plane.
 #[unsafe(no_mangle)]
 pub extern "C" fn pz_get_bezier_point_at(
     p0x: f64,

@@ -10,7 +10,7 @@ use deviations::deviations::{ArcDeviation, LineDeviation};
 use fitting::fitting::Primitives;
 use geo::types::Point;
 
-// The greatest distance of a planePoint from the line through the points at start and end, and the first planePoint that has it.
+// The greatest distance of a plane_point from the line through the points at start and end, and the first plane_point that has it.
 #[unsafe(no_mangle)]
 pub extern "C" fn pz_get_polyline_line_deviation(
     points: &[f64],

@@ -18,7 +18,7 @@ unfolding farther
 farthest_of f zero i best = best
 farthest_of f (suc n) i best = farthest_of f n (i + 1) (farther (f i) i best)
 
--- the first farthest of the points strictly between lo and hi from the chord of the two; `onChord lo` where none lies off it
+-- the first farthest of the points strictly between lo and hi from the chord of the two; `on_chord lo` where none lies off it
 unfoldable pub farthest_in : {P : Type 0} → Measure P → (ℕ → P) → ℕ → ℕ → Farthest
 unfolding farthest_of
 farthest_in m at lo hi =

@@ -29,7 +29,7 @@ is_minus (fin s m e) = s
 abbrev pub whole_number : Bool → ℕ → Float
 whole_number s n = fin s n (pos 0)
 
--- r is the least whole number that is not below x, and has its sign: what IEEE 754 calls x rounded to a whole number toward positive. No formula of `ceilOf` stands here.
+-- r is the least whole number that is not below x, and has its sign: what IEEE 754 calls x rounded to a whole number toward positive. No formula of `ceil_of` stands here.
 pub record LeastWhole (x r : Float) : Type 0 where
   pub sign : Bool
   pub count : ℕ

@@ -1,4 +1,4 @@
--- Laws of `everyFrom` in the form in which a loop `for i in 0..e` meets them: e - i indices are left. Assumes nothing.
+-- Laws of `every_from` in the form in which a loop `for i in 0..e` meets them: e - i indices are left. Assumes nothing.
 use Prim.Native.Nat.{ℕ, zero, suc, ◌+◌, ◌-◌, ◌≤◌, ◌<◌}
 use mathlib.Core.Path.{◌≡◌, refl, sym, subst, ◌∙◌}
 use mathlib.Core.Logic.{⊎_elim}

@@ -1,4 +1,4 @@
--- `formed` and `commandOf` by the tests that the code makes on a kind. Assumes nothing.
+-- `formed` and `command_of` by the tests that the code makes on a kind. Assumes nothing.
 use Prim.Native.Nat.{ℕ, zero, suc, ◌≤◌, ◌<◌}
 use mathlib.Core.Path.{◌≡◌, refl}
 use mathlib.Core.Bool.{◌&&◌}

@@ -1,6 +1,6 @@
--- The fit for hills (document 02, §14) in words that can be checked: `hillFile s tol room`, which is the fit of a file by `hillsRule tol`. Definitions only; `proofs/Demand.antt` has the
+-- The fit for hills (document 02, §14) in words that can be checked: `hill_file s tol room`, which is the fit of a file by `hills_rule tol`. Definitions only; `proofs/Demand.antt` has the
 -- proofs.
-use Rattle.std.specs.Prelude.{ℕ, ◌+◌, ◌≤◌, ◌<◌, ◌≡◌, true, List, [], ◌∷◌, map, drop, T, Float}
+use Rattle.std.specs.Prelude.{ℕ, ◌≤◌, ◌<◌, ◌≡◌, true, List, [], ◌∷◌, map, drop, T, Float}
 use Rattle.std.specs.Float.{binary64}
 use Rattle.std.specs.Float.Ieee.{fits, eq}
 use Rattle.floats.specs.Ops.{◌≺◌, +0}
@@ -24,7 +24,7 @@ use Rattle.laps.specs.File.{lap_count, laps_of}
 use Rattle.lap_fit.specs.Fit.{start_of, fit_file, hill_file}
 use Rattle.lap_replace.specs.Demand.{lap_at, LapsAreFittedBy, StartsAtTheEndBy, EachLapGivesBy, FitIsLapFileBy}
 
--- ---- "demand 3's other laws hold here by this measure": each is the law of the flat fit, with another rule. The distance of `hillsRule` is that in x, y and z to the segment
+-- ---- "demand 3's other laws hold here by this measure": each is the law of the flat fit, with another rule. The distance of `hills_rule` is that in x, y and z to the segment
 -- each lap is the definition's fit of the recorded lap from its start
 abbrev pub HillsAreFitted : Type 0
 HillsAreFitted = (tol : Float) → LapsAreFittedBy (hills_rule tol)

@@ -38,7 +38,7 @@ abbrev pub OneCourse : Type 0
 OneCourse =
     (s g : List ℕ) (k : ℕ) (ks : List ℕ) (ns : List Float) → Bytes g → 8 ≤ length g → table_ok g ≡ true → laps_of g ≡ swap k (lent_lap ks ns) 1 (laps_of s) → g ≡ course_with s k ks ns
 
--- ---- the fit by a rule: `fitFile s tol room` is that by `lapsRule tol`
+-- ---- the fit by a rule: `fit_file s tol room` is that by `laps_rule tol`
 -- "Each lap of an accepted fit is document 01's fit of the recorded lap": the fit has as many laps, and each is the fit of the lap of that number from its start, encoded
 abbrev pub LapsAreFittedBy : Rule → Type 0
 LapsAreFittedBy r =

@@ -41,7 +41,7 @@ abbrev pub EachIsListed : Type 0
 EachIsListed =
     (s f : List ℕ) (tol : Float) (room room' : ℕ) → fit_file s tol room' ≡ gives f → most_text 800 ≤ room → list_file s tol room ≡ gives (list_text tol (laps_of s))
 
--- ---- the rows of the laps, of which `listText` has the lines: f is the fit of the file s
+-- ---- the rows of the laps, of which `list_text` has the lines: f is the fit of the file s
 -- the first byte of a command is its kind
 abbrev pub kind_byte : List ℕ → ℕ
 kind_byte c = get_or c 0 0

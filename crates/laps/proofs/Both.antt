@@ -4,7 +4,7 @@ use mathlib.Core.Bool.{Bool, true, false, not, ◌&&◌, ◌||◌}
 use mathlib.Core.List.{List, [], ◌∷◌}
 use Prim.Native.Nat.{ℕ}
 use Rattle.floats.specs.Ops.{if◌then◌else◌}
-use Rattle.floats.proofs.Order.{clash, and_left, and_right}
+use Rattle.floats.proofs.Order.{and_left, and_right}
 use Rattle.geo.specs.Outcome.{refusal}
 use Rattle.geo.proofs.Rows.{row_fails, row-passes, done}
 use Rattle.laps.specs.File.{Lap, laps_of, lacks, form_ok, domain_ok, both_ok, lap_ok, lap_tested, laps_ok}

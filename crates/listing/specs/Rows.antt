@@ -21,7 +21,7 @@ unfoldable pub shape_kind : Shape → ℕ
 shape_kind line = 1
 shape_kind (arc m clockwise) = 2
 
--- the letter of a kind, as its byte: M, L, A; no row has a kind above 2 (proofs/Laws.antt, `course-letters`)
+-- the letter of a kind, as its byte: M, L, A; no row has a kind above 2 (proofs/Laws.antt, `course_letters`)
 unfoldable pub letter_of : ℕ → ℕ
 letter_of zero = 77
 letter_of (suc zero) = 76

@@ -20,7 +20,7 @@ use Rattle.live.specs.Thinner.{Next, slot_count, goes_on, push, shut, slot, anch
 use Rattle.live.specs.Calls.{Event, retune, most_ends, state_rows, live_rows, next_of, live_call, end_for, given, fed_answer, ends_given, state_after}
 use Rattle.live.specs.Replay.{ends_in}
 
--- ---- a call that is refused, and one that is not; n is what the code found of its liveRows
+-- ---- a call that is refused, and one that is not; n is what the code found of its live_rows
 module _ (s : Live) (e : Event) (n : ℕ) (is : n ≡ refusal (live_rows s e)) where
   pub call_refused : (n ≡ 0 → ⊥) → live_call s e ≡ refused n
   unfolding live_call
@@ -130,7 +130,7 @@ pub forgotten-some : (s : Live) (t : Float) → (s.count ≡ 0 → ⊥) → reco
 unfolding forgotten anchored
 forgotten-some s t h = let e : s.count ≡ suc (s.count - 1) = omega (arith, h) in rw e
 
--- ---- the refusal of a new tolerance t with an output of `room` numbers; b is what the code found of t, and n of the state's liveRows
+-- ---- the refusal of a new tolerance t with an output of `room` numbers; b is what the code found of t, and n of the state's live_rows
 module _ (s : Live) (t : Float) (lent : ℕ) where
   pub tuned_1 : (lent % 3 ≡ 0 → ⊥) → 1 ≡ refusal (live_rows s (retune t lent))
   unfolding live_rows refusal

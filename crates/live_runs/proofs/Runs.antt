@@ -54,7 +54,7 @@ feed_domain s p h =
     let b = row_passed 4 (not (numbers_in coordinate s.points && point3_in p)) _ a.1 in
     and_right (numbers_in coordinate s.points) (point3_in p) (not-false _ b.0)
 
--- ---- the rest of a run after a liveCall
+-- ---- the rest of a run after a live_call
 pub refused_step : (es : List Event) (s : Live) (e : Event) → 0 < refusal (live_rows s e) → run_from (e ∷ es) s ≡ run_from es s
 unfolding run_from live_call call_then
 refused_step es s e h = rw (unless-refused (refusal (live_rows s e)) (next_of s e) h)
@@ -68,12 +68,12 @@ pub accepted_step : (es : List Event) (s : Live) (e : Event) → refusal (live_r
 unfolding run_from live_call call_then
 accepted_step es s e h = rw (unless-gives (refusal (live_rows s e)) (next_of s e) h)
 
--- nothing is fed or endUnder out after the close
+-- nothing is fed or end_under out after the close
 closed_run : (es : List Event) (s : Live) → s.closed ≡ true → run_from es s ≡ record { fed = []; ends = []; last = s }
 closed_run [] s h = unfold run_from in refl
 closed_run (e ∷ es) s h = refused_step es s e (closed_refuses s e h) ∙ closed_run es s h
 
--- ---- one liveCall
+-- ---- one live_call
 -- what it makes of a run that stands at n fed points: its ends lead to `reach`, the anchor's place, or the last point's after a close
 record Called (at : ℕ → Point3D) (n a : ℕ) (r : Next) : Type 0 where
   reach : ℕ
@@ -162,7 +162,7 @@ module _ (at : ℕ → Point3D) where
       let e : n + (length xs + j) ≡ n + length xs + j = omega arith in
       sym (get_or-append-add xs ys j origin) ∙ f (length xs + j) (rw (length-append xs ys) (omega arith)) ∙ ap at e
 
-  -- a liveCall in front of the rest of a run
+  -- a live_call in front of the rest of a run
   joined : (n a : ℕ) (xs : List Point3D) (t : Next) (rest : Ran) (c : Called at (n + length xs) a t) → Went (n + length xs) c.reach rest
       → Went n a (record { fed = xs ++ rest.fed; ends = map (end_under t.state.tolerance) t.ends ++ rest.ends; last = rest.last })
   joined n a xs t rest c w =

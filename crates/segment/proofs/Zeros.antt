@@ -1,19 +1,17 @@
 -- Floats that are equal but for the sign of a zero: every operation keeps that, and a square does not see the sign. Assumes nothing.
 use mathlib.Core.Path.{◌≡◌, refl, sym, ap, ◌∙◌}
-use mathlib.Core.Bool.{Bool, true, false, not}
+use mathlib.Core.Bool.{Bool, true, false}
 use Prim.Native.Nat.{ℕ, zero, suc, ◌+◌, ◌-◌, ◌*◌, ◌<◌}
 use native.Mathlib.Nat.{zero-mul, mul-zero, mul-pos, one-mul, zero-lt-suc, mul_comm, mul_assoc}
 use native.Mathlib.Omega.{arith}
-use borrow.Author.Tests.{lt-ltb, le-ltb, eqb-true, ne_eqb}
-use lib.Dec.{T, eqb}
+use borrow.Author.Tests.{lt-ltb, le-ltb}
+use lib.Dec.{T}
 use lib.IntN.{ℤ, pos}
-use lib.Ieee.{Float, nan, inf, fin, binary64, up, down, unlike, round, sum, add, sub, mul, div, neg, lt, eq, fits, of_bits, level}
+use lib.Ieee.{Float, nan, inf, fin, binary64, up, down, unlike, round, sum, add, sub, mul, neg, lt, fits, of_bits}
 use lib.Ieee.Fits.{up_pos, down_pos}
 use lib.Ieee.Scale.{round_same, finite}
-use Rattle.floats.specs.Ops.{◌⊕◌, ◌⊖◌, ◌⊗◌, ◌⊘◌, ◌≺◌, +0, one}
+use Rattle.floats.specs.Ops.{◌⊕◌, ◌⊖◌, ◌⊗◌, ◌≺◌, +0, one}
 use Rattle.floats.specs.Float.{clamp_of}
-use Rattle.floats.proofs.Order.{clash, and_left, and_right}
-use Rattle.floats.proofs.Unsigned.{Unsigned, sum_unsigned}
 use Rattle.floats.proofs.float.Large.{zero_exponent}
 use Rattle.segment.proofs.Itself.{round_itself}
 

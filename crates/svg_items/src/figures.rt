@@ -95,7 +95,7 @@ fn noughts(room: usize) -> u64
     100
 }
 
-// The thousandths of v units and of the decimals that may thenRest.
+// The thousandths of v units and of the decimals that may then_rest.
 fn decimals_at(s: &[u8], at: usize, v: u64) -> Magnitude
     requires { (at ≤ length s.now) × (v + 1 ≤ 10000000) }
     ensures { DecimalsAt s.now at v result }

@@ -65,7 +65,7 @@ digits v (suc n) (b ∷ t) = if is_digit b then digits (10 * v + (b - nought)) n
 unfoldable pub in_thousandths : Digits → Reading ℕ
 in_thousandths d = if eqb d.room 3 then broken else read (d.value * 10 ^ d.room) d.rest
 
--- the thousandths of v units and the decimals that may thenRest
+-- the thousandths of v units and the decimals that may then_rest
 unfoldable pub decimals : ℕ → List ℕ → Reading ℕ
 decimals v [] = read (v * 1000) []
 decimals v (b ∷ t) = if eqb b full_stop then in_thousandths (digits v 3 t) else read (v * 1000) (b ∷ t)

@@ -1,4 +1,4 @@
--- `wholeRoot n` is the one s with s * s ≤ n < (s + 1) * (s + 1). Assumes nothing.
+-- `whole_root n` is the one s with s * s ≤ n < (s + 1) * (s + 1). Assumes nothing.
 use Rattle.std.proofs.Common.{◌≡◌, ℕ, zero, suc, ◌+◌, ◌*◌, ◌/◌, ◌^◌, ◌<◌, ◌≤◌, Bool, true, false, cond, not, T, leb, sym, refl, ◌∙◌, subst, le_trans, le_refl, lt_of_lt_of_le, le_of_suc-le-suc, add_assoc, zero-lt-suc, mul_assoc, mul_comm, div-lt_iff_lt-mul, add-mul, mul-le-mul, add_comm, le_antisymm, lt_of_not-le, mul-add, not-le_of_lt, mul_left_comm, arith, le→leb, eqb→eq, leb→le}
 use Prim.Native.Nat.{compare, Ordering}
 use native.Mathlib.Nat.{add_left_comm, pow-succ'}

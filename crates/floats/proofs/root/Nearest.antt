@@ -1,4 +1,4 @@
--- `rootOf x` is the binary64 nearest to the exact root of x, a tie to the even one: it is q or q + 1 times 2 ^ k units, by the middle of the two, and no binary64 lies strictly between them. Assumes nothing.
+-- `root_of x` is the binary64 nearest to the exact root of x, a tie to the even one: it is q or q + 1 times 2 ^ k units, by the middle of the two, and no binary64 lies strictly between them. Assumes nothing.
 use Rattle.std.proofs.Common.{◌≡◌, ℕ, zero, suc, ◌+◌, ◌-◌, ◌*◌, ◌/◌, ◌%◌, ◌^◌, ◌<◌, ◌≤◌, true, false, T, eqb, ◌⊎◌, pos, sym, refl, ap, ◌∙◌, subst, inl, inr, ⊎_elim, zero-le, le_trans, le_of_eq, lt_of_lt_of_le, lt_of_le_of_lt, le_of_lt, mul-le-mul_right, mul_assoc, suc-mul, div-lt_iff_lt-mul, add-mul, eq-zero-or-pos, mul-le-mul, le_antisymm, mul-pos, one-mul, le-div_iff_mul-le, zero-mul, mul-add, arith, pow_pos, pow_mono, pow-add, shl_lt}
 use Prim.Native.Nat.{compare, Ordering}
 use native.Mathlib.Nat.{mul-mul-mul_comm}

@@ -93,7 +93,7 @@ plain_no_nan nan r = absurd r
 plain_no_nan (inf s) r = absurd r
 plain_no_nan (fin s m e) r = tt
 
--- ---- what `rootOf` is there
+-- ---- what `root_of` is there
 pub root_of-is : (x : Float) → T (plain x) → root_of x ≡ root_from (in_units x * 2 ^ 1074)
 unfolding root_of plain
 root_of-is nan r = absurd r

@@ -65,7 +65,7 @@ module _ (n q P : ℕ) (N : NearRoot n q) (pp : 0 < P) where
           subst Picked (sym (whole_root_at n q h f)) (kept h)
       either (no f) = let m = moved (lt_of_not-le f) in subst Picked (sym m.0) m.1
 
--- ---- `rootFrom` at n * 4 ^ j
+-- ---- `root_from` at n * 4 ^ j
 abbrev pub form : ℕ → ℕ → ℕ → Float
 form u w k = units binary64 false (nearest (whole_root w) (compare (4 * u) ((2 * whole_root w + 1) * (2 * whole_root w + 1) * (2 ^ k * 2 ^ k)))) k
 

@@ -1,14 +1,10 @@
 -- `records::are_bytes_left` meets its contract: the bytes that are not looked at yet decide the whole answer. The measure is how many they are. Assumes nothing.
-use mathlib.Core.Path.{◌≡◌, refl}
+use mathlib.Core.Path.{◌≡◌}
 use Prim.Native.Nat.{◌-◌}
-use native.Mathlib.Omega.{arith}
-use borrow.Author.Tests.{eq-eqb, ne_eqb}
 use lib.Dec.{eqb}
 use lib.ListN.{get_or}
 use Rattle.geo.specs.Domain.{every_from}
 use Rattle.records.specs.Words.{bytes_left}
-use Rattle.geo.proofs.Every.{every_done}
-use Rattle.records.proofs.Lists.{every_step, every_stop}
 use Rattle.records.proofs.are_bytes_left.Given as goal
 
 abbrev pub invariant-loop-i : goal.invariant-loop-i

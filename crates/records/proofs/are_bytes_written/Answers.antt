@@ -1,11 +1,7 @@
 -- `records::are_bytes_written` meets its contract: the bytes that are not compared yet decide the whole answer. The measure is how many they are. Assumes nothing.
-use mathlib.Core.Path.{◌≡◌, refl}
-use Prim.Native.Nat.{◌+◌, ◌-◌}
+use mathlib.Core.Path.{refl}
 use native.Mathlib.Omega.{arith}
 use borrow.Author.Tests.{eq-eqb, ne_eqb}
-use lib.Dec.{eqb}
-use lib.ListN.{get_or}
-use Rattle.geo.specs.Domain.{every_from}
 use Rattle.records.specs.Words.{bytes_written}
 use Rattle.geo.proofs.Every.{every_start, every_done}
 use Rattle.records.proofs.Lists.{every_step, every_stop}

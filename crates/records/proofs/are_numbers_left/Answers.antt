@@ -1,11 +1,8 @@
 -- `records::are_numbers_left` meets its contract: the numbers that are not looked at yet decide the whole answer. The measure is how many they are. Assumes nothing.
-use mathlib.Core.Path.{◌≡◌, refl}
-use Prim.Native.Nat.{◌-◌}
+use mathlib.Core.Path.{refl}
 use native.Mathlib.Omega.{arith}
 use borrow.Author.Tests.{not-true, not-false}
-use lib.ListN.{get_or}
-use lib.Ieee.{nan, eq, ne}
-use Rattle.geo.specs.Domain.{every_from}
+use lib.Ieee.{ne}
 use Rattle.records.specs.Words.{numbers_left}
 use Rattle.geo.proofs.Every.{every_done}
 use Rattle.records.proofs.Lists.{every_step, every_stop}

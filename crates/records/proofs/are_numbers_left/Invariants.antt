@@ -1,14 +1,10 @@
 -- `records::are_numbers_left` meets its contract: the numbers that are not looked at yet decide the whole answer. The measure is how many they are. Assumes nothing.
-use mathlib.Core.Path.{◌≡◌, refl}
+use mathlib.Core.Path.{◌≡◌}
 use Prim.Native.Nat.{◌-◌}
-use native.Mathlib.Omega.{arith}
-use borrow.Author.Tests.{not-true, not-false}
 use lib.ListN.{get_or}
-use lib.Ieee.{nan, eq, ne}
+use lib.Ieee.{nan, eq}
 use Rattle.geo.specs.Domain.{every_from}
 use Rattle.records.specs.Words.{numbers_left}
-use Rattle.geo.proofs.Every.{every_done}
-use Rattle.records.proofs.Lists.{every_step, every_stop}
 use Rattle.records.proofs.are_numbers_left.Given as goal
 
 abbrev pub invariant-loop-i : goal.invariant-loop-i

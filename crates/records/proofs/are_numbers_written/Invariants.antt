@@ -1,17 +1,11 @@
 -- `records::are_numbers_written` meets its contract: the numbers that are not compared yet decide the whole answer. The measure is how many they are. Assumes nothing.
-use Rattle.std.proofs.Common.{not}
-use mathlib.Core.Path.{◌≡◌, refl, sym, ap, ◌∙◌}
+use mathlib.Core.Path.{◌≡◌}
 use Prim.Native.Nat.{◌+◌, ◌-◌, ◌*◌}
-use native.Mathlib.Omega.{arith}
-use borrow.Author.Rules.{rules}
-use borrow.Author.Tests.{not-true, not-false}
 use lib.ListN.{get_or}
 use lib.Ieee.{nan}
 use Rattle.geo.specs.Domain.{every_from}
 use Rattle.file.specs.Bytes.{word_at}
 use Rattle.records.specs.Words.{has_pattern, numbers_written}
-use Rattle.geo.proofs.Every.{every_start, every_done}
-use Rattle.records.proofs.Lists.{every_step, every_stop}
 use Rattle.records.proofs.are_numbers_written.Given as goal
 
 abbrev pub invariant-loop-i : goal.invariant-loop-i

@@ -4,7 +4,6 @@ use mathlib.Core.Path.{sym, subst}
 use mathlib.Core.Bool.{Bool, not}
 use lib.Dec.{T}
 use Rattle.records.specs.Words.{has_pattern}
-use borrow.Author.Rules.{rules}
 use Rattle.records.proofs.has_pattern.Goals as goal
 
 pub returns-then-x : goal.returns-then-x

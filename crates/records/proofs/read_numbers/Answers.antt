@@ -1,12 +1,9 @@
 -- `records::read_numbers` meets its contract: the numbers that are left, stored from here, give the whole. The measure is how many they are. Assumes nothing.
 use mathlib.Core.Path.{ap, ◌∙◌}
-use Prim.Native.Nat.{◌+◌, ◌-◌, ◌*◌}
 use native.Mathlib.Omega.{arith}
-use borrow.Author.Rules.{rules}
 use lib.Ieee.{binary64, of_bits}
-use Rattle.file.specs.Bytes.{word_at}
 use Rattle.records.specs.Words.{numbers_at}
-use Rattle.records.proofs.Lists.{Storing, storing_start, storing_step, storing_done}
+use Rattle.records.proofs.Lists.{storing_start, storing_step, storing_done}
 use Rattle.records.proofs.read_numbers.Goals as goal
 
 pub loop-i-init : goal.loop-i-init

@@ -5,7 +5,6 @@ use borrow.Author.Tests.{lt-ltb, le-ltb, eq-eqb, ne_eqb, not-true, not-false}
 use Rattle.geo.proofs.And.{and_3, and_3_second, and_3_first}
 use Rattle.geo.proofs.Rows.{row_fails, row-passes, whole_fails, whole-passes, done}
 use Rattle.arc.specs.Direction.{direction_rows}
-use borrow.Author.Rules.{rules}
 use Rattle.arc.proofs.arc.check_direction.Goals as goal
 
 pub returns-then-points-ne0 : goal.returns-then-points-ne0

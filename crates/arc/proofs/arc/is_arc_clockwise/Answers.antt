@@ -8,7 +8,6 @@ use Rattle.geo.proofs.Rows.{accepted, unless-refused, unless-gives}
 use Rattle.arc.specs.declared.arc.Direction.TheVariants.{Clockwise}
 use Rattle.arc.specs.Direction.{clockwise, direction_call, direction_answer}
 use Rattle.arc.proofs.Passed.{direction_passed}
-use borrow.Author.Rules.{rules}
 use Rattle.arc.proofs.arc.is_arc_clockwise.Goals as goal
 
 pub returns-then-refused-gt0 : goal.returns-then-refused-gt0

@@ -1,14 +1,11 @@
 -- `arc::arc::sum_turns` meets its contract: the loop's invariant is that the neighbours left decide the whole sum. The measure is how many are left. Assumes nothing.
-use mathlib.Core.Path.{◌≡◌, refl, ap, ◌∙◌}
-use Prim.Native.Nat.{◌+◌, ◌-◌}
+use mathlib.Core.Path.{refl, ap, ◌∙◌}
+use Prim.Native.Nat.{◌-◌}
 use native.Mathlib.Omega.{arith}
-use borrow.Author.Rules.{rules}
 use lib.Ieee.{Float}
 use Rattle.floats.specs.Ops.{◌⊕◌}
-use Rattle.geo.specs.Lent.{pair_at}
-use Rattle.geo.specs.Walk.{fold}
 use Rattle.geo.proofs.Walk.{fold_turn, fold_done}
-use Rattle.arc.specs.Direction.{turn_at, cross_sum}
+use Rattle.arc.specs.Direction.{cross_sum}
 use Rattle.arc.proofs.arc.sum_turns.Goals as goal
 
 pub overflow_sub-i-end : goal.overflow_sub-i-end

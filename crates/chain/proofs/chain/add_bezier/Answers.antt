@@ -11,7 +11,6 @@ use Rattle.bezier.specs.Linearize.{Step, step_end, param_steps}
 use Rattle.floats.specs.Limits.{quarter}
 use Rattle.chain.proofs.Count.{cap-few}
 use Rattle.chain.proofs.Steps.{params_are_steps}
-use borrow.Author.Rules.{rules}
 use Rattle.chain.proofs.chain.add_bezier.Goals as goal
 
 pub put_ends-requires : goal.put_ends-requires

@@ -1,6 +1,5 @@
 -- `chain::chain::bezier_steps` meets its contract: a count of at most 800 as a float is the whole number; one that is not is above 800. Assumes nothing.
 use Rattle.chain.proofs.Steps.{needed_above, few-steps, over-steps}
-use borrow.Author.Rules.{rules}
 use Rattle.chain.proofs.chain.bezier_steps.Goals as goal
 
 pub whole_steps-requires : goal.whole_steps-requires

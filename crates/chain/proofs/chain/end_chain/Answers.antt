@@ -9,7 +9,6 @@ use Rattle.chain.specs.Parts.{ends}
 use Rattle.chain.specs.Chains.{flushed_by, under_way}
 use Rattle.chain.proofs.Stepping.{front_length, ends-room, length_refront, stepped_ends}
 use Rattle.chain.proofs.Chains.{flushed_few}
-use borrow.Author.Rules.{rules}
 use Rattle.chain.proofs.chain.end_chain.Goals as goal
 
 pub slice_bounds-flush_by-end-2 : goal.slice_bounds-flush_by-end-2

@@ -3,7 +3,6 @@ use native.Mathlib.Omega.{arith}
 use Rattle.pieces.proofs.Writing.{none-noted}
 use Rattle.chain.specs.Chains.{flushed_by}
 use Rattle.chain.proofs.Chains.{no_steps}
-use borrow.Author.Rules.{rules}
 use Rattle.chain.proofs.chain.fit_chain.Goals as goal
 
 pub returns-then-n-lt2 : goal.returns-then-n-lt2

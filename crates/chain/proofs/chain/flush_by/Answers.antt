@@ -1,6 +1,5 @@
 -- `chain::chain::flush_by` meets its contract: by the case. Assumes nothing.
 use Rattle.chain.specs.Chains.{flushed_by}
-use borrow.Author.Rules.{rules}
 use Rattle.chain.proofs.chain.flush_by.Goals as goal
 
 pub returns-in-Fitted : goal.returns-in-Fitted

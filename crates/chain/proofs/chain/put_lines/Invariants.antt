@@ -1,10 +1,6 @@
 -- `chain::chain::put_lines` meets its contract: what is written, and what is left to write, are the whole. The measure is how many points are left. Assumes nothing.
-use native.Mathlib.Omega.{arith}
-use Prim.Native.Nat.{◌-◌, ◌/◌}
-use mathlib.Core.Path.{ap, ◌∙◌}
-use lib.ListN.{length}
-use lib.Seq.{length-sets}
-use Rattle.chain.proofs.Chains.{Lining, lining_start, lining_step, lining_done}
+use Prim.Native.Nat.{◌-◌}
+use Rattle.chain.proofs.Chains.{Lining}
 use Rattle.chain.proofs.chain.put_lines.Given as goal
 
 abbrev pub invariant-loop-i : goal.invariant-loop-i

@@ -11,7 +11,6 @@ use Rattle.floats.specs.Limits.{quarter}
 use Rattle.chain.specs.Chains.{joined_by, flushed_by, Room}
 use Rattle.chain.proofs.Steps.{ends_length}
 use Rattle.chain.proofs.Stepping.{adds-room, line_joins, bezier_joins, bezier_ends, move-ends, arc-ends, line-end, bezier_end, stepped_as, stepped_of, stepped_adds}
-use borrow.Author.Rules.{rules}
 use Rattle.chain.proofs.chain.take_command.Goals as goal
 
 pub add_line-requires : goal.add_line-requires

@@ -5,7 +5,6 @@ use Rattle.floats.proofs.Unsigned.{square_not_negative}
 use Rattle.pieces.proofs.Writing.{same_noted}
 use Rattle.ranges.proofs.Chain.{kept-few, kept-fits, kept_wide}
 use Rattle.chain.proofs.Chains.{thinned-lines}
-use borrow.Author.Rules.{rules}
 use Rattle.chain.proofs.chain.thin_chain.Goals as goal
 
 pub thin_in_place-k-requires : goal.thin_in_place-k-requires

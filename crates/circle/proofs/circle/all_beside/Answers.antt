@@ -1,13 +1,9 @@
 -- `circle::circle::all_beside` meets its contract: the loop's invariant is that the points left decide the whole answer. The measure is how many are left. Assumes nothing.
 use Rattle.std.proofs.Common.{ap, not}
-use mathlib.Core.Path.{◌≡◌, refl, ◌∙◌}
-use Prim.Native.Nat.{◌-◌}
+use mathlib.Core.Path.{refl, ◌∙◌}
 use native.Mathlib.Omega.{arith}
-use borrow.Author.Rules.{rules}
-use Rattle.geo.specs.Lent.{point_at}
-use Rattle.geo.specs.Domain.{every_from}
 use Rattle.geo.proofs.Every.{every_step, every_stop, every_done}
-use Rattle.circle.specs.Collinear.{beside_of, all_beside}
+use Rattle.circle.specs.Collinear.{all_beside}
 use Rattle.circle.proofs.circle.all_beside.Goals as goal
 
 pub overflow_step-i : goal.overflow_step-i

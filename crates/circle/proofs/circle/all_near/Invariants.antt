@@ -1,12 +1,8 @@
 -- `circle::circle::all_near` meets its contract: the loop's invariant is that the points left decide the whole answer. The measure is how many are left. Assumes nothing.
-use Rattle.std.proofs.Common.{ap, not}
-use mathlib.Core.Path.{◌≡◌, refl, ◌∙◌}
+use mathlib.Core.Path.{◌≡◌}
 use Prim.Native.Nat.{◌+◌, ◌-◌}
-use native.Mathlib.Omega.{arith}
-use borrow.Author.Rules.{rules}
 use Rattle.geo.specs.Lent.{point_at}
 use Rattle.geo.specs.Domain.{every_from}
-use Rattle.geo.proofs.Every.{every_step, every_stop, every_done}
 use Rattle.circle.specs.Collinear.{near_to, all_near}
 use Rattle.circle.proofs.circle.all_near.Given as goal
 

@@ -4,7 +4,6 @@ use borrow.Author.Tests.{lt-ltb, le-ltb}
 use Rattle.geo.proofs.Rows.{accepted, not_fails, not_passes, unless-refused}
 use Rattle.circle.specs.Calls.{collinear_call, collinear_answer}
 use Rattle.circle.proofs.Passed.{collinear-refused, collinear-tolerance, collinear-accepted}
-use borrow.Author.Rules.{rules}
 use Rattle.circle.proofs.circle.are_points_collinear_3d.Goals as goal
 
 pub returns-then-refused-gt0 : goal.returns-then-refused-gt0

@@ -4,7 +4,6 @@ use mathlib.Core.Path.{sym, ◌∙◌}
 use borrow.Author.Tests.{lt-ltb, le-ltb}
 use Rattle.geo.proofs.Rows.{row_fails, row-passes, not_fails, not_passes, whole_fails, whole-passes, done}
 use Rattle.circle.specs.Calls.{points_rows}
-use borrow.Author.Rules.{rules}
 use Rattle.circle.proofs.circle.check_points.Goals as goal
 
 pub returns-then-points-ne0 : goal.returns-then-points-ne0

@@ -1,6 +1,5 @@
 -- `circle::circle::determinant` meets its contract: the callees' promises, put together as the definition has them. Assumes nothing.
 use Rattle.circle.specs.Kasa.{det_of}
-use borrow.Author.Rules.{rules}
 use Rattle.circle.proofs.circle.determinant.Goals as goal
 
 pub returns : goal.returns

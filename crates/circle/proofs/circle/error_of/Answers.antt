@@ -1,6 +1,5 @@
 -- `circle::circle::error_of` meets its contract: the callees' promises, put together as the definition has them. Assumes nothing.
 use Rattle.circle.specs.Kasa.{error_of}
-use borrow.Author.Rules.{rules}
 use Rattle.circle.proofs.circle.error_of.Goals as goal
 
 pub returns : goal.returns

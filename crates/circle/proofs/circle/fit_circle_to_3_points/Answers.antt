@@ -2,7 +2,6 @@
 use Rattle.std.proofs.Common.{ap, not}
 use borrow.Author.Tests.{not-true, not-false}
 use Rattle.circle.specs.Calls.{through_call, through_answer}
-use borrow.Author.Rules.{rules}
 use Rattle.circle.proofs.circle.fit_circle_to_3_points.Goals as goal
 
 pub returns-then-not-point3_in : goal.returns-then-not-point3_in

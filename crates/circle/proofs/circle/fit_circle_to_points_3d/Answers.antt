@@ -4,7 +4,6 @@ use borrow.Author.Tests.{lt-ltb, le-ltb}
 use Rattle.geo.proofs.Rows.{accepted, unless-refused}
 use Rattle.circle.specs.Calls.{fitted_call, fitted_answer}
 use Rattle.circle.proofs.Passed.{points_passed}
-use borrow.Author.Rules.{rules}
 use Rattle.circle.proofs.circle.fit_circle_to_points_3d.Goals as goal
 
 pub returns-then-refused-gt0 : goal.returns-then-refused-gt0

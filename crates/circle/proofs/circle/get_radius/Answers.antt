@@ -1,6 +1,5 @@
 -- `circle::circle::get_radius` meets its contract: the length that `get_length` promises. Assumes nothing.
 use Rattle.circle.specs.Three.{radius_from}
-use borrow.Author.Rules.{rules}
 use Rattle.circle.proofs.circle.get_radius.Goals as goal
 
 pub returns : goal.returns

@@ -1,7 +1,6 @@
 -- `circle::circle::is_collinear` meets its contract: by the number of points and the length of the chord. Assumes nothing.
 use borrow.Author.Tests.{lt-ltb, le-ltb}
 use Rattle.circle.specs.Collinear.{collinear, collinear_by}
-use borrow.Author.Rules.{rules}
 use Rattle.circle.proofs.circle.is_collinear.Goals as goal
 
 pub returns-then-end-start-lt2 : goal.returns-then-end-start-lt2

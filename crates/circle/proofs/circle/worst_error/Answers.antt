@@ -1,13 +1,10 @@
 -- `circle::circle::worst_error` meets its contract: the loop's invariant is that the points left decide the greatest error. The measure is how many are left. Assumes nothing.
-use mathlib.Core.Path.{◌≡◌, refl, ◌∙◌}
-use Prim.Native.Nat.{◌+◌, ◌-◌}
+use mathlib.Core.Path.{refl, ◌∙◌}
+use Prim.Native.Nat.{◌+◌}
 use native.Mathlib.Omega.{arith}
-use borrow.Author.Rules.{rules}
-use Rattle.geo.specs.Lent.{point_at}
-use Rattle.geo.specs.Walk.{fold}
 use Rattle.geo.proofs.Walk.{fold_turn, fold_done}
-use Rattle.circle.specs.Worst.{worse, worst as worstOf}
-use Rattle.circle.specs.Kasa.{error_of, worst_error}
+use Rattle.circle.specs.Worst.{worst as worstOf}
+use Rattle.circle.specs.Kasa.{worst_error}
 use Rattle.circle.proofs.circle.worst_error.Goals as goal
 
 pub overflow_add-i-end : goal.overflow_add-i-end

@@ -1,12 +1,9 @@
 -- `circle::circle::worst_error` meets its contract: the loop's invariant is that the points left decide the greatest error. The measure is how many are left. Assumes nothing.
-use mathlib.Core.Path.{◌≡◌, refl, ◌∙◌}
+use mathlib.Core.Path.{◌≡◌}
 use Prim.Native.Nat.{◌+◌, ◌-◌}
-use native.Mathlib.Omega.{arith}
-use borrow.Author.Rules.{rules}
 use Rattle.geo.specs.Lent.{point_at}
 use Rattle.geo.specs.Walk.{fold}
-use Rattle.geo.proofs.Walk.{fold_turn, fold_done}
-use Rattle.circle.specs.Worst.{worse, worst as worstOf}
+use Rattle.circle.specs.Worst.{worse}
 use Rattle.circle.specs.Kasa.{error_of, worst_error}
 use Rattle.circle.proofs.circle.worst_error.Given as goal
 

@@ -2,7 +2,6 @@
 use native.Mathlib.Omega.{arith}
 use mathlib.Core.Path.{sym}
 use Rattle.chain.proofs.Count.{cap-few, cap_many}
-use borrow.Author.Rules.{rules}
 use Rattle.course.proofs.course.add_capped.Goals as goal
 
 pub returns-then-n-gt-MOST : goal.returns-then-n-gt-MOST

@@ -4,7 +4,6 @@ use mathlib.Core.Path.{sym, ◌∙◌}
 use Rattle.course.specs.Course.{arcs_rows}
 use Rattle.geo.proofs.Input.{input_refused, input_passed, input_accepted}
 use Rattle.course.proofs.Accepted.{many_refused, kinds-refused, numbers-refused, room_passed}
-use borrow.Author.Rules.{rules}
 use Rattle.course.proofs.course.check_course.Goals as goal
 
 pub returns-then-refused-ne0 : goal.returns-then-refused-ne0

@@ -1,6 +1,5 @@
 -- `course::course::course_end` meets its contract: the start where there is no command, else the end of the last one. Assumes nothing.
 use Rattle.course.proofs.Start.{end-nothing, end-last}
-use borrow.Author.Rules.{rules}
 use Rattle.course.proofs.course.course_end.Goals as goal
 
 pub returns-then-n-eq0 : goal.returns-then-n-eq0

@@ -5,7 +5,6 @@ use lib.ListN.{length}
 use Rattle.geo.proofs.Outcomes.{commands-refused}
 use Rattle.course.specs.Course.{arcs_call}
 use Rattle.course.proofs.Accepted.{arcs_accepted, wrote_arcs}
-use borrow.Author.Rules.{rules}
 use Rattle.course.proofs.course.fit_arcs.Goals as goal
 
 pub returns-then-refused-ne0 : goal.returns-then-refused-ne0

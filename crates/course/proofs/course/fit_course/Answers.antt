@@ -2,7 +2,6 @@
 use Rattle.pieces.proofs.Writing.{commands-placed}
 use Rattle.course.specs.Course.{lent_course}
 use Rattle.course.proofs.Accepted.{course_commands}
-use borrow.Author.Rules.{rules}
 use Rattle.course.proofs.course.fit_course.Goals as goal
 
 pub returns : goal.returns

@@ -3,7 +3,6 @@ use native.Mathlib.Omega.{arith}
 use Rattle.pieces.proofs.Writing.{same_noted}
 use Rattle.course.specs.Course.{lent_course}
 use Rattle.course.proofs.Paths.{course_fit, course_most}
-use borrow.Author.Rules.{rules}
 use Rattle.course.proofs.course.fit_course_with_steps.Goals as goal
 
 pub walk_course-requires : goal.walk_course-requires

@@ -3,7 +3,6 @@ use mathlib.Core.Path.{refl}
 use Rattle.geo.proofs.Outcomes.{commands-refused}
 use Rattle.course.specs.Course.{optimize_call}
 use Rattle.course.proofs.Paths.{path_accepted, wrote_path}
-use borrow.Author.Rules.{rules}
 use Rattle.course.proofs.course.optimize_path_from_array.Goals as goal
 
 pub returns-then-refused-ne0 : goal.returns-then-refused-ne0

@@ -2,14 +2,14 @@
 use Rattle.geo.specs.Lent.{triple}
 use native.Mathlib.Omega.{arith}
 use mathlib.Core.Path.{refl, sym, ap, ◌∙◌}
-use Prim.Native.Nat.{◌-◌, ◌*◌}
+use Prim.Native.Nat.{◌*◌}
 use lib.ListN.{length, take}
 use lib.Seq.{length-sets}
 use Rattle.pieces.proofs.Writing.{count-noted, placed-kinds, placed-numbers}
 use Rattle.chain.specs.Chains.{under_way}
 use Rattle.chain.proofs.Chains.{flushed_few}
 use Rattle.chain.proofs.Stepping.{take_sets, length_refront}
-use Rattle.course.proofs.Along.{On, on_new, from_new, on_room, on_step, last-room, on-done}
+use Rattle.course.proofs.Along.{on_new, from_new, on_room, on_step, last-room, on-done}
 use Rattle.course.proofs.course.walk_course.Goals as goal
 
 pub new-w-requires : goal.new-w-requires

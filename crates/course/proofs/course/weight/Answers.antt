@@ -4,7 +4,6 @@ use Rattle.chain.specs.Joins.{joined}
 use Rattle.chain.specs.Chains.{cap}
 use Rattle.course.specs.Walks.{weight_of}
 use Rattle.course.proofs.Most.{bezier_weight}
-use borrow.Author.Rules.{rules}
 use Rattle.course.proofs.course.weight.Goals as goal
 
 pub returns-in-Move : goal.returns-in-Move

@@ -4,7 +4,6 @@ use mathlib.Core.Path.{sym, ◌∙◌}
 use Rattle.geo.proofs.Rows.{row_fails, row-passes, not_fails, not_passes, done}
 use Rattle.deviations.specs.Calls.{arc_rows}
 use Rattle.deviations.proofs.Accepted.{points-refused, points_passed}
-use borrow.Author.Rules.{rules}
 use Rattle.deviations.proofs.deviations.check_arc.Goals as goal
 
 pub returns-then-refused-ne0 : goal.returns-then-refused-ne0

@@ -5,7 +5,6 @@ use borrow.Author.Tests.{lt-ltb, le-ltb}
 use Rattle.geo.proofs.Rows.{row_fails, row-passes, done}
 use Rattle.deviations.specs.Calls.{line_rows}
 use Rattle.deviations.proofs.Accepted.{points-refused, points_passed}
-use borrow.Author.Rules.{rules}
 use Rattle.deviations.proofs.deviations.check_line.Goals as goal
 
 pub returns-then-refused-ne0 : goal.returns-then-refused-ne0

@@ -1,6 +1,5 @@
 -- `deviations::deviations::get_polyline_arc_deviation` meets its contract: a refusal is the table's; two points or more are what `arc_deviation` asks. Assumes nothing.
 use Rattle.deviations.proofs.Accepted.{arc-refused-answer, arc-given-answer, arc_no_step}
-use borrow.Author.Rules.{rules}
 use Rattle.deviations.proofs.deviations.get_polyline_arc_deviation.Goals as goal
 
 pub returns-then-refused-ne0 : goal.returns-then-refused-ne0

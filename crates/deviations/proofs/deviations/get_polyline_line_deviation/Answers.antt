@@ -1,7 +1,6 @@
 -- `deviations::deviations::get_polyline_line_deviation` meets its contract: a refusal is the table's; indices that passed it are what `line_deviation` asks. Assumes nothing.
 use native.Mathlib.Omega.{arith}
 use Rattle.deviations.proofs.Accepted.{line-accepted, line-refused-answer, line-given-answer}
-use borrow.Author.Rules.{rules}
 use Rattle.deviations.proofs.deviations.get_polyline_line_deviation.Goals as goal
 
 pub returns-then-refused-ne0 : goal.returns-then-refused-ne0

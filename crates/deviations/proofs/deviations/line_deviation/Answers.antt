@@ -1,6 +1,5 @@
 -- `deviations::deviations::line_deviation` meets its contract: the root of what `farthest_between` promises. Assumes nothing.
 use Rattle.deviations.specs.Line.{rooted, line_deviation}
-use borrow.Author.Rules.{rules}
 use Rattle.deviations.proofs.deviations.line_deviation.Goals as goal
 
 pub returns : goal.returns

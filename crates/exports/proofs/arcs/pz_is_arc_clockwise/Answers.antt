@@ -2,7 +2,6 @@
 use mathlib.Core.Path.{refl}
 use Rattle.exports.proofs.Answers.{direction-gives, direction-refused}
 use Rattle.exports.proofs.Plain.{tells, tells_nothing}
-use borrow.Author.Rules.{rules}
 use Rattle.exports.proofs.arcs.pz_is_arc_clockwise.Goals as goal
 
 pub returns-in-Clockwise : goal.returns-in-Clockwise

@@ -2,7 +2,6 @@
 use Rattle.geo.specs.Lent.{pair}
 use mathlib.Core.Path.{refl}
 use Rattle.exports.proofs.Runs.{four_runs}
-use borrow.Author.Rules.{rules}
 use Rattle.exports.proofs.beziers.put_curve.Goals as goal
 
 pub returns : goal.returns

@@ -3,7 +3,6 @@ use mathlib.Core.Path.{refl}
 use Rattle.exports.specs.Plain.{is_curve, curve_numbers}
 use Rattle.exports.proofs.Answers.{fit_gives, fit_none, fit_refused}
 use Rattle.exports.proofs.Plain.{gave, gave_nothing, tells, tells_nothing}
-use borrow.Author.Rules.{rules}
 use Rattle.exports.proofs.beziers.pz_fit_cubic_bezier.Goals as goal
 
 pub returns-in-Curve : goal.returns-in-Curve

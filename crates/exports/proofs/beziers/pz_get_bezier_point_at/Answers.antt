@@ -2,7 +2,6 @@
 use Rattle.geo.specs.Lent.{pair}
 use Rattle.exports.proofs.Answers.{point-gives, point-refused}
 use Rattle.exports.proofs.Plain.{gave, gave_nothing}
-use borrow.Author.Rules.{rules}
 use Rattle.exports.proofs.beziers.pz_get_bezier_point_at.Goals as goal
 
 pub returns-in-At : goal.returns-in-At

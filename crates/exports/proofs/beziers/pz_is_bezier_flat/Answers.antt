@@ -2,7 +2,6 @@
 use mathlib.Core.Path.{refl}
 use Rattle.exports.proofs.Answers.{flat-gives, flat-refused}
 use Rattle.exports.proofs.Plain.{tells, tells_nothing}
-use borrow.Author.Rules.{rules}
 use Rattle.exports.proofs.beziers.pz_is_bezier_flat.Goals as goal
 
 pub returns-in-Is : goal.returns-in-Is

@@ -2,7 +2,6 @@
 use Rattle.geo.specs.Lent.{flat}
 use Rattle.bezier.specs.Linearize.{six}
 use Rattle.exports.proofs.Plain.{listed}
-use borrow.Author.Rules.{rules}
 use Rattle.exports.proofs.beziers.pz_linearize_bezier.Goals as goal
 
 pub returns : goal.returns

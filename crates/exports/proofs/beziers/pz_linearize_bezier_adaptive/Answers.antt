@@ -1,7 +1,6 @@
 -- `exports::beziers::pz_linearize_bezier_adaptive` meets its contract: what is written stays, and the answer is handed on. Assumes nothing.
 use Rattle.geo.specs.Lent.{flat, pair}
 use Rattle.exports.proofs.Plain.{listed}
-use borrow.Author.Rules.{rules}
 use Rattle.exports.proofs.beziers.pz_linearize_bezier_adaptive.Goals as goal
 
 pub returns : goal.returns

@@ -4,7 +4,6 @@ use Rattle.exports.specs.Plain.{eight, sixteen}
 use Rattle.exports.proofs.Answers.{split_gives, split_refused}
 use Rattle.exports.proofs.Plain.{gave, gave_nothing}
 use Rattle.exports.proofs.Runs.{two_runs}
-use borrow.Author.Rules.{rules}
 use Rattle.exports.proofs.beziers.pz_split_bezier.Goals as goal
 
 pub returns-in-Halves : goal.returns-in-Halves

@@ -2,7 +2,6 @@
 use mathlib.Core.Path.{refl}
 use Rattle.exports.proofs.Answers.{collinear-gives, collinear-refused}
 use Rattle.exports.proofs.Plain.{tells, tells_nothing}
-use borrow.Author.Rules.{rules}
 use Rattle.exports.proofs.circles.pz_are_points_collinear_3d.Goals as goal
 
 pub returns-in-Is : goal.returns-in-Is

@@ -3,7 +3,6 @@ use mathlib.Core.Path.{refl}
 use Rattle.exports.specs.Plain.{is_found, through_numbers}
 use Rattle.exports.proofs.Answers.{through-gives, through-none, through-refused}
 use Rattle.exports.proofs.Plain.{gave, gave_nothing, tells, tells_nothing}
-use borrow.Author.Rules.{rules}
 use Rattle.exports.proofs.circles.pz_fit_circle_to_3_points.Goals as goal
 
 pub returns-in-Around : goal.returns-in-Around

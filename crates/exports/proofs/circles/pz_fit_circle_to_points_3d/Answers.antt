@@ -5,7 +5,6 @@ use Rattle.exports.specs.Plain.{is_found, circle_numbers}
 use Rattle.exports.proofs.Answers.{fitted-gives, fitted_none, fitted-refused}
 use Rattle.exports.proofs.Plain.{gave, gave_nothing, tells, tells_nothing}
 use Rattle.exports.proofs.Runs.{two_runs}
-use borrow.Author.Rules.{rules}
 use Rattle.exports.proofs.circles.pz_fit_circle_to_points_3d.Goals as goal
 
 pub returns-in-Circle : goal.returns-in-Circle

@@ -2,7 +2,6 @@
 use Rattle.geo.specs.Lent.{pair}
 use Rattle.exports.proofs.Answers.{projected-gives, projected-refused}
 use Rattle.exports.proofs.Plain.{gave, gave_nothing}
-use borrow.Author.Rules.{rules}
 use Rattle.exports.proofs.circles.pz_project_circle_center_to_bisector.Goals as goal
 
 pub returns-in-At : goal.returns-in-At

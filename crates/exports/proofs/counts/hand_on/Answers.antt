@@ -1,6 +1,5 @@
 -- `exports::counts::hand_on` meets its contract: by the answer's case. Assumes nothing.
 use Rattle.exports.specs.Plain.{refused_by, count_or}
-use borrow.Author.Rules.{rules}
 use Rattle.exports.proofs.counts.hand_on.Goals as goal
 
 pub returns-in-Written : goal.returns-in-Written

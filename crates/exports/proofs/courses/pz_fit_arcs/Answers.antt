@@ -1,6 +1,5 @@
 -- `exports::courses::pz_fit_arcs` meets its contract: what is written stays, and the answer is handed on. Assumes nothing.
 use Rattle.exports.proofs.Plain.{listed-commands}
-use borrow.Author.Rules.{rules}
 use Rattle.exports.proofs.courses.pz_fit_arcs.Goals as goal
 
 pub returns : goal.returns

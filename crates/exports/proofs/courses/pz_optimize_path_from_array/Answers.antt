@@ -1,6 +1,5 @@
 -- `exports::courses::pz_optimize_path_from_array` meets its contract: what is written stays, and the answer is handed on. Assumes nothing.
 use Rattle.exports.proofs.Plain.{listed-commands}
-use borrow.Author.Rules.{rules}
 use Rattle.exports.proofs.courses.pz_optimize_path_from_array.Goals as goal
 
 pub returns : goal.returns

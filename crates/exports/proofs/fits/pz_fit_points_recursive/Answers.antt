@@ -1,6 +1,5 @@
 -- `exports::fits::pz_fit_points_recursive` meets its contract: what is written stays, and the answer is handed on. Assumes nothing.
 use Rattle.exports.proofs.Plain.{listed-commands}
-use borrow.Author.Rules.{rules}
 use Rattle.exports.proofs.fits.pz_fit_points_recursive.Goals as goal
 
 pub returns : goal.returns

@@ -1,6 +1,5 @@
 -- `exports::fits::pz_fit_points_with_primitives` meets its contract: what is written stays, and the answer's two numbers are handed on. Assumes nothing.
 use Rattle.exports.proofs.Plain.{listed-fit, listed_no_fit}
-use borrow.Author.Rules.{rules}
 use Rattle.exports.proofs.fits.pz_fit_points_with_primitives.Goals as goal
 
 pub returns-in-Fitted : goal.returns-in-Fitted

@@ -2,7 +2,6 @@
 use mathlib.Core.Path.{refl}
 use Rattle.exports.proofs.Answers.{line_gives, line_refused}
 use Rattle.exports.proofs.Plain.{tells, tells_nothing}
-use borrow.Author.Rules.{rules}
 use Rattle.exports.proofs.fits.pz_get_polyline_line_deviation.Goals as goal
 
 pub returns-in-Is : goal.returns-in-Is

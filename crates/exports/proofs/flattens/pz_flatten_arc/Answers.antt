@@ -1,6 +1,5 @@
 -- `exports::flattens::pz_flatten_arc` meets its contract: what is written stays, and the answer is handed on. Assumes nothing.
 use Rattle.exports.proofs.Plain.{listed-commands}
-use borrow.Author.Rules.{rules}
 use Rattle.exports.proofs.flattens.pz_flatten_arc.Goals as goal
 
 pub returns : goal.returns

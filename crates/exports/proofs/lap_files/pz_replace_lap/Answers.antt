@@ -2,7 +2,6 @@
 use Prim.Native.Nat.{ℕ}
 use mathlib.Core.List.{List}
 use Rattle.exports.proofs.Plain.{listed}
-use borrow.Author.Rules.{rules}
 use Rattle.exports.proofs.lap_files.pz_replace_lap.Goals as goal
 
 pub returns : goal.returns

@@ -1,6 +1,5 @@
 -- `exports::lap_sessions::pz_ask_lap` meets its contract: by the answer's case, the ticket is stored, or the number is handed back. Assumes nothing.
 use Rattle.exports.proofs.LapSessions.{ticket-lent, ticket_not_lent}
-use borrow.Author.Rules.{rules}
 use Rattle.exports.proofs.lap_sessions.pz_ask_lap.Goals as goal
 
 pub returns-in-Given : goal.returns-in-Given

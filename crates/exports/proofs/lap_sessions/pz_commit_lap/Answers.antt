@@ -1,6 +1,5 @@
 -- `exports::lap_sessions::pz_commit_lap` meets its contract: by the answer's case, the edit number and the count are stored, or the number is handed back. Assumes nothing.
 use Rattle.exports.proofs.LapSessions.{commit_lent, commit_not_lent}
-use borrow.Author.Rules.{rules}
 use Rattle.exports.proofs.lap_sessions.pz_commit_lap.Goals as goal
 
 pub returns-in-Written : goal.returns-in-Written

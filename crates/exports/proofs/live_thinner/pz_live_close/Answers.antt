@@ -1,6 +1,5 @@
 -- `exports::live_thinner::pz_live_close` meets its contract: by the end's case, the flag and the end are stored, or the number is handed back. Assumes nothing.
 use Rattle.exports.proofs.LiveThinner.{shut_at, shut_none, shut-refused}
-use borrow.Author.Rules.{rules}
 use Rattle.exports.proofs.live_thinner.pz_live_close.Goals as goal
 
 pub returns-in-At : goal.returns-in-At

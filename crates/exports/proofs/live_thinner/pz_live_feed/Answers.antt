@@ -1,6 +1,5 @@
 -- `exports::live_thinner::pz_live_feed` meets its contract: by the end's case, the next state and the end are stored, or the number is handed back. Assumes nothing.
 use Rattle.exports.proofs.LiveThinner.{at_point, fed_at, fed-none, fed-refused}
-use borrow.Author.Rules.{rules}
 use Rattle.exports.proofs.live_thinner.pz_live_feed.Goals as goal
 
 pub returns-in-At : goal.returns-in-At

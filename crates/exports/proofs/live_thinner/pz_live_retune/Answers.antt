@@ -1,6 +1,5 @@
 -- `exports::live_thinner::pz_live_retune` meets its contract: by the answer's case, the next state and the count are stored, or the number is handed back. Assumes nothing.
 use Rattle.exports.proofs.LiveThinner.{retold, not_retold}
-use borrow.Author.Rules.{rules}
 use Rattle.exports.proofs.live_thinner.pz_live_retune.Goals as goal
 
 pub returns-in-Written : goal.returns-in-Written

@@ -1,6 +1,5 @@
 -- `exports::live_thinner::pz_live_start` meets its contract: the state is stored, or the number handed back. Assumes nothing.
 use Rattle.exports.proofs.LiveThinner.{not_begun, begun}
-use borrow.Author.Rules.{rules}
 use Rattle.exports.proofs.live_thinner.pz_live_start.Goals as goal
 
 pub returns-then-s-ne0 : goal.returns-then-s-ne0

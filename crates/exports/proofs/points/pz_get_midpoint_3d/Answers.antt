@@ -2,7 +2,6 @@
 use Rattle.geo.specs.Lent.{triple}
 use Rattle.exports.proofs.Answers.{midpoint-gives, midpoint-refused}
 use Rattle.exports.proofs.Plain.{gave, gave_nothing}
-use borrow.Author.Rules.{rules}
 use Rattle.exports.proofs.points.pz_get_midpoint_3d.Goals as goal
 
 pub returns-in-At : goal.returns-in-At

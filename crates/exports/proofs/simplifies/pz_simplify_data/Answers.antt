@@ -1,6 +1,5 @@
 -- `exports::simplifies::pz_simplify_data` meets its contract: what is written stays, and the answer is handed on. Assumes nothing.
 use Rattle.exports.proofs.Plain.{listed-commands}
-use borrow.Author.Rules.{rules}
 use Rattle.exports.proofs.simplifies.pz_simplify_data.Goals as goal
 
 pub returns : goal.returns

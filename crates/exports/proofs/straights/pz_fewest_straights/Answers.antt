@@ -1,6 +1,5 @@
 -- `exports::straights::pz_fewest_straights` meets its contract: what is written stays, and the answer's three numbers are handed on. Assumes nothing.
 use Rattle.exports.proofs.Fewest.{tell_straights, tell_no_straights}
-use borrow.Author.Rules.{rules}
 use Rattle.exports.proofs.straights.pz_fewest_straights.Goals as goal
 
 pub returns-in-Are : goal.returns-in-Are

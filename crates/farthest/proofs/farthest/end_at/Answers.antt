@@ -1,6 +1,5 @@
 -- `farthest::farthest::end_at` meets its contract, by what `command_at` and `end_point` ensure. Assumes nothing.
 use mathlib.Core.Path.{ap, ◌∙◌}
-use borrow.Author.Rules.{rules}
 use Rattle.geo.specs.Lent.{end_of}
 use Rattle.farthest.proofs.farthest.end_at.Goals as goal
 

@@ -1,5 +1,4 @@
 -- `farthest::farthest::farthest_between` meets its contract: what the search by each distance promises. Assumes nothing.
-use borrow.Author.Rules.{rules}
 use Rattle.farthest.proofs.farthest.farthest_between.Goals as goal
 
 pub returns-in-Line : goal.returns-in-Line

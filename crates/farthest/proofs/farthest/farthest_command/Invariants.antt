@@ -1,10 +1,8 @@
 -- `farthest::farthest::farthest_command` meets its contract. The invariant: the commands left, searched from the best so far, end where the whole search ends, and the search is sound. The measure is how many are left. Assumes nothing.
 use Prim.Native.Nat.{◌-◌}
-use native.Mathlib.Omega.{arith}
-use borrow.Author.Rules.{rules}
 use Rattle.geo.specs.Lent.{command_at}
 use Rattle.farthest.specs.Ends.{command_sq}
-use Rattle.farthest.proofs.Scan.{Searching, searching_start, searching_turn, onward-done, measured_command}
+use Rattle.farthest.proofs.Scan.{Searching}
 use Rattle.farthest.proofs.farthest.farthest_command.Given as goal
 
 abbrev pub invariant-loop-i : goal.invariant-loop-i

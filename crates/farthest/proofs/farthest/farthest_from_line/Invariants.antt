@@ -1,10 +1,8 @@
 -- `farthest::farthest::farthest_from_line` meets its contract. The invariant: the points left, searched from the best so far, end where the whole search ends, and the search is sound. The measure is how many are left. Assumes nothing.
 use Prim.Native.Nat.{◌-◌}
-use native.Mathlib.Omega.{arith}
-use borrow.Author.Rules.{rules}
 use Rattle.geo.specs.Lent.{point_at}
 use Rattle.farthest.specs.Measure.{line_sq}
-use Rattle.farthest.proofs.Scan.{Searching, searching_start, searching_turn, onward-done, measured}
+use Rattle.farthest.proofs.Scan.{Searching}
 use Rattle.farthest.proofs.farthest.farthest_from_line.Given as goal
 
 abbrev pub invariant-loop-i : goal.invariant-loop-i

@@ -1,12 +1,9 @@
 -- `farthest::farthest::farthest_from_segment` meets its contract. The invariant: the points left, searched from the best so far, end where the whole search ends. The measure is how many are left. Assumes nothing.
 use Prim.Native.Nat.{◌+◌, ◌-◌, ◌≤◌, ◌<◌}
 use mathlib.Core.Path.{◌≡◌}
-use native.Mathlib.Omega.{arith}
-use borrow.Author.Rules.{rules}
 use Rattle.geo.specs.Lent.{point_at}
 use Rattle.segment.specs.Segment.{segment_sq}
 use Rattle.farthest.specs.Farthest.{farthest_of, farthest_in}
-use Rattle.farthest.proofs.Scan.{scan_onward, scan_two, scan_last, scan_done, laid}
 use Rattle.farthest.proofs.farthest.farthest_from_segment.Given as goal
 
 abbrev pub invariant-loop-i : goal.invariant-loop-i

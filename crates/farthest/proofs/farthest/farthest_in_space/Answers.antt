@@ -1,10 +1,8 @@
 -- `farthest::farthest::farthest_in_space` meets its contract. The invariant: the points left, searched from the best so far, end where the whole search ends. The measure is how many are left. Assumes nothing.
-use Prim.Native.Nat.{◌-◌}
 use native.Mathlib.Omega.{arith}
-use borrow.Author.Rules.{rules}
 use Rattle.geo.specs.Lent.{point_at}
 use Rattle.segment.specs.Segment.{space_sq}
-use Rattle.farthest.proofs.Scan.{Onward, onward-start, onward_turn, onward-done, laid_climb}
+use Rattle.farthest.proofs.Scan.{onward-start, onward_turn, onward-done, laid_climb}
 use Rattle.farthest.proofs.farthest.farthest_in_space.Goals as goal
 
 pub point_at-requires : goal.point_at-requires

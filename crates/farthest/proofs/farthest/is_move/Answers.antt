@@ -1,5 +1,4 @@
 -- `farthest::farthest::is_move` meets its contract: by the command's case. Assumes nothing.
-use borrow.Author.Rules.{rules}
 use Rattle.farthest.specs.Ends.{is_move}
 use Rattle.farthest.proofs.farthest.is_move.Goals as goal
 

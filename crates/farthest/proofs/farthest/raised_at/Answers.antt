@@ -1,6 +1,5 @@
 -- `farthest::farthest::raised_at` meets its contract, by what `pair_at` ensures. Assumes nothing.
 use mathlib.Core.Path.{ap}
-use borrow.Author.Rules.{rules}
 use Rattle.farthest.specs.Measure.{raised}
 use Rattle.farthest.proofs.farthest.raised_at.Goals as goal
 

@@ -1,5 +1,4 @@
 -- `fewest::fewest::cut` meets its contract: a cut lies strictly inside its range, so that both parts are shorter, and the left leaves room for the right. The measure is hi - lo. Assumes nothing.
-use Prim.Native.Nat.{◌<◌, ◌-◌, ℕ}
 use mathlib.Core.Path.{refl, ◌∙◌}
 use native.Mathlib.Omega.{arith}
 use Rattle.geo.proofs.Placed.{placed_one, placed-both}

@@ -1,10 +1,5 @@
 -- `fewest::fewest::cut` meets its contract: a cut lies strictly inside its range, so that both parts are shorter, and the left leaves room for the right. The measure is hi - lo. Assumes nothing.
-use Prim.Native.Nat.{◌<◌, ◌-◌, ℕ}
-use mathlib.Core.Path.{refl, ◌∙◌}
-use native.Mathlib.Omega.{arith}
-use Rattle.geo.proofs.Placed.{placed_one, placed-both}
-use Rattle.fewest.specs.Straights.{numbers_at}
-use Rattle.fewest.proofs.Cut.{passing-inside, cut_most, cut-none, cut-two}
+use Prim.Native.Nat.{◌-◌}
 use Rattle.fewest.proofs.fewest.+cut.Given as goal
 
 abbrev pub decreases-cut : goal.decreases-cut

@@ -5,7 +5,6 @@ use native.Mathlib.Omega.{arith}
 use borrow.Author.Tests.{lt-ltb, le-ltb}
 use Rattle.geo.proofs.Rows.{row_fails, row-passes, not_fails, not_passes, whole_fails, whole-passes, done}
 use Rattle.fewest.specs.Calls.{straights_rows}
-use borrow.Author.Rules.{rules}
 use Rattle.fewest.proofs.fewest.check_straights.Goals as goal
 
 pub returns-then-points-ne0 : goal.returns-then-points-ne0

@@ -2,7 +2,6 @@
 use mathlib.Core.Path.{refl}
 use lib.ListN.{length}
 use Rattle.fewest.proofs.Whole.{accepted, call_refused, call_given}
-use borrow.Author.Rules.{rules}
 use Rattle.fewest.proofs.fewest.fewest_straights.Goals as goal
 
 pub returns-then-refused-ne0 : goal.returns-then-refused-ne0

@@ -4,7 +4,6 @@ use native.Mathlib.Omega.{arith}
 use Rattle.ways.specs.Layers.{searched}
 use Rattle.fewest.specs.Lent.{stopped_of}
 use Rattle.fewest.proofs.Whole.{whole_below, whole-within, gave_found, gave_cut}
-use borrow.Author.Rules.{rules}
 use Rattle.fewest.proofs.fewest.find.Goals as goal
 
 pub overflow_add-bound : goal.overflow_add-bound

@@ -1,7 +1,6 @@
 -- `fewest::fewest::passes` meets its contract: where a point strays the Line does not pass, else the line deviation that `line_deviation` promises is compared. Assumes nothing.
 use mathlib.Core.Path.{sym}
 use native.Mathlib.Omega.{arith}
-use borrow.Author.Rules.{rules}
 use Rattle.fewest.specs.Straights.{passing}
 use Rattle.fewest.proofs.Stray.{chord_is}
 use Rattle.fewest.proofs.fewest.passes.Goals as goal

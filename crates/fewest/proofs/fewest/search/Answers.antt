@@ -1,14 +1,13 @@
 -- `fewest::fewest::search` meets its contract: the layers left give the whole; the measure is what is left of `last`. Assumes nothing.
 use Rattle.std.proofs.Common.{ap, not}
 use mathlib.Core.Path.{refl, sym, ◌∙◌}
-use Prim.Native.Nat.{◌+◌, ◌-◌}
+use Prim.Native.Nat.{◌+◌}
 use native.Mathlib.Omega.{arith}
-use borrow.Author.Rules.{rules}
 use borrow.Author.Tests.{not-true, not-false}
-use Rattle.ways.specs.Layers.{in_order, try_layer}
+use Rattle.ways.specs.Layers.{try_layer}
 use Rattle.fewest.specs.Straights.{passing}
 use Rattle.fewest.specs.Lent.{begun, state_of}
-use Rattle.ways.proofs.Steps.{Loop, loop_start, loop_next, loop_stop, loop_done, layers_steady, layer_on, layer_end}
+use Rattle.ways.proofs.Steps.{loop_start, loop_next, loop_stop, loop_done, layers_steady, layer_on, layer_end}
 use Rattle.fewest.proofs.fewest.search.Goals as goal
 
 pub loop-finished-init : goal.loop-finished-init

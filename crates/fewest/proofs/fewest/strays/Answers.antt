@@ -1,7 +1,5 @@
 -- `fewest::fewest::strays` meets its contract: a point of the range whose root reaches the tolerance lies strictly between, and so the Line does not pass. The measure is how many are left. Assumes nothing.
-use Prim.Native.Nat.{◌-◌, ◌<◌}
 use native.Mathlib.Omega.{arith}
-use borrow.Author.Rules.{rules}
 use Rattle.floats.proofs.Order.{clash}
 use Rattle.fewest.proofs.Stray.{stray}
 use Rattle.fewest.proofs.fewest.strays.Goals as goal

@@ -1,10 +1,6 @@
 -- `fewest::fewest::trace` meets its contract: the ends from the k-th on are written, and the parents before lead to the rest; the measure is k. Assumes nothing.
-use mathlib.Core.List.{[]}
-use Prim.Native.Nat.{◌-◌, ◌≤◌}
 use native.Mathlib.Omega.{arith}
-use borrow.Author.Rules.{rules}
-use Rattle.ways.specs.Layers.{back}
-use Rattle.fewest.proofs.Trace.{Traced, trace_start, trace_next, trace_done}
+use Rattle.fewest.proofs.Trace.{trace_start, trace_next, trace_done}
 use Rattle.fewest.proofs.fewest.trace.Goals as goal
 
 pub loop-k-init : goal.loop-k-init

@@ -2,11 +2,10 @@
 use Rattle.std.proofs.Common.{ap, not}
 use mathlib.Core.Path.{sym, ◌∙◌}
 use borrow.Author.Tests.{not-true, not-false}
-use Rattle.ways.proofs.Steps.{pairs-steady, Loop, loop_start, loop_next, loop_stop, loop_done}
-use Prim.Native.Nat.{◌+◌, ◌-◌, ◌<◌}
+use Rattle.ways.proofs.Steps.{pairs-steady, loop_start, loop_next, loop_stop, loop_done}
+use Prim.Native.Nat.{◌+◌, ◌-◌}
 use native.Mathlib.Omega.{arith}
-use borrow.Author.Rules.{rules}
-use Rattle.ways.specs.Layers.{in_order, try_pair}
+use Rattle.ways.specs.Layers.{try_pair}
 use Rattle.fewest.specs.Straights.{passing}
 use Rattle.fewest.specs.Lent.{state_of}
 use Rattle.fewest.proofs.fewest.try_later.Goals as goal

@@ -1,11 +1,6 @@
 -- `fewest::fewest::try_later` meets its contract: the pairs left from v on give the whole; the measure is what is left of the points. Assumes nothing.
-use Rattle.std.proofs.Common.{ap, not}
-use mathlib.Core.Path.{sym, ◌∙◌}
-use borrow.Author.Tests.{not-true, not-false}
-use Rattle.ways.proofs.Steps.{pairs-steady, Loop, loop_start, loop_next, loop_stop, loop_done}
+use Rattle.ways.proofs.Steps.{Loop}
 use Prim.Native.Nat.{◌+◌, ◌-◌, ◌<◌}
-use native.Mathlib.Omega.{arith}
-use borrow.Author.Rules.{rules}
 use Rattle.ways.specs.Layers.{in_order, try_pair}
 use Rattle.fewest.specs.Straights.{passing}
 use Rattle.fewest.specs.Lent.{state_of}

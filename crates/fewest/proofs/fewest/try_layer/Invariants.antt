@@ -1,14 +1,9 @@
 -- `fewest::fewest::try_layer` meets its contract: the points left from u on give the whole; the measure is what is left of the points. Assumes nothing.
-use Rattle.std.proofs.Common.{ap, not}
-use mathlib.Core.Path.{sym, ◌∙◌}
 use Prim.Native.Nat.{◌+◌, ◌-◌}
-use native.Mathlib.Omega.{arith}
-use borrow.Author.Rules.{rules}
-use borrow.Author.Tests.{not-true, not-false}
 use Rattle.ways.specs.Layers.{in_order, try_point}
 use Rattle.fewest.specs.Straights.{passing}
 use Rattle.fewest.specs.Lent.{state_of}
-use Rattle.ways.proofs.Steps.{Loop, loop_start, loop_next, loop_stop, loop_done, points-steady}
+use Rattle.ways.proofs.Steps.{Loop}
 use Rattle.fewest.proofs.fewest.try_layer.Given as goal
 
 abbrev pub invariant-loop-u : goal.invariant-loop-u

@@ -3,7 +3,6 @@ use Rattle.fewest.specs.Straights.{passing}
 use Rattle.fewest.specs.Lent.{state_of}
 use Rattle.ways.proofs.Steps.{pair_old, pair-spent, pair-missed, pair_end, pair-on}
 use mathlib.Core.Path.{sym, ◌∙◌}
-use borrow.Author.Rules.{rules}
 use Rattle.fewest.proofs.fewest.try_pair.Goals as goal
 
 pub returns-then-level-v-gt0 : goal.returns-then-level-v-gt0

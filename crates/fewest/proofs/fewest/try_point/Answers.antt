@@ -3,7 +3,6 @@ use mathlib.Core.Path.{sym, ◌∙◌}
 use Rattle.fewest.specs.Straights.{passing}
 use Rattle.fewest.specs.Lent.{state_of}
 use Rattle.ways.proofs.Steps.{point_now, point_else}
-use borrow.Author.Rules.{rules}
 use Rattle.fewest.proofs.fewest.try_point.Goals as goal
 
 pub returns-then-wide-finished : goal.returns-then-wide-finished

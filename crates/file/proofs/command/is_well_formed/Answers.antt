@@ -3,7 +3,6 @@ use mathlib.Core.Bool.{true}
 use Rattle.geo.proofs.And.{and_2, and_2_first}
 use Rattle.geo.proofs.Formed.{formed_unused, formed_used}
 use Rattle.file.specs.Command.{well_formed}
-use borrow.Author.Rules.{rules}
 use Rattle.file.proofs.command.is_well_formed.Goals as goal
 
 pub returns-then-is_zero_from : goal.returns-then-is_zero_from

@@ -3,7 +3,6 @@ use mathlib.Core.Bool.{true}
 use Rattle.geo.specs.Domain.{zero3}
 use Rattle.geo.proofs.And.{and_3, and_3_first, and_3_second}
 use Rattle.file.specs.Command.{point_from}
-use borrow.Author.Rules.{rules}
 use Rattle.file.proofs.command.is_zero_from.Goals as goal
 
 pub returns-then-is_plus_zero_at-2 : goal.returns-then-is_plus_zero_at-2

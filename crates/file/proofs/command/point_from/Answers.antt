@@ -1,6 +1,5 @@
 -- `file::command::point_from` meets its contract: three numbers. Assumes nothing.
 use Rattle.file.specs.Command.{point_from}
-use borrow.Author.Rules.{rules}
 use Rattle.file.proofs.command.point_from.Goals as goal
 
 pub returns : goal.returns

@@ -1,6 +1,5 @@
 -- `file::command::put_point` meets its contract: three numbers, one behind the other. Assumes nothing.
 use Rattle.file.proofs.Stores.{three}
-use borrow.Author.Rules.{rules}
 use Rattle.file.proofs.command.put_point.Goals as goal
 
 pub returns : goal.returns

@@ -2,7 +2,6 @@
 use native.Mathlib.Omega.{arith}
 use lib.ListN.{length-set}
 use Rattle.file.proofs.Stores.{points}
-use borrow.Author.Rules.{rules}
 use Rattle.file.proofs.command.put_points.Goals as goal
 
 pub put_point-requires : goal.put_point-requires

@@ -2,7 +2,6 @@
 use mathlib.Core.Path.{◌∙◌}
 use Rattle.file.specs.Command.{decoded}
 use Rattle.file.proofs.Blank.{end-alone}
-use borrow.Author.Rules.{rules}
 use Rattle.file.proofs.command.read_command.Goals as goal
 
 pub returns-then-s-lt2 : goal.returns-then-s-lt2

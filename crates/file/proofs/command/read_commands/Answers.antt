@@ -1,9 +1,8 @@
 -- `file::command::read_commands` meets its contract: the commands that are left, read from here, give the whole. The measure is how many are left. Assumes nothing.
-use Prim.Native.Nat.{◌-◌}
 use mathlib.Core.Path.{refl}
 use native.Mathlib.Omega.{arith}
 use lib.ListN.{length-take, length-drop}
-use Rattle.file.proofs.Walks.{Reading, reading_start, reading_step, reading_done}
+use Rattle.file.proofs.Walks.{reading_start, reading_step, reading_done}
 use Rattle.file.proofs.command.read_commands.Goals as goal
 
 pub loop-i-init : goal.loop-i-init

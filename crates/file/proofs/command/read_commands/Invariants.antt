@@ -1,9 +1,6 @@
 -- `file::command::read_commands` meets its contract: the commands that are left, read from here, give the whole. The measure is how many are left. Assumes nothing.
 use Prim.Native.Nat.{◌-◌}
-use mathlib.Core.Path.{refl}
-use native.Mathlib.Omega.{arith}
-use lib.ListN.{length-take, length-drop}
-use Rattle.file.proofs.Walks.{Reading, reading_start, reading_step, reading_done}
+use Rattle.file.proofs.Walks.{Reading}
 use Rattle.file.proofs.command.read_commands.Given as goal
 
 abbrev pub invariant-loop-i : goal.invariant-loop-i

@@ -1,5 +1,4 @@
 -- `file::command::read_curve` meets its contract: a kind and three points. Assumes nothing.
-use borrow.Author.Rules.{rules}
 use Rattle.file.proofs.command.read_curve.Goals as goal
 
 pub returns : goal.returns

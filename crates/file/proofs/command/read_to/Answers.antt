@@ -6,7 +6,6 @@ use lib.Seq.{sets}
 use Rattle.geo.specs.declared.types.Command.{Command}
 use Rattle.geo.specs.Lent.{kind_of, numbers_of}
 use Rattle.file.proofs.Blank.{a_move, a_line}
-use borrow.Author.Rules.{rules}
 use Rattle.file.proofs.command.read_to.Goals as goal
 
 pub put_command-requires : goal.put_command-requires

@@ -1,6 +1,5 @@
 -- `file::command::write_command` meets its contract: by the case of the command, its kind and three points. Assumes nothing.
 use Rattle.file.proofs.Stores.{wrote, enc-move, enc-line, enc-arc, enc_bezier}
-use borrow.Author.Rules.{rules}
 use Rattle.file.proofs.command.write_command.Goals as goal
 
 pub returns-in-Move : goal.returns-in-Move

@@ -1,7 +1,6 @@
 -- `file::command::write_commands` meets its contract: the commands that are left, written from here, give the whole. The measure is how many are left. Assumes nothing.
-use Prim.Native.Nat.{◌-◌}
 use native.Mathlib.Omega.{arith}
-use Rattle.file.proofs.Walks.{Putting, putting_start, putting_step, putting_done}
+use Rattle.file.proofs.Walks.{putting_start, putting_step, putting_done}
 use Rattle.file.proofs.command.write_commands.Goals as goal
 
 pub loop-i-init : goal.loop-i-init

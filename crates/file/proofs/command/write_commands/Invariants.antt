@@ -1,7 +1,6 @@
 -- `file::command::write_commands` meets its contract: the commands that are left, written from here, give the whole. The measure is how many are left. Assumes nothing.
 use Prim.Native.Nat.{◌-◌}
-use native.Mathlib.Omega.{arith}
-use Rattle.file.proofs.Walks.{Putting, putting_start, putting_step, putting_done}
+use Rattle.file.proofs.Walks.{Putting}
 use Rattle.file.proofs.command.write_commands.Given as goal
 
 abbrev pub invariant-loop-i : goal.invariant-loop-i

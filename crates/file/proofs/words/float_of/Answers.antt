@@ -4,7 +4,6 @@ use mathlib.Core.Bool.{Bool, true, not}
 use lib.Dec.{T}
 use lib.Ieee.{Float, nan, inf, fin, binary64, div, of_bits, is_nan}
 use lib.Ieee.Bits.{nan_bits_is}
-use borrow.Author.Rules.{rules}
 use Rattle.file.proofs.words.float_of.Goals as goal
 
 nan_is : (x : Float) → is_nan x ≡ true → x ≡ nan

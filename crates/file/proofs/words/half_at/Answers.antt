@@ -1,7 +1,6 @@
 -- `file::words::half_at` meets its contract: four bytes, each below 256. Assumes nothing.
 use native.Mathlib.Omega.{arith}
 use Rattle.file.specs.Bytes.{half_at}
-use borrow.Author.Rules.{rules}
 use Rattle.file.proofs.words.half_at.Goals as goal
 
 pub returns : goal.returns

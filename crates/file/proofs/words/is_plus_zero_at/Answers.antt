@@ -1,6 +1,5 @@
 -- `file::words::is_plus_zero_at` meets its contract: both halves are 0. Assumes nothing.
 use Rattle.file.proofs.Blank.{high_half, low_half}
-use borrow.Author.Rules.{rules}
 use Rattle.file.proofs.words.is_plus_zero_at.Goals as goal
 
 pub returns-then-low-eq0 : goal.returns-then-low-eq0

@@ -2,7 +2,6 @@
 use mathlib.Core.Path.{ap, ◌∙◌}
 use lib.Ieee.{binary64, of_bits}
 use Rattle.file.specs.Bytes.{number_at}
-use borrow.Author.Rules.{rules}
 use Rattle.file.proofs.words.number_at.Goals as goal
 
 pub returns : goal.returns

@@ -1,6 +1,5 @@
 -- `file::words::pattern_of` meets its contract: a NaN is what differs from itself, and of any other the pattern may be read. Assumes nothing.
 use Rattle.file.proofs.Floats.{nan_pattern, no_nan}
-use borrow.Author.Rules.{rules}
 use Rattle.file.proofs.words.pattern_of.Goals as goal
 
 pub returns-then-x : goal.returns-then-x

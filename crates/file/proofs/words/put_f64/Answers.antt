@@ -1,6 +1,5 @@
 -- `file::words::put_f64` meets its contract: both halves of the pattern. Assumes nothing.
 use Rattle.file.proofs.Stores.{eight}
-use borrow.Author.Rules.{rules}
 use Rattle.file.proofs.words.put_f64.Goals as goal
 
 pub returns : goal.returns

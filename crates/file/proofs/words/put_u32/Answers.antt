@@ -2,7 +2,6 @@
 use native.Mathlib.Omega.{arith}
 use lib.ListN.{length-set}
 use Rattle.file.proofs.Stores.{four}
-use borrow.Author.Rules.{rules}
 use Rattle.file.proofs.words.put_u32.Goals as goal
 
 pub bounds-out-at-2 : goal.bounds-out-at-2

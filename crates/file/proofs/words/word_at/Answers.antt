@@ -1,6 +1,5 @@
 -- `file::words::word_at` meets its contract: two halves. Assumes nothing.
 use Rattle.file.specs.Bytes.{word_at}
-use borrow.Author.Rules.{rules}
 use Rattle.file.proofs.words.word_at.Goals as goal
 
 pub returns : goal.returns

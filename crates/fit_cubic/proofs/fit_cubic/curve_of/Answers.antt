@@ -4,7 +4,6 @@ use Rattle.fit_cubic.specs.declared.fit_cubic.FittedCubic.TheVariants.{Curve}
 use mathlib.Core.Path.{ap, ◌∙◌}
 use native.Mathlib.Omega.{arith}
 use Rattle.fit_cubic.proofs.Chords.{fitted_none, fitted-two, fitted_short, fitted-solved}
-use borrow.Author.Rules.{rules}
 use Rattle.fit_cubic.proofs.fit_cubic.curve_of.Goals as goal
 
 pub returns-then-n-lt2 : goal.returns-then-n-lt2

@@ -3,7 +3,6 @@ use Rattle.std.proofs.Common.{ap, not}
 use borrow.Author.Tests.{lt-ltb, le-ltb}
 use Rattle.geo.proofs.Rows.{row_fails, row-passes, not_fails, not_passes, whole_fails, whole-passes, done}
 use Rattle.fit_cubic.specs.Calls.{cubic_rows, cubic_call, cubic_answer}
-use borrow.Author.Rules.{rules}
 use Rattle.fit_cubic.proofs.fit_cubic.fit_cubic_bezier.Goals as goal
 
 pub returns-then-points-ne0 : goal.returns-then-points-ne0

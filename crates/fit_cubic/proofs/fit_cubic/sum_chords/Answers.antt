@@ -1,13 +1,12 @@
 -- `fit_cubic::fit_cubic::sum_chords` meets its contract: the loop's invariant is that the lengths before i are filled in. The measure is n - i. Assumes nothing.
 use mathlib.Core.Path.{◌≡◌, refl, ap, ◌∙◌, subst}
-use Prim.Native.Nat.{ℕ, ◌-◌, ◌≤◌}
+use Prim.Native.Nat.{ℕ}
 use native.Mathlib.Omega.{arith}
-use borrow.Author.Rules.{rules}
-use lib.ListN.{length, length-set}
+use lib.ListN.{length-set}
 use lib.Ieee.{Float, binary64, add}
 use Rattle.geo.specs.Lent.{pair_at}
 use Rattle.fit_cubic.specs.FitCubic.{Chords}
-use Rattle.fit_cubic.proofs.Chords.{Filling, filling_start, filling_step}
+use Rattle.fit_cubic.proofs.Chords.{filling_start, filling_step}
 use Rattle.fit_cubic.proofs.fit_cubic.sum_chords.Goals as goal
 
 pub loop-i-init : goal.loop-i-init

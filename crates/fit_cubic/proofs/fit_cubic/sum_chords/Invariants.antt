@@ -1,13 +1,9 @@
 -- `fit_cubic::fit_cubic::sum_chords` meets its contract: the loop's invariant is that the lengths before i are filled in. The measure is n - i. Assumes nothing.
-use mathlib.Core.Path.{◌≡◌, refl, ap, ◌∙◌, subst}
-use Prim.Native.Nat.{ℕ, ◌-◌, ◌≤◌}
-use native.Mathlib.Omega.{arith}
-use borrow.Author.Rules.{rules}
-use lib.ListN.{length, length-set}
-use lib.Ieee.{Float, binary64, add}
+use mathlib.Core.Path.{◌≡◌}
+use Prim.Native.Nat.{◌-◌, ◌≤◌}
+use lib.ListN.{length}
 use Rattle.geo.specs.Lent.{pair_at}
-use Rattle.fit_cubic.specs.FitCubic.{Chords}
-use Rattle.fit_cubic.proofs.Chords.{Filling, filling_start, filling_step}
+use Rattle.fit_cubic.proofs.Chords.{Filling}
 use Rattle.fit_cubic.proofs.fit_cubic.sum_chords.Given as goal
 
 abbrev pub invariant-loop-i : goal.invariant-loop-i

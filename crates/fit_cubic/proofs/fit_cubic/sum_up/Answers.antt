@@ -2,11 +2,9 @@
 use mathlib.Core.Path.{◌≡◌, ◌∙◌}
 use Prim.Native.Nat.{ℕ, ◌-◌}
 use native.Mathlib.Omega.{arith}
-use borrow.Author.Rules.{rules}
 use Rattle.floats.specs.Ops.{◌⊘◌}
 use Rattle.geo.specs.declared.types.Point.{Point}
 use Rattle.geo.specs.Lent.{pair_at}
-use Rattle.geo.specs.Walk.{fold}
 use Rattle.geo.proofs.Walk.{fold_turn, fold_done}
 use Rattle.fit_cubic.specs.declared.fit_cubic.Sums.{Sums}
 use Rattle.fit_cubic.specs.FitCubic.{chord_sum, add_point, cubic_sums}

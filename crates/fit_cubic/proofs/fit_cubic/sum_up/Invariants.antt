@@ -1,13 +1,10 @@
 -- `fit_cubic::fit_cubic::sum_up` meets its contract: the loop's invariant is that the points left decide the whole sum. The measure is how many are left. Assumes nothing.
-use mathlib.Core.Path.{◌≡◌, ◌∙◌}
+use mathlib.Core.Path.{◌≡◌}
 use Prim.Native.Nat.{ℕ, ◌-◌}
-use native.Mathlib.Omega.{arith}
-use borrow.Author.Rules.{rules}
 use Rattle.floats.specs.Ops.{◌⊘◌}
 use Rattle.geo.specs.declared.types.Point.{Point}
 use Rattle.geo.specs.Lent.{pair_at}
 use Rattle.geo.specs.Walk.{fold}
-use Rattle.geo.proofs.Walk.{fold_turn, fold_done}
 use Rattle.fit_cubic.specs.declared.fit_cubic.Sums.{Sums}
 use Rattle.fit_cubic.specs.FitCubic.{chord_sum, add_point, cubic_sums}
 use Rattle.fit_cubic.proofs.fit_cubic.sum_up.Given as goal

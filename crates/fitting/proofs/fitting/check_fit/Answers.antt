@@ -5,7 +5,6 @@ use Rattle.geo.proofs.Rows.{row_fails, row-passes, not_fails, not_passes, whole_
 use Rattle.deviations.proofs.Accepted.{points-refused, points_passed}
 use Rattle.fitting.specs.Calls.{fit_rows}
 use Rattle.fitting.proofs.Accepted.{most_fails, most-passes}
-use borrow.Author.Rules.{rules}
 use Rattle.fitting.proofs.fitting.check_fit.Goals as goal
 
 pub returns-then-nums-ne0 : goal.returns-then-nums-ne0

@@ -1,5 +1,4 @@
 -- `fitting::fitting::fit_points_recursive` meets its contract: a refusal is the table's, and what passed it is what `fit_range` asks. Assumes nothing.
-use borrow.Author.Rules.{rules}
 use mathlib.Core.Path.{refl}
 use native.Mathlib.Omega.{arith}
 use lib.ListN.{length}

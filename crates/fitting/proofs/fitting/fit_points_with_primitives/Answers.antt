@@ -2,7 +2,6 @@
 use lib.ListN.{length}
 use Rattle.fitting.proofs.Accepted.{wrote-to, left-to}
 use Rattle.fitting.proofs.Examined.{answer-few, answer-fitted, answer-refused}
-use borrow.Author.Rules.{rules}
 use Rattle.fitting.proofs.fitting.fit_points_with_primitives.Goals as goal
 
 pub ranges_of-requires : goal.ranges_of-requires

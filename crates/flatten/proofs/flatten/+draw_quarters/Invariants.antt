@@ -1,9 +1,4 @@
 -- `flatten::flatten::draw_quarters` meets its contract: the Lines of the first quarter, and behind them those of the rest. The measure is the number of quarter turns left. Assumes nothing.
-use mathlib.Core.Path.{◌∙◌}
-use Prim.Native.Nat.{◌-◌, ℕ, ◌<◌}
-use native.Mathlib.Omega.{arith}
-use borrow.Author.Rules.{rules}
-use Rattle.flatten.proofs.Passes.{ray_to, ray_len, same-placed, both-low, last-quarter, more_quarters}
 use Rattle.flatten.proofs.flatten.+draw_quarters.Given as goal
 
 abbrev pub decreases-draw_quarters : goal.decreases-draw_quarters

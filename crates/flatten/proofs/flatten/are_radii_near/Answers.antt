@@ -1,6 +1,5 @@
 -- `flatten::flatten::are_radii_near` meets its contract: by the three tests. Assumes nothing.
 use Rattle.flatten.specs.Calls.{near_radii}
-use borrow.Author.Rules.{rules}
 use Rattle.flatten.proofs.flatten.are_radii_near.Goals as goal
 
 pub returns-then-r : goal.returns-then-r

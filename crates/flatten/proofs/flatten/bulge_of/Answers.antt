@@ -1,6 +1,5 @@
 -- `flatten::flatten::bulge_of` meets its contract: the dot and the root as promised. Assumes nothing.
 use Rattle.flatten.specs.Written.{bulge_of}
-use borrow.Author.Rules.{rules}
 use Rattle.flatten.proofs.flatten.bulge_of.Goals as goal
 
 pub returns : goal.returns

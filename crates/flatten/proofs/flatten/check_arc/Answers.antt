@@ -6,7 +6,6 @@ use borrow.Author.Tests.{lt-ltb, le-ltb}
 use Rattle.geo.proofs.Rows.{row_fails, row-passes, not_fails, not_passes, whole_fails, whole-passes, done}
 use Rattle.flatten.specs.Calls.{flatten_rows}
 use Rattle.flatten.proofs.Whole.{nine_fails, nine-passes, formed_as, command_as, drawable_as}
-use borrow.Author.Rules.{rules}
 use Rattle.flatten.proofs.flatten.check_arc.Goals as goal
 
 pub returns-then-command-ne9 : goal.returns-then-command-ne9

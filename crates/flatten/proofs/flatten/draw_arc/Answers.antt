@@ -2,7 +2,6 @@
 use native.Mathlib.Omega.{arith}
 use Rattle.flatten.proofs.Passes.{ray_len}
 use Rattle.flatten.proofs.Whole.{arc-placed}
-use borrow.Author.Rules.{rules}
 use Rattle.flatten.proofs.flatten.draw_arc.Goals as goal
 
 pub draw_quarters-n-requires : goal.draw_quarters-n-requires

@@ -4,7 +4,6 @@ use lib.ListN.{length}
 use Rattle.geo.proofs.Outcomes.{commands-refused}
 use Rattle.flatten.specs.Calls.{flatten_call}
 use Rattle.flatten.proofs.Whole.{arc-accepted, wrote-arc}
-use borrow.Author.Rules.{rules}
 use Rattle.flatten.proofs.flatten.flatten_arc.Goals as goal
 
 pub returns-then-refused-ne0 : goal.returns-then-refused-ne0

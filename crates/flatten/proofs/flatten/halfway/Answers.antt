@@ -2,7 +2,6 @@
 use mathlib.Core.Path.{◌∙◌, ap}
 use Rattle.flatten.specs.Parts.{middle}
 use Rattle.flatten.specs.Written.{ray_of}
-use borrow.Author.Rules.{rules}
 use Rattle.flatten.proofs.flatten.halfway.Goals as goal
 
 pub returns : goal.returns

@@ -5,7 +5,6 @@ use mathlib.Core.Bool.{true, false}
 use borrow.Author.Tests.{eq-eqb, ne_eqb, not-true, not-false}
 use Rattle.geo.specs.Domain.{point3_in}
 use Rattle.flatten.specs.Calls.{upright, drawable}
-use borrow.Author.Rules.{rules}
 use Rattle.flatten.proofs.flatten.is_drawable.Goals as goal
 
 pub returns-then-kind-ne2 : goal.returns-then-kind-ne2

@@ -2,7 +2,6 @@
 use mathlib.Core.Path.{◌∙◌}
 use Rattle.flatten.specs.Calls.{round_by}
 use Rattle.flatten.specs.Written.{ray_of}
-use borrow.Author.Rules.{rules}
 use Rattle.flatten.proofs.flatten.is_round.Goals as goal
 
 pub returns : goal.returns

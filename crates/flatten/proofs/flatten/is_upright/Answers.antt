@@ -1,6 +1,5 @@
 -- `flatten::flatten::is_upright` meets its contract: by the three tests. Assumes nothing.
 use Rattle.flatten.specs.Calls.{upright}
-use borrow.Author.Rules.{rules}
 use Rattle.flatten.proofs.flatten.is_upright.Goals as goal
 
 pub returns-then-d-2 : goal.returns-then-d-2

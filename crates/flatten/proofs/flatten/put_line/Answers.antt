@@ -1,7 +1,6 @@
 -- `flatten::flatten::put_line` meets its contract: one command at a place. Assumes nothing.
 use Rattle.flatten.specs.Written.{low_line}
 use Rattle.pieces.proofs.Writing.{one_placed}
-use borrow.Author.Rules.{rules}
 use Rattle.flatten.proofs.flatten.put_line.Goals as goal
 
 pub returns : goal.returns

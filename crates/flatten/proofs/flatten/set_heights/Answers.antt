@@ -1,8 +1,7 @@
 -- `flatten::flatten::set_heights` meets its contract: the heights left, stored from here, give the whole. The measure is how many are left. Assumes nothing.
 use native.Mathlib.Omega.{arith}
-use Prim.Native.Nat.{◌-◌}
 use Rattle.flatten.specs.Lines.{height_after}
-use Rattle.flatten.proofs.Raising.{Raising, raising_start, raising_step, raising_done}
+use Rattle.flatten.proofs.Raising.{raising_start, raising_step, raising_done}
 use Rattle.flatten.proofs.flatten.set_heights.Goals as goal
 
 pub loop-i-init : goal.loop-i-init

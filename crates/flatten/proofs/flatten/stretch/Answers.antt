@@ -1,6 +1,5 @@
 -- `flatten::flatten::stretch` meets its contract: the length as promised. Assumes nothing.
 use Rattle.flatten.specs.Parts.{length_by, stretched}
-use borrow.Author.Rules.{rules}
 use Rattle.flatten.proofs.flatten.stretch.Goals as goal
 
 pub returns : goal.returns

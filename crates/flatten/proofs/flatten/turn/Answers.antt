@@ -1,7 +1,6 @@
 -- `flatten::flatten::turn` meets its contract: the quarter turn, and its length, as promised. Assumes nothing.
 use mathlib.Core.Path.{◌∙◌, ap}
 use Rattle.flatten.specs.Written.{ray_of}
-use borrow.Author.Rules.{rules}
 use Rattle.flatten.proofs.flatten.turn.Goals as goal
 
 pub returns : goal.returns

@@ -3,7 +3,6 @@ use Prim.Native.Nat.{◌≤◌, ℕ}
 use mathlib.Core.Path.{subst, sym}
 use Rattle.flatten.specs.Parts.{turns_before, onward}
 use Rattle.flatten.proofs.Parts.{turns-few}
-use borrow.Author.Rules.{rules}
 use Rattle.flatten.proofs.flatten.turns_before.Goals as goal
 
 pub returns-then-clockwise : goal.returns-then-clockwise

@@ -1,5 +1,5 @@
 -- `floats::float::ceil` meets its contract: below 2 ^ 52 by the two functions it calls, and from there on, and at zero and NaN, x is its own ceiling; that a ceiling is the
--- least whole number not below x is `ceil-is-least`. Assumes nothing.
+-- least whole number not below x is `ceil_is-least`. Assumes nothing.
 use Rattle.std.proofs.Common.{◌≡◌, T, sym, ap, ◌∙◌, subst}
 use lib.Ieee.{Float, binary64, of_bits, fits}
 use lib.Ieee.Scale.{finite}

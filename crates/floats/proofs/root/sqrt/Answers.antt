@@ -1,5 +1,5 @@
--- `floats::root::sqrt` meets its contract: the tests of the pattern tell the cases of `rootOf` apart, and `sqrt_finite` answers the finite ones with no minus sign; that
--- `rootOf` is IEEE 754's root is `root-is-rounded`. Assumes nothing.
+-- `floats::root::sqrt` meets its contract: the tests of the pattern tell the cases of `root_of` apart, and `sqrt_finite` answers the finite ones with no minus sign; that
+-- `root_of` is IEEE 754's root is `root_is_rounded`. Assumes nothing.
 use Rattle.std.proofs.Common.{◌≡◌, T, sym, ◌∙◌, subst}
 use lib.Ieee.{Float, binary64, fits}
 use Rattle.floats.specs.Root.{plain, root_of, Rounded}

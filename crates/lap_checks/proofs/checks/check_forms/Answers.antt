@@ -2,7 +2,6 @@
 use Rattle.std.proofs.Common.{ap, not}
 use borrow.Author.Tests.{not-true, not-false}
 use Rattle.lap_checks.proofs.Forms.{no_lap, file-refused, both-near, not_near}
-use borrow.Author.Rules.{rules}
 use Rattle.lap_checks.proofs.checks.check_forms.Goals as goal
 
 pub returns-then-not-formed : goal.returns-then-not-formed

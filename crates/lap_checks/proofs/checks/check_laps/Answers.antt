@@ -5,7 +5,6 @@ use Rattle.geo.proofs.Rows.{row_fails, row-passes, not_fails, not_passes, done}
 use Rattle.laps.proofs.Rows.{refused-front}
 use Rattle.lap_checks.specs.Checks.{later_rows}
 use Rattle.lap_checks.proofs.Forms.{behind_forms}
-use borrow.Author.Rules.{rules}
 use Rattle.lap_checks.proofs.checks.check_laps.Goals as goal
 
 pub returns-then-refused-ne0 : goal.returns-then-refused-ne0

@@ -4,7 +4,6 @@ use native.Mathlib.Omega.{arith}
 use Rattle.laps.specs.File.{laps_of}
 use Rattle.lap_checks.specs.Checks.{lent_new}
 use Rattle.lap_checks.proofs.Rows.{lent-nine, past_1, past_3, tables_of, laps_of_lem, tables_passed, tables_refused, laps_decide}
-use borrow.Author.Rules.{rules}
 use Rattle.lap_checks.proofs.checks.check_new.Goals as goal
 
 pub returns-then-refused-ne0 : goal.returns-then-refused-ne0

@@ -3,7 +3,6 @@ use mathlib.Core.Path.{sym, ◌∙◌}
 use Rattle.geo.proofs.Rows.{row_fails, row-passes, done}
 use Rattle.lap_checks.specs.Checks.{table_rows}
 use Rattle.lap_checks.proofs.Rows.{past_1, past_2, found_1, found_2, found_3}
-use borrow.Author.Rules.{rules}
 use Rattle.lap_checks.proofs.checks.check_tables.Goals as goal
 
 pub returns-then-any : goal.returns-then-any

@@ -1,7 +1,6 @@
 -- `lap_checks::checks::fails_7` meets its contract: each return is the row with the tests that led there. Assumes nothing.
 use borrow.Author.Tests.{eq-eqb, ne_eqb}
 use Rattle.lap_checks.specs.Checks.{row7}
-use borrow.Author.Rules.{rules}
 use Rattle.lap_checks.proofs.checks.fails_7.Goals as goal
 
 pub returns-then-k-eq0 : goal.returns-then-k-eq0

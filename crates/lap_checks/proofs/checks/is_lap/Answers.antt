@@ -5,7 +5,6 @@ use mathlib.Core.Bool.{true, false}
 use borrow.Author.Tests.{eq-eqb, ne_eqb, not-true, not-false}
 use Rattle.lap_checks.specs.Checks.{move_placed, lent_formed}
 use native.Mathlib.Omega.{arith}
-use borrow.Author.Rules.{rules}
 use Rattle.lap_checks.proofs.checks.is_lap.Goals as goal
 
 pub returns-then-kinds-eq0 : goal.returns-then-kinds-eq0

@@ -4,7 +4,6 @@ use Rattle.laps.specs.File.{laps_of}
 use Rattle.lap_fit.proofs.Cap.{cap_small}
 use Rattle.lap_checks.specs.Checks.{lent_new}
 use Rattle.lap_checks.proofs.Rows.{lent-nine, past_1, past_3, past_7, new_passed}
-use borrow.Author.Rules.{rules}
 use Rattle.lap_checks.proofs.checks.look_at_new.Goals as goal
 
 pub most_new-own-requires : goal.most_new-own-requires

@@ -1,5 +1,4 @@
 -- `lap_checks::checks::opens` meets its contract: by the first kind. Assumes nothing.
-use borrow.Author.Rules.{rules}
 use Rattle.lap_checks.proofs.checks.opens.Goals as goal
 
 pub returns : goal.returns

@@ -6,7 +6,6 @@ use Rattle.laps.specs.Rows.{file_rows}
 use Rattle.laps.proofs.Rows.{refused-front, file_passed, long_of}
 use Rattle.lap_fit.specs.Fit.{file_fit_rows}
 use Rattle.lap_fit.proofs.Rows.{fit_6, fit_sizes, sizes_told}
-use borrow.Author.Rules.{rules}
 use Rattle.lap_fit.proofs.fit.check_fit.Goals as goal
 
 pub returns-then-refused-ne0 : goal.returns-then-refused-ne0

@@ -5,7 +5,6 @@ use Rattle.geo.proofs.Outcomes.{wrote-refused}
 use Rattle.laps.proofs.Rows.{long_of, wrote-bytes}
 use Rattle.lap_fit.specs.Fit.{fit_file_by}
 use Rattle.lap_fit.proofs.Rows.{fit_passed}
-use borrow.Author.Rules.{rules}
 use Rattle.lap_fit.proofs.fit.fit_by.Goals as goal
 
 pub returns-then-refused-ne0 : goal.returns-then-refused-ne0

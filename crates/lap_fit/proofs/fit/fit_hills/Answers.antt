@@ -1,5 +1,4 @@
 -- `lap_fit::fit::fit_hills` meets its contract: it is the fit by the hills' rule. Assumes nothing.
-use borrow.Author.Rules.{rules}
 use Rattle.lap_fit.proofs.fit.fit_hills.Goals as goal
 
 pub returns : goal.returns

@@ -3,7 +3,6 @@ use mathlib.Core.Path.{sym, ap}
 use native.Mathlib.Omega.{arith}
 use lib.ListN.{length}
 use Rattle.lap_fit.proofs.Arrays.{long_kinds, long_numbers, most-read, fit-read, put_same}
-use borrow.Author.Rules.{rules}
 use Rattle.lap_fit.proofs.fit.fit_lap.Goals as goal
 
 pub slice_bounds-fit_lent-end-2 : goal.slice_bounds-fit_lent-end-2

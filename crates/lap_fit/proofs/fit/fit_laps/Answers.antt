@@ -1,17 +1,14 @@
 -- `lap_fit::fit::fit_laps` meets its contract: the laps that are left, written from here, give the whole file; each place lies in the file, each fit in what is left of the output, and the arrays keep their lengths. The measure is how many laps are left. Assumes nothing.
-use Prim.Native.Nat.{◌-◌, ◌*◌, ◌≤◌}
-use mathlib.Core.Path.{◌≡◌, refl, sym, subst}
+use Prim.Native.Nat.{◌≤◌}
+use mathlib.Core.Path.{refl, sym, subst}
 use mathlib.Core.List.{List}
 use native.Mathlib.Omega.{arith}
-use lib.ListN.{length}
-use Rattle.geo.specs.Domain.{most_commands}
 use Rattle.geo.specs.Lent.{origin}
-use Rattle.chain.specs.Chains.{chain_numbers}
-use Rattle.laps.specs.File.{Lap, laps_at, laps_of}
-use Rattle.laps.proofs.Going.{Going, turn}
-use Rattle.laps.proofs.Here.{Here, step, start_at, all-laps}
+use Rattle.laps.specs.File.{Lap, laps_of}
+use Rattle.laps.proofs.Going.{turn}
+use Rattle.laps.proofs.Here.{step, start_at, all-laps}
 use Rattle.laps.proofs.Turns.{ends_by, fits_next}
-use Rattle.lap_fit.specs.Fit.{fit_laps, laps_most}
+use Rattle.lap_fit.specs.Fit.{laps_most}
 use Rattle.lap_fit.proofs.Lap.{mosts_step}
 use Rattle.lap_fit.proofs.Turns.{total_most, fit_begin, fit_cons, fit-done}
 use Rattle.lap_fit.proofs.fit.fit_laps.Goals as goal

@@ -1,7 +1,6 @@
 -- `lap_fit::fit::fit_lent` meets its contract: what the fit left in the arrays is written as a lap. Assumes nothing.
 use native.Mathlib.Omega.{arith}
 use Rattle.lap_fit.proofs.Arrays.{fits-kinds, fits-numbers, counted_new, put_fit}
-use borrow.Author.Rules.{rules}
 use Rattle.lap_fit.proofs.fit.fit_lent.Goals as goal
 
 pub fit_course-n-requires : goal.fit_course-n-requires

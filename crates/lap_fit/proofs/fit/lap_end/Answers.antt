@@ -3,7 +3,6 @@ use mathlib.Core.Path.{refl}
 use native.Mathlib.Omega.{arith}
 use lib.ListN.{length-take, length-drop}
 use Rattle.lap_fit.proofs.Lap.{end_none, end_read}
-use borrow.Author.Rules.{rules}
 use Rattle.lap_fit.proofs.fit.lap_end.Goals as goal
 
 pub returns-then-n-eq0 : goal.returns-then-n-eq0

@@ -1,12 +1,10 @@
 -- `lap_fit::fit::most_lap` meets its contract: what is counted, and what the commands that are left count as, gives the whole. The measure is how many are left. Assumes nothing.
-use Prim.Native.Nat.{◌+◌, ◌-◌, ◌*◌, ◌≤◌}
-use mathlib.Core.Path.{◌≡◌, sym, ap, ◌∙◌}
+use Prim.Native.Nat.{◌+◌}
+use mathlib.Core.Path.{sym, ap, ◌∙◌}
 use native.Mathlib.Omega.{arith}
 use Rattle.chain.specs.Chains.{cap}
-use Rattle.file.specs.Command.{commands_at}
-use Rattle.lap_fit.specs.Fit.{lap_end, most_lap}
 use Rattle.lap_fit.proofs.Cap.{cap_small, cap_step, cap-done}
-use Rattle.lap_fit.proofs.Lap.{weights, weights_first, weights_step, weights_end}
+use Rattle.lap_fit.proofs.Lap.{weights_first, weights_step, weights_end}
 use Rattle.lap_fit.proofs.fit.most_lap.Goals as goal
 
 pub loop-i-init : goal.loop-i-init

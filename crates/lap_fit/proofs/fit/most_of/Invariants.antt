@@ -1,15 +1,11 @@
 -- `lap_fit::fit::most_of` meets its contract: the laps that are left, and the count so far, give the whole; each place lies in the file. The measure is how many laps are left. Assumes nothing.
 use Prim.Native.Nat.{◌+◌, ◌-◌, ◌≤◌}
-use mathlib.Core.Path.{◌≡◌, sym, ap, ◌∙◌}
-use native.Mathlib.Nat.{zero-add}
-use native.Mathlib.Omega.{arith}
+use mathlib.Core.Path.{◌≡◌}
 use Rattle.geo.specs.Lent.{origin}
 use Rattle.chain.specs.Chains.{cap}
 use Rattle.laps.specs.File.{laps_at, laps_of}
-use Rattle.laps.proofs.Here.{Here, step, start_at, all-laps}
+use Rattle.laps.proofs.Here.{Here}
 use Rattle.lap_fit.specs.Fit.{laps_most}
-use Rattle.lap_fit.proofs.Cap.{cap_small, cap_step, cap-done}
-use Rattle.lap_fit.proofs.Lap.{mosts_step, mosts_end}
 use Rattle.lap_fit.proofs.fit.most_of.Given as goal
 
 abbrev pub invariant-loop-j : goal.invariant-loop-j

@@ -1,6 +1,5 @@
 -- `lap_fit::fit::weight_at` meets its contract: any command but a Bezier counts once. Assumes nothing.
 use native.Mathlib.Omega.{arith}
-use borrow.Author.Rules.{rules}
 use lib.ListN.{length-take, length-drop}
 use Rattle.lap_fit.proofs.Lap.{once, weighed}
 use Rattle.lap_fit.proofs.fit.weight_at.Goals as goal

@@ -3,7 +3,6 @@ use mathlib.Core.Path.{sym, ◌∙◌}
 use Rattle.laps.specs.File.{laps_of}
 use Rattle.lap_checks.specs.Checks.{lent_new}
 use Rattle.lap_checks.proofs.Rows.{past_1, new_passed, new_refused, new_sizes, sizes_with}
-use borrow.Author.Rules.{rules}
 use Rattle.lap_replace.proofs.replace.check_replacement.Goals as goal
 
 pub returns-then-new-ne0 : goal.returns-then-new-ne0

@@ -8,7 +8,6 @@ use Rattle.laps.proofs.Rows.{wrote-bytes}
 use Rattle.lap_checks.specs.Checks.{lent_new}
 use Rattle.lap_replace.specs.Replace.{replace_lap}
 use Rattle.lap_checks.proofs.Rows.{lent-nine, replace_passed, past_1, past_3, past_7}
-use borrow.Author.Rules.{rules}
 use Rattle.lap_replace.proofs.replace.replace_lap.Goals as goal
 
 pub returns-then-refused-ne0 : goal.returns-then-refused-ne0

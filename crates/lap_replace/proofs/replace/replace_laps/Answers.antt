@@ -3,7 +3,6 @@ use native.Mathlib.Omega.{arith}
 use Rattle.laps.specs.File.{laps_of}
 use Rattle.lap_swap.proofs.Body.{both-few, as_replaced}
 use Rattle.lap_replace.proofs.Most.{own_in, most_in}
-use borrow.Author.Rules.{rules}
 use Rattle.lap_replace.proofs.replace.replace_laps.Goals as goal
 
 pub fit_both-fit-requires : goal.fit_both-fit-requires

@@ -8,7 +8,6 @@ use Rattle.laps.proofs.Rows.{refused-front, file_passed, long_of}
 use Rattle.lap_fit.proofs.Cap.{told-above, told_below}
 use Rattle.lap_rows.specs.Listing.{text_rows}
 use Rattle.lap_rows.proofs.Rows.{text_6, text_8, text_9, text_0}
-use borrow.Author.Rules.{rules}
 use Rattle.lap_rows.proofs.lap_rows.check_text.Goals as goal
 
 pub returns-then-refused-ne0 : goal.returns-then-refused-ne0

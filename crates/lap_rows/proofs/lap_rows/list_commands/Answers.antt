@@ -7,7 +7,6 @@ use Rattle.listing.proofs.Noted.{rows-placed}
 use Rattle.lap_fit.proofs.Arrays.{long_kinds, long_numbers, read_back, most-read}
 use Rattle.lap_rows.specs.Listing.{lap_rows}
 use Rattle.lap_text.proofs.Lines.{placed_same}
-use borrow.Author.Rules.{rules}
 use Rattle.lap_rows.proofs.lap_rows.list_commands.Goals as goal
 
 pub slice_bounds-fit_course_with_steps-end-2 : goal.slice_bounds-fit_course_with_steps-end-2

@@ -6,7 +6,6 @@ use Rattle.laps.proofs.Rows.{long_of, wrote-bytes}
 use Rattle.laps.proofs.Walks.{not_big}
 use Rattle.lap_rows.specs.Listing.{list_file}
 use Rattle.lap_rows.proofs.Rows.{text_passed}
-use borrow.Author.Rules.{rules}
 use Rattle.lap_rows.proofs.lap_rows.list_file.Goals as goal
 
 pub returns-then-refused-ne0 : goal.returns-then-refused-ne0

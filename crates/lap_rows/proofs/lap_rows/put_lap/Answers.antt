@@ -8,7 +8,6 @@ use Rattle.listing.specs.Rows.{ListRow, steps_in, sum_of}
 use Rattle.lap_rows.specs.Listing.{lap_text}
 use Rattle.lap_text.proofs.Lines.{rows_back, text_same}
 use Rattle.lap_rows.proofs.Counts.{rows_few, rows-steps, rows_short}
-use borrow.Author.Rules.{rules}
 use Rattle.lap_rows.proofs.lap_rows.put_lap.Goals as goal
 
 pub list_commands-rows-requires : goal.list_commands-rows-requires

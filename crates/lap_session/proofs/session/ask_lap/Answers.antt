@@ -7,7 +7,6 @@ use Rattle.lap_checks.specs.Checks.{lent_new, most_with}
 use Rattle.lap_checks.proofs.Rows.{lent-nine, past_1, past_3, past_7}
 use Rattle.lap_session.specs.Session.{ask_lap}
 use Rattle.lap_session.proofs.Rows.{ask_passed, not_asked, is_asked}
-use borrow.Author.Rules.{rules}
 use Rattle.lap_session.proofs.session.ask_lap.Goals as goal
 
 pub returns-then-refused-ne0 : goal.returns-then-refused-ne0

@@ -5,7 +5,6 @@ use Rattle.lap_fit.proofs.Cap.{cap_small}
 use Rattle.lap_checks.specs.Checks.{lent_new}
 use Rattle.lap_checks.proofs.Rows.{new_passed}
 use Rattle.lap_session.proofs.Rows.{ask_refused, ask_8, ask_9, ask_0}
-use borrow.Author.Rules.{rules}
 use Rattle.lap_session.proofs.session.check_asking.Goals as goal
 
 pub returns-then-new-ne0 : goal.returns-then-new-ne0

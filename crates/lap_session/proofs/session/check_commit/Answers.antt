@@ -5,7 +5,6 @@ use Rattle.laps.specs.File.{laps_of}
 use Rattle.lap_checks.proofs.Rows.{past_1, past_3, past_7, new_passed}
 use Rattle.lap_session.specs.Session.{part_new}
 use Rattle.lap_session.proofs.Rows.{commit_12, commit_13, part_refused, part_sizes, few_part}
-use borrow.Author.Rules.{rules}
 use Rattle.lap_session.proofs.session.check_commit.Goals as goal
 
 pub returns-then-ticket-session : goal.returns-then-ticket-session

@@ -7,7 +7,6 @@ use Rattle.laps.specs.File.{laps_of, tested}
 use Rattle.lap_checks.proofs.Rows.{past_1, past_3, laps_of_lem, tables_passed, tables_refused, counts-refused, laps_decide}
 use Rattle.lap_session.specs.Session.{part_formed, part_finite, part_new}
 use Rattle.lap_session.proofs.Part.{in_part}
-use borrow.Author.Rules.{rules}
 use Rattle.lap_session.proofs.session.check_part.Goals as goal
 
 pub returns-then-refused-ne0 : goal.returns-then-refused-ne0

@@ -6,7 +6,6 @@ use Rattle.lap_checks.proofs.Rows.{past_1, past_3, past_7}
 use Rattle.lap_session.specs.Session.{commit_lap}
 use Rattle.lap_session.proofs.Part.{in_part, stored-most}
 use Rattle.lap_session.proofs.Rows.{commit_passed, not_stored, is-stored}
-use borrow.Author.Rules.{rules}
 use Rattle.lap_session.proofs.session.commit_lap.Goals as goal
 
 pub returns-then-refused-ne0 : goal.returns-then-refused-ne0

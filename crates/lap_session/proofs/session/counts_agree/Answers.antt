@@ -2,7 +2,6 @@
 use native.Mathlib.Omega.{arith}
 use Rattle.laps.specs.File.{laps_of}
 use Rattle.lap_session.proofs.Part.{counts_apart, counts-none, counts-both, counts-one}
-use borrow.Author.Rules.{rules}
 use Rattle.lap_session.proofs.session.counts_agree.Goals as goal
 
 pub returns-then-all-n : goal.returns-then-all-n

@@ -1,7 +1,6 @@
 -- `lap_session::session::part_passes` meets its contract: both laps, left at the first that fails. Assumes nothing.
 use mathlib.Core.Bool.{true}
 use Rattle.geo.proofs.And.{and_2, and_2_first}
-use borrow.Author.Rules.{rules}
 use Rattle.lap_session.proofs.session.part_passes.Goals as goal
 
 pub returns-then-lap_passes : goal.returns-then-lap_passes

@@ -1,7 +1,6 @@
 -- `lap_session::session::refits_next` meets its contract: by the lap's number, and then by the recorded file. Assumes nothing.
 use mathlib.Core.Path.{◌∙◌}
 use Rattle.lap_session.proofs.Part.{outside, inside}
-use borrow.Author.Rules.{rules}
 use Rattle.lap_session.proofs.session.refits_next.Goals as goal
 
 pub returns-then-k-eq0 : goal.returns-then-k-eq0

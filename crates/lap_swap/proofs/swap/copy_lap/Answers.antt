@@ -1,10 +1,8 @@
 -- `lap_swap::swap::copy_lap` meets its contract: the bytes that are left to copy, stored from here, give the whole. The measure is how many are left. Assumes nothing.
-use Prim.Native.Nat.{◌+◌, ◌-◌, ◌≤◌}
-use mathlib.Core.Path.{◌≡◌, refl, ◌∙◌, sym}
+use mathlib.Core.Path.{refl, ◌∙◌, sym}
 use native.Mathlib.Nat.{sub-zero, add-zero}
 use native.Mathlib.Omega.{arith}
-use lib.ListN.{length, length-set, take, drop}
-use lib.Seq.{sets}
+use lib.ListN.{length-set}
 use Rattle.laps.proofs.Copy.{body-commands, copy_go, copy_end}
 use Rattle.laps.proofs.Whole.{length_commands}
 use Rattle.lap_swap.proofs.swap.copy_lap.Goals as goal

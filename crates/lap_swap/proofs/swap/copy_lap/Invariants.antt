@@ -1,12 +1,8 @@
 -- `lap_swap::swap::copy_lap` meets its contract: the bytes that are left to copy, stored from here, give the whole. The measure is how many are left. Assumes nothing.
 use Prim.Native.Nat.{◌+◌, ◌-◌, ◌≤◌}
-use mathlib.Core.Path.{◌≡◌, refl, ◌∙◌, sym}
-use native.Mathlib.Nat.{sub-zero, add-zero}
-use native.Mathlib.Omega.{arith}
-use lib.ListN.{length, length-set, take, drop}
+use mathlib.Core.Path.{◌≡◌}
+use lib.ListN.{length, take, drop}
 use lib.Seq.{sets}
-use Rattle.laps.proofs.Copy.{body-commands, copy_go, copy_end}
-use Rattle.laps.proofs.Whole.{length_commands}
 use Rattle.lap_swap.proofs.swap.copy_lap.Given as goal
 
 abbrev pub invariant-loop-i : goal.invariant-loop-i

@@ -5,7 +5,6 @@ use Rattle.file.specs.Command.{commands_at}
 use Rattle.course.specs.Course.{end_on, lent_course}
 use Rattle.laps.specs.File.{laps_of}
 use Rattle.lap_swap.proofs.Body.{few-laps, put-fits}
-use borrow.Author.Rules.{rules}
 use Rattle.lap_swap.proofs.swap.fit_both.Goals as goal
 
 pub fit_commands-count-requires : goal.fit_commands-count-requires

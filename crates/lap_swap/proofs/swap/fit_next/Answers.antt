@@ -1,6 +1,5 @@
 -- `lap_swap::swap::fit_next` meets its contract: no commands come to nothing. Assumes nothing.
 use Rattle.lap_swap.proofs.Next.{put-none}
-use borrow.Author.Rules.{rules}
 use Rattle.lap_swap.proofs.swap.fit_next.Goals as goal
 
 pub returns-then-n-eq0 : goal.returns-then-n-eq0

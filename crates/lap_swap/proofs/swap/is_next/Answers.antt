@@ -1,6 +1,5 @@
 -- `lap_swap::swap::is_next` meets its contract: by the number of the lap before it. Assumes nothing.
 use Rattle.lap_swap.proofs.Next.{one-before}
-use borrow.Author.Rules.{rules}
 use Rattle.lap_swap.proofs.swap.is_next.Goals as goal
 
 pub returns-then-both : goal.returns-then-both

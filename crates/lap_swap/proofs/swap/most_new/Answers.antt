@@ -2,7 +2,6 @@
 use Rattle.course.specs.Course.{lent_course}
 use Rattle.lap_fit.proofs.Cap.{cap_small}
 use Rattle.lap_swap.proofs.Next.{most-told}
-use borrow.Author.Rules.{rules}
 use Rattle.lap_swap.proofs.swap.most_new.Goals as goal
 
 pub add_capped-requires : goal.add_capped-requires

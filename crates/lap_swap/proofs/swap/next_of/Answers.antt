@@ -3,7 +3,6 @@ use mathlib.Core.Path.{sym, ap, ◌∙◌}
 use native.Mathlib.Omega.{arith}
 use Rattle.laps.specs.File.{lacks}
 use Rattle.lap_swap.proofs.Next.{lap_at, table_fits, next_not, next-end, next-is}
-use borrow.Author.Rules.{rules}
 use Rattle.lap_swap.proofs.swap.next_of.Goals as goal
 
 pub returns-then-lap_count-k : goal.returns-then-lap_count-k

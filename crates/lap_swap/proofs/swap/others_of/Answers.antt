@@ -1,8 +1,6 @@
 -- `lap_swap::swap::others_of` meets its contract: the laps that are left, and those before them, give the whole count. The measure is how many laps are left. Assumes nothing.
-use Prim.Native.Nat.{◌-◌}
 use native.Mathlib.Omega.{arith}
-use borrow.Author.Rules.{rules}
-use Rattle.lap_swap.proofs.Turns.{Counting, counting_start, counting_step, counting_few, counting_done}
+use Rattle.lap_swap.proofs.Turns.{counting_start, counting_step, counting_few, counting_done}
 use Rattle.lap_swap.proofs.swap.others_of.Goals as goal
 
 pub lap_count-j-end-requires : goal.lap_count-j-end-requires

@@ -1,14 +1,11 @@
 -- `lap_swap::swap::put_file` meets its contract: the laps that are left, written from here, give the whole file; each place lies in the file, and each lap in what is left of the output. The measure is how many laps are left. Assumes nothing.
 use Prim.Native.Nat.{◌+◌, ◌-◌, ◌*◌, ◌≤◌}
-use native.Mathlib.Omega.{arith}
 use Rattle.laps.specs.File.{laps_at, laps_of}
-use Rattle.laps.proofs.Going.{Going, turn}
-use Rattle.laps.proofs.Here.{Here, step, start_at}
-use Rattle.laps.proofs.Turns.{fits_next, ends_by}
+use Rattle.laps.proofs.Going.{Going}
+use Rattle.laps.proofs.Here.{Here}
 use Rattle.file.specs.Command.{commands_at}
-use Rattle.laps.proofs.Whole.{whole-commands}
 use Rattle.lap_swap.specs.Swap.{swap_both}
-use Rattle.lap_swap.proofs.Turns.{both_from, swap_begin, swap_turn, swap-done}
+use Rattle.lap_swap.proofs.Turns.{both_from}
 use Rattle.lap_swap.proofs.swap.put_file.Given as goal
 
 abbrev pub invariant-loop-j : goal.invariant-loop-j

@@ -6,7 +6,6 @@ use Rattle.file.specs.Command.{commands_at}
 use Rattle.laps.proofs.Whole.{length_commands}
 use Rattle.lap_fit.proofs.Arrays.{put_same}
 use Rattle.lap_swap.proofs.Turns.{is_new, is_the_next, is_old, room_for}
-use borrow.Author.Rules.{rules}
 use Rattle.lap_swap.proofs.swap.put_lap.Goals as goal
 
 pub copy_lap-requires : goal.copy_lap-requires

@@ -1,6 +1,5 @@
 -- `lap_swap::swap::put_part` meets its contract: whether the next lap is replaced too is told by the recorded file. Assumes nothing.
 use Rattle.lap_swap.specs.Swap.{stored_laps}
-use borrow.Author.Rules.{rules}
 use Rattle.lap_swap.proofs.swap.put_part.Goals as goal
 
 pub put_file-requires : goal.put_file-requires

@@ -4,7 +4,6 @@ use Prim.Native.Nat.{◌-◌}
 use native.Mathlib.Omega.{arith}
 use Rattle.laps.specs.File.{laps_of}
 use Rattle.lap_swap.proofs.Next.{lap_at, table_fits, start_first, start-later}
-use borrow.Author.Rules.{rules}
 use Rattle.lap_swap.proofs.swap.start_of.Goals as goal
 
 pub returns-then-k-eq1 : goal.returns-then-k-eq1

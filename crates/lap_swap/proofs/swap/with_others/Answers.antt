@@ -1,5 +1,4 @@
 -- `lap_swap::swap::with_others` meets its contract: the commands of the other laps are added. Assumes nothing.
-use borrow.Author.Rules.{rules}
 use Rattle.lap_swap.proofs.swap.with_others.Goals as goal
 
 pub returns : goal.returns

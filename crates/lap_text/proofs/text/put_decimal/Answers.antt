@@ -4,7 +4,6 @@ use native.Mathlib.Omega.{arith}
 use lib.ListN.{length, length-set}
 use Rattle.lap_text.proofs.Decimal.{one_digit, two_digits, three-digits}
 use Rattle.lap_text.proofs.Written.{put_same, put_one, put_two, put_three}
-use borrow.Author.Rules.{rules}
 use Rattle.lap_text.proofs.text.put_decimal.Goals as goal
 
 pub bounds-out-at : goal.bounds-out-at

@@ -5,7 +5,6 @@ use Rattle.geo.specs.Walk.{list_from}
 use Rattle.lap_text.specs.Text.{ascii}
 use Rattle.lap_text.proofs.Decimal.{below_1000}
 use Rattle.lap_text.proofs.Written.{put_refused}
-use borrow.Author.Rules.{rules}
 use Rattle.lap_text.proofs.text.put_refusal.Goals as goal
 
 pub copy-at-requires : goal.copy-at-requires

@@ -3,7 +3,6 @@ use native.Mathlib.Omega.{arith}
 use lib.ListN.{length-set}
 use Rattle.lap_text.proofs.Decimal.{below_100, below_1000}
 use Rattle.lap_text.proofs.Written.{put-line}
-use borrow.Author.Rules.{rules}
 use Rattle.lap_text.proofs.text.put_row.Goals as goal
 
 pub put_decimal-a-requires : goal.put_decimal-a-requires

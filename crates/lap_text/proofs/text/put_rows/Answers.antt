@@ -1,8 +1,6 @@
 -- `lap_text::text::put_rows` meets its contract: the rows that are left, written from here, give the whole, and so do their steps, added. The measure is how many rows are left. Assumes nothing.
-use borrow.Author.Rules.{rules}
-use Prim.Native.Nat.{◌-◌}
 use native.Mathlib.Omega.{arith}
-use Rattle.lap_text.proofs.Lines.{Lines, lines_start, line-short, line-room, lines_step, lines-done}
+use Rattle.lap_text.proofs.Lines.{lines_start, line-short, line-room, lines_step, lines-done}
 use Rattle.lap_text.proofs.text.put_rows.Goals as goal
 
 pub loop-i-init : goal.loop-i-init

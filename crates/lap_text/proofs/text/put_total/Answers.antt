@@ -5,7 +5,6 @@ use Rattle.geo.specs.Walk.{list_from}
 use Rattle.lap_text.specs.Text.{ascii}
 use Rattle.lap_text.proofs.Decimal.{below_1000}
 use Rattle.lap_text.proofs.Written.{put_word, put_total}
-use borrow.Author.Rules.{rules}
 use Rattle.lap_text.proofs.text.put_total.Goals as goal
 
 pub put_decimal-b-requires : goal.put_decimal-b-requires

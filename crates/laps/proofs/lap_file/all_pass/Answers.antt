@@ -1,13 +1,12 @@
 -- `laps::lap_file::all_pass` meets its contract: the laps that are left decide the whole answer, and each place lies in the file. The measure is how many laps are left. Assumes nothing.
 use Rattle.std.proofs.Common.{not}
-use Prim.Native.Nat.{◌-◌, ◌≤◌}
-use mathlib.Core.Path.{◌≡◌, ap}
+use mathlib.Core.Path.{ap}
 use native.Mathlib.Omega.{arith}
 use mathlib.Core.Bool.{true}
 use lib.Dec.{eqb}
 use borrow.Author.Tests.{not-true, not-false}
-use Rattle.laps.specs.File.{laps_at, laps_of, laps_ok, tested}
-use Rattle.laps.proofs.Here.{Here, step, start_at, all-laps}
+use Rattle.laps.specs.File.{laps_ok, tested}
+use Rattle.laps.proofs.Here.{step, start_at, all-laps}
 use Rattle.laps.proofs.Walks.{laps_go, laps_stop, laps-end}
 use Rattle.laps.proofs.lap_file.all_pass.Goals as goal
 

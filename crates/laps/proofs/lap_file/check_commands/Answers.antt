@@ -2,7 +2,6 @@
 use mathlib.Core.Path.{sym, ◌∙◌}
 use Rattle.laps.specs.File.{tested}
 use Rattle.laps.proofs.Both.{both_pass, form_alone, no_form}
-use borrow.Author.Rules.{rules}
 use Rattle.laps.proofs.lap_file.check_commands.Goals as goal
 
 pub returns-then-all_pass : goal.returns-then-all_pass

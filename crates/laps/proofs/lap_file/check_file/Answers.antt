@@ -5,7 +5,6 @@ use borrow.Author.Tests.{not-false}
 use Rattle.geo.proofs.Rows.{row_fails, row-passes, not_fails, not_passes}
 use Rattle.laps.specs.Rows.{file_rows}
 use Rattle.laps.proofs.Walks.{not_short, not_big}
-use borrow.Author.Rules.{rules}
 use Rattle.laps.proofs.lap_file.check_file.Goals as goal
 
 pub returns-then-too_short : goal.returns-then-too_short

@@ -1,7 +1,6 @@
 -- `laps::lap_file::check_sizes` meets its contract: the most, and then the room. Assumes nothing.
 use mathlib.Core.Path.{sym}
 use Rattle.laps.proofs.Rows.{size_8, size_9, size_0}
-use borrow.Author.Rules.{rules}
 use Rattle.laps.proofs.lap_file.check_sizes.Goals as goal
 
 pub returns-then-most-gt-MOST_COMMANDS : goal.returns-then-most-gt-MOST_COMMANDS

@@ -1,13 +1,9 @@
 -- `laps::lap_file::commands_pass` meets its contract: the commands that are left decide the whole answer. The measure is how many are left. Assumes nothing.
 use Rattle.std.proofs.Common.{ap, not}
-use Prim.Native.Nat.{◌+◌, ◌-◌, ◌*◌, ◌≤◌}
-use mathlib.Core.Path.{◌≡◌}
 use native.Mathlib.Omega.{arith}
-use borrow.Author.Rules.{rules}
 use borrow.Author.Tests.{not-true, not-false}
 use lib.ListN.{length-take, length-drop}
-use Rattle.file.specs.Command.{commands_at}
-use Rattle.laps.specs.File.{lap_ok, tested}
+use Rattle.laps.specs.File.{tested}
 use Rattle.laps.proofs.Walks.{lap_begin, lap_go, lap_stop, lap-end}
 use Rattle.laps.proofs.lap_file.commands_pass.Goals as goal
 

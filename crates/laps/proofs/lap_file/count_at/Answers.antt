@@ -1,6 +1,5 @@
 -- `laps::lap_file::count_at` meets its contract: the number in four bytes. Assumes nothing.
 use Rattle.laps.specs.File.{count_at}
-use borrow.Author.Rules.{rules}
 use Rattle.laps.proofs.lap_file.count_at.Goals as goal
 
 pub returns : goal.returns

@@ -5,7 +5,6 @@ use Rattle.geo.specs.Domain.{point3_in, command_in}
 use Rattle.geo.proofs.And.{and_2, and_2_first}
 use Rattle.file.proofs.Blank.{end_in}
 use Rattle.laps.specs.File.{domain_ok, both_ok}
-use borrow.Author.Rules.{rules}
 use Rattle.laps.proofs.lap_file.has_both.Goals as goal
 
 pub returns-then-c-lt2 : goal.returns-then-c-lt2

@@ -4,7 +4,6 @@ use mathlib.Core.Bool.{true}
 use Rattle.geo.specs.Domain.{finite3}
 use Rattle.geo.proofs.And.{and_3, and_3_second, and_3_first}
 use Rattle.laps.specs.File.{finite_numbers}
-use borrow.Author.Rules.{rules}
 use Rattle.laps.proofs.lap_file.has_finite_numbers.Goals as goal
 
 pub returns-then-is_finite3-2 : goal.returns-then-is_finite3-2

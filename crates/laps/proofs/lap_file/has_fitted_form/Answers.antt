@@ -3,7 +3,6 @@ use mathlib.Core.Path.{refl}
 use mathlib.Core.Bool.{true}
 use Rattle.geo.proofs.And.{and_2, and_2_first}
 use Rattle.laps.specs.File.{fitted_ok}
-use borrow.Author.Rules.{rules}
 use Rattle.laps.proofs.lap_file.has_fitted_form.Goals as goal
 
 pub returns-then-has_form : goal.returns-then-has_form

@@ -2,7 +2,6 @@
 use mathlib.Core.Bool.{true}
 use Rattle.geo.proofs.And.{and_2, and_2_first}
 use Rattle.laps.specs.File.{form_ok}
-use borrow.Author.Rules.{rules}
 use Rattle.laps.proofs.lap_file.has_form.Goals as goal
 
 pub returns-then-is_placed : goal.returns-then-is_placed

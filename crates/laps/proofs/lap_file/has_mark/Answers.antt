@@ -1,7 +1,6 @@
 -- `laps::lap_file::has_mark` meets its contract: four bytes, left at the first that differs. Assumes nothing.
 use borrow.Author.Tests.{eq-eqb, ne_eqb}
 use Rattle.laps.specs.File.{has_mark}
-use borrow.Author.Rules.{rules}
 use Rattle.laps.proofs.lap_file.has_mark.Goals as goal
 
 pub returns-then-s-ne76 : goal.returns-then-s-ne76

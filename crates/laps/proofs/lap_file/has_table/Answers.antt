@@ -4,7 +4,6 @@ use mathlib.Core.Path.{sym, ◌∙◌}
 use borrow.Author.Tests.{not-true, not-false}
 use native.Mathlib.Omega.{arith}
 use Rattle.laps.proofs.Walks.{no_mark, no_room, by_walk}
-use borrow.Author.Rules.{rules}
 use Rattle.laps.proofs.lap_file.has_table.Goals as goal
 
 pub returns-then-not-has_mark : goal.returns-then-not-has_mark

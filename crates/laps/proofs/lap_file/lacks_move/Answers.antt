@@ -1,6 +1,5 @@
 -- `laps::lap_file::lacks_move` meets its contract: by the first byte of the lap. Assumes nothing.
 use Rattle.laps.proofs.Walks.{lacks-none, lacks-first}
-use borrow.Author.Rules.{rules}
 use Rattle.laps.proofs.lap_file.lacks_move.Goals as goal
 
 pub returns-then-n-eq0 : goal.returns-then-n-eq0

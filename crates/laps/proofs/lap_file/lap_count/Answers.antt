@@ -1,6 +1,5 @@
 -- `laps::lap_file::lap_count` meets its contract: the number in four bytes. Assumes nothing.
 use Rattle.laps.specs.File.{lap_count}
-use borrow.Author.Rules.{rules}
 use Rattle.laps.proofs.lap_file.lap_count.Goals as goal
 
 pub returns : goal.returns

@@ -2,7 +2,6 @@
 use mathlib.Core.Path.{◌∙◌}
 use Rattle.laps.specs.File.{tested}
 use Rattle.laps.proofs.Walks.{lap_asked}
-use borrow.Author.Rules.{rules}
 use Rattle.laps.proofs.lap_file.lap_passes.Goals as goal
 
 pub returns : goal.returns

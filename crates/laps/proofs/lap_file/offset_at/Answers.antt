@@ -1,6 +1,5 @@
 -- `laps::lap_file::offset_at` meets its contract: the number in four bytes. Assumes nothing.
 use Rattle.laps.specs.File.{offset_at}
-use borrow.Author.Rules.{rules}
 use Rattle.laps.proofs.lap_file.offset_at.Goals as goal
 
 pub returns : goal.returns

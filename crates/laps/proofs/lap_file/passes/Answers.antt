@@ -2,7 +2,6 @@
 use mathlib.Core.Path.{ap, ◌∙◌}
 use Rattle.geo.specs.Domain.{command_in}
 use Rattle.laps.specs.File.{domain_ok, finite_ok, tested}
-use borrow.Author.Rules.{rules}
 use Rattle.laps.proofs.lap_file.passes.Goals as goal
 
 pub returns-in-Form : goal.returns-in-Form

@@ -1,7 +1,6 @@
 -- `laps::lap_file::put_entry` meets its contract: an offset, and a count behind it. Assumes nothing.
 use Rattle.file.specs.Bytes.{u32_bytes}
 use Rattle.file.proofs.Stores.{behind, length_u32}
-use borrow.Author.Rules.{rules}
 use Rattle.laps.proofs.lap_file.put_entry.Goals as goal
 
 pub returns : goal.returns

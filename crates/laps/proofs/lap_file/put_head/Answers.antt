@@ -1,7 +1,6 @@
 -- `laps::lap_file::put_head` meets its contract: the mark, and the lap count behind it. Assumes nothing.
 use native.Mathlib.Omega.{arith}
 use lib.ListN.{length-set}
-use borrow.Author.Rules.{rules}
 use Rattle.laps.proofs.lap_file.put_head.Goals as goal
 
 pub bounds-out-1 : goal.bounds-out-1

@@ -1,7 +1,6 @@
 -- `laps::lap_file::too_big` meets its contract: the bytes, and then the laps. Assumes nothing.
 use borrow.Author.Tests.{lt-ltb, le-ltb}
 use Rattle.laps.specs.File.{big}
-use borrow.Author.Rules.{rules}
 use Rattle.laps.proofs.lap_file.too_big.Goals as goal
 
 pub returns-then-s-gt-MOST_BYTES : goal.returns-then-s-gt-MOST_BYTES

@@ -1,9 +1,6 @@
 -- `laps::lap_file::walks` meets its contract: the entries that are left decide the whole answer, and the commands so far bound every sum. The measure is how many entries are left. Assumes nothing.
-use Prim.Native.Nat.{◌+◌, ◌-◌, ◌*◌, ◌≤◌}
-use mathlib.Core.Path.{◌≡◌}
 use native.Mathlib.Omega.{arith}
 use native.Mathlib.Nat.{sub-zero}
-use Rattle.laps.specs.File.{walk}
 use Rattle.laps.proofs.Walks.{walk_gap, walk_none, walk_many, walk_go, walk_end}
 use Rattle.laps.proofs.lap_file.walks.Goals as goal
 

@@ -1,5 +1,4 @@
 -- `live::live::is_below` meets its contract: the root, compared. Assumes nothing.
-use borrow.Author.Rules.{rules}
 use Rattle.live.proofs.live.is_below.Goals as goal
 
 pub returns : goal.returns

@@ -4,7 +4,6 @@ use lib.ListN.{length}
 use native.Mathlib.Omega.{arith}
 use Rattle.geo.specs.Lent.{flat}
 use Rattle.live.specs.Replay.{ends_in}
-use borrow.Author.Rules.{rules}
 use Rattle.live.proofs.live.put_end.Goals as goal
 
 pub put_point-requires : goal.put_point-requires

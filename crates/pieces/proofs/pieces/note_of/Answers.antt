@@ -1,5 +1,4 @@
 -- `pieces::pieces::note_of` meets its contract: by the note. Assumes nothing.
-use borrow.Author.Rules.{rules}
 use Rattle.pieces.specs.Written.{note_by}
 use Rattle.pieces.proofs.pieces.note_of.Goals as goal
 

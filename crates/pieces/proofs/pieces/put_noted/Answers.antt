@@ -2,7 +2,6 @@
 use lib.Seq.{set_out}
 use mathlib.Core.Path.{refl, sym}
 use Rattle.pieces.proofs.Writing.{one-noted}
-use borrow.Author.Rules.{rules}
 use Rattle.pieces.proofs.pieces.put_noted.Goals as goal
 
 pub returns-then-at-notes : goal.returns-then-at-notes

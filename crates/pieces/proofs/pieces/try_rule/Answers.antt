@@ -1,5 +1,4 @@
 -- `pieces::pieces::try_rule` meets its contract: what `try_arcs` promises, where arcs are tried. Assumes nothing.
-use borrow.Author.Rules.{rules}
 use Rattle.pieces.proofs.pieces.try_rule.Goals as goal
 
 pub returns-then-rule : goal.returns-then-rule

@@ -10,7 +10,6 @@ use Rattle.pieces.specs.Pieces.{Shape, line}
 use Rattle.pieces.specs.Commands.{shaped, worst_step}
 use Rattle.pieces.proofs.Chosen.{worst_step_few, fails_inside, takes_line, takes_arc, takes_worst, takes_cut}
 use Rattle.ranges.proofs.Waiting.{looked_whole, looked_cut}
-use borrow.Author.Rules.{rules}
 use Rattle.ranges.proofs.ranges.fit_next.Goals as goal
 
 line-command : (a b p : Point3D) → p ≡ b → Line p ≡ shaped a b line

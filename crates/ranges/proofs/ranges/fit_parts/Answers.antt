@@ -1,10 +1,8 @@
 -- `ranges::ranges::fit_parts` meets its contract. The invariant: what is written and what is left are the commands of all pieces. The measure is what is left of the range, and within that the part
 -- that is looked at. Assumes nothing.
-use Prim.Native.Nat.{◌+◌, ◌-◌, ◌*◌}
-use mathlib.Core.Path.{◌≡◌, refl, sym, ◌∙◌, subst}
+use Prim.Native.Nat.{◌-◌}
+use mathlib.Core.Path.{refl, sym, ◌∙◌, subst}
 use native.Mathlib.Omega.{arith}
-use lib.ListN.{length}
-use Rattle.geo.specs.Domain.{most_points}
 use Rattle.geo.specs.Lent.{point_at}
 use Rattle.pieces.specs.Written.{noted_in}
 use Rattle.pieces.proofs.Writing.{Progress, progress_done, placed-kinds, placed-numbers, placed-notes}

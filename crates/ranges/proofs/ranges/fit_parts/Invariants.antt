@@ -1,15 +1,12 @@
 -- `ranges::ranges::fit_parts` meets its contract. The invariant: what is written and what is left are the commands of all pieces. The measure is what is left of the range, and within that the part
 use Prim.Native.Nat.{◌+◌, ◌-◌, ◌*◌}
-use mathlib.Core.Path.{◌≡◌, refl, sym, ◌∙◌, subst}
-use native.Mathlib.Omega.{arith}
+use mathlib.Core.Path.{◌≡◌}
 use lib.ListN.{length}
 use Rattle.geo.specs.Domain.{most_points}
 use Rattle.geo.specs.Lent.{point_at}
 use Rattle.pieces.specs.Written.{noted_in}
-use Rattle.pieces.proofs.Writing.{Progress, progress_done, placed-kinds, placed-numbers, placed-notes}
-use Rattle.ranges.specs.declared.ranges.Stand.{Stand}
+use Rattle.pieces.proofs.Writing.{Progress}
 use Rattle.ranges.specs.Ranges.{left_in, Stands}
-use Rattle.ranges.proofs.Waiting.{few_ahead, stands-first, progress_first, left-none, turn_stands, turn_progress, turn_less}
 use Rattle.ranges.proofs.ranges.fit_parts.Given as goal
 
 abbrev pub invariant-loop-w : goal.invariant-loop-w

@@ -1,7 +1,6 @@
 -- `ranges::ranges::fit_range` meets its contract: what `fit_parts` promises of a fit that stands at its beginning, with an array that holds as many ends as the range has steps. Assumes nothing.
 use mathlib.Core.Path.{refl}
 use native.Mathlib.Omega.{arith}
-use borrow.Author.Rules.{rules}
 use Rattle.ranges.proofs.ranges.fit_range.Goals as goal
 
 pub fit_parts-requires-2 : goal.fit_parts-requires-2

@@ -1,5 +1,4 @@
 -- `ranges::ranges::flush_chain` meets its contract: what `thin_in_place` leaves at the front of the chain is the chain, thinned, and `fit_range` fits it. Assumes nothing.
-use borrow.Author.Rules.{rules}
 use native.Mathlib.Omega.{arith}
 use mathlib.Core.Path.{sym}
 use Rattle.floats.proofs.Unsigned.{square_not_negative}

@@ -1,5 +1,4 @@
 -- `layout::head_of` meets its contract: each field is the word that was read for it. Assumes nothing.
-use borrow.Author.Rules.{rules}
 use Rattle.records.proofs.layout.head_of.Goals as goal
 
 pub returns : goal.returns

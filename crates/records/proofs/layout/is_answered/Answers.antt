@@ -1,6 +1,5 @@
 -- `layout::is_answered` meets its contract: by the answer's case. Assumes nothing.
 use borrow.Author.Tests.{eq-eqb, ne_eqb}
-use borrow.Author.Rules.{rules}
 use Rattle.records.specs.Record.{is_answered}
 use Rattle.records.proofs.layout.is_answered.Goals as goal
 

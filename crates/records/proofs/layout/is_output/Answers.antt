@@ -1,6 +1,5 @@
 -- `layout::is_output` meets its contract: a conjunction that is left at the first part that fails. Assumes nothing.
 use Rattle.std.proofs.Common.{ap, not}
-use borrow.Author.Rules.{rules}
 use borrow.Author.Tests.{not-true, not-false}
 use Rattle.records.specs.Record.{is_output}
 use Rattle.records.proofs.layout.is_output.Goals as goal

@@ -1,9 +1,8 @@
 -- `simplify::simplify::mark` meets its contract: a cut lies strictly inside its range, so that both ranges beside it are shorter; left, cut and right together are what the range keeps. The measure is hi - lo. Assumes nothing.
-use Prim.Native.Nat.{◌-◌, ℕ, ◌<◌}
+use Prim.Native.Nat.{ℕ, ◌<◌}
 use mathlib.Core.Path.{◌≡◌, sym, ◌∙◌}
 use mathlib.Core.Bool.{true}
 use native.Mathlib.Omega.{arith}
-use borrow.Author.Rules.{rules}
 use lib.ListN.{length-set}
 use Rattle.floats.specs.Ops.{◌≺◌}
 use Rattle.geo.specs.Lent.{point_at}

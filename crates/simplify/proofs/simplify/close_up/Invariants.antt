@@ -1,11 +1,8 @@
 -- `simplify::simplify::close_up` meets its contract. The invariant: what is left to select, written behind what is moved, gives the whole, and the points from i on stand as they stood. The measure is how many are left. Assumes nothing.
 use Prim.Native.Nat.{◌-◌}
-use mathlib.Core.Path.{ap, ◌∙◌}
 use mathlib.Core.Bool.{false}
-use mathlib.Core.Logic.{⊎_elim}
-use native.Mathlib.Omega.{arith}
-use lib.ListN.{length, get_or}
-use Rattle.simplify.proofs.InPlace.{Closing, close-start, close_take, close_skip, close-done}
+use lib.ListN.{get_or}
+use Rattle.simplify.proofs.InPlace.{Closing}
 use Rattle.simplify.proofs.simplify.close_up.Given as goal
 
 abbrev pub invariant-loop-i : goal.invariant-loop-i

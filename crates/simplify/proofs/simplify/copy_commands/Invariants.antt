@@ -1,16 +1,10 @@
 -- `simplify::simplify::copy_commands` meets its contract. The invariant, of the kinds and of the numbers: what is left to select, written behind what is written, gives the whole. The measure is how many are left. Assumes nothing.
 use Prim.Native.Nat.{◌-◌}
-use mathlib.Core.Path.{refl, sym, ap, ◌∙◌}
 use mathlib.Core.Bool.{false, ◌||◌}
-use mathlib.Core.Logic.{⊎_elim}
-use native.Mathlib.Omega.{arith}
-use borrow.Author.Rules.{rules}
-use lib.ListN.{length, get_or}
-use Rattle.geo.specs.declared.types.Command.{Command}
-use Rattle.geo.specs.Lent.{command_at, kind_of, numbers_of}
-use Rattle.geo.proofs.Outcomes.{nine}
+use lib.ListN.{get_or}
+use Rattle.geo.specs.Lent.{command_at, numbers_of}
 use Rattle.farthest.specs.Ends.{is_move}
-use Rattle.simplify.proofs.Copy.{Copying, copy_start, copy_take, copy_skip, copy_done, kind_row, kind-stored, copied_both}
+use Rattle.simplify.proofs.Copy.{Copying, kind_row}
 use Rattle.simplify.proofs.simplify.copy_commands.Given as goal
 
 abbrev pub invariant-loop-i : goal.invariant-loop-i

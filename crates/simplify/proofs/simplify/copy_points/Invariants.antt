@@ -1,12 +1,9 @@
 -- `simplify::simplify::copy_points` meets its contract. The invariant: what is left to select, written behind what is written, gives the whole. The measure is how many are left. Assumes nothing.
 use Prim.Native.Nat.{◌-◌}
-use mathlib.Core.Path.{refl, ap, ◌∙◌}
 use mathlib.Core.Bool.{false}
-use mathlib.Core.Logic.{⊎_elim}
-use native.Mathlib.Omega.{arith}
-use lib.ListN.{length, get_or}
+use lib.ListN.{get_or}
 use Rattle.geo.specs.Lent.{triple, point_at}
-use Rattle.simplify.proofs.Copy.{Copying, copy_start, copy_take, copy_skip, copy_done}
+use Rattle.simplify.proofs.Copy.{Copying}
 use Rattle.simplify.proofs.simplify.copy_points.Given as goal
 
 abbrev pub invariant-loop-i : goal.invariant-loop-i

@@ -1,5 +1,4 @@
 -- `simplify::simplify::is_kept` meets its contract: each return is the disjunction with the test that led there. Assumes nothing.
-use borrow.Author.Rules.{rules}
 use Rattle.simplify.proofs.simplify.is_kept.Goals as goal
 
 pub returns-then-is_move : goal.returns-then-is_move

@@ -1,7 +1,6 @@
 -- `simplify::simplify::refuse_commands` meets its contract: rows 1 to 6 by their check, then the room. Assumes nothing.
 use mathlib.Core.Path.{sym, ◌∙◌}
 use borrow.Author.Tests.{lt-ltb, le-ltb}
-use borrow.Author.Rules.{rules}
 use Rattle.geo.proofs.Rows.{row_fails, row-passes, done}
 use Rattle.geo.proofs.Input.{input_refused, input_passed}
 use Rattle.simplify.proofs.simplify.refuse_commands.Goals as goal

@@ -1,6 +1,5 @@
 -- `simplify::simplify::simplify_data` meets its contract: a refusal is the table's, and what passed the checks meets what `thin_commands` asks. Assumes nothing.
 use native.Mathlib.Omega.{arith}
-use borrow.Author.Rules.{rules}
 use lib.ListN.{length}
 use Rattle.floats.proofs.Unsigned.{square_not_negative}
 use Rattle.geo.proofs.Outcomes.{commands-refused}

@@ -1,7 +1,6 @@
 -- `simplify::simplify::simplify_polyline` meets its contract: a refusal is the table's, and what passed the checks meets what `thin_pairs` asks. Assumes nothing.
 use mathlib.Core.Path.{refl}
 use native.Mathlib.Omega.{arith}
-use borrow.Author.Rules.{rules}
 use lib.ListN.{length}
 use Rattle.floats.proofs.Unsigned.{square_not_negative}
 use Rattle.geo.specs.Lent.{pair, flat, pair_at}

@@ -2,7 +2,6 @@
 use mathlib.Core.Path.{◌≡◌, refl, ◌∙◌}
 use mathlib.Core.Bool.{true, false}
 use native.Mathlib.Omega.{arith}
-use borrow.Author.Rules.{rules}
 use lib.ListN.{length, replicate, length-set, length-replicate}
 use Rattle.geo.specs.Lent.{command_at}
 use Rattle.simplify.proofs.Flags.{copied_commands, copied_no_commands}

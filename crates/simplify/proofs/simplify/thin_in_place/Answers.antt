@@ -6,7 +6,6 @@ use lib.ListN.{length, replicate, length-set, length-replicate}
 use Rattle.geo.specs.Lent.{triple, point_at}
 use Rattle.farthest.specs.Measure.{measure_of}
 use Rattle.simplify.proofs.Flags.{copied_thinned, copied_none}
-use borrow.Author.Rules.{rules}
 use Rattle.simplify.proofs.simplify.thin_in_place.Goals as goal
 
 pub returns-then-n-eq0 : goal.returns-then-n-eq0

@@ -2,7 +2,6 @@
 use mathlib.Core.Path.{◌≡◌, ◌∙◌}
 use mathlib.Core.Bool.{true, false}
 use native.Mathlib.Omega.{arith}
-use borrow.Author.Rules.{rules}
 use lib.ListN.{length, replicate, length-set, length-replicate}
 use Rattle.geo.specs.Lent.{triple, point_at}
 use Rattle.farthest.specs.Measure.{line_sq}

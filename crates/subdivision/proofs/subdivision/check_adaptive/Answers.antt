@@ -7,7 +7,6 @@ use borrow.Author.Tests.{lt-ltb, le-ltb}
 use lib.Pow.{pow_mono}
 use Rattle.geo.proofs.Rows.{row_fails, row-passes, not_fails, not_passes, whole_fails, whole-passes, done}
 use Rattle.subdivision.specs.Calls.{adaptive_rows}
-use borrow.Author.Rules.{rules}
 use Rattle.subdivision.proofs.subdivision.check_adaptive.Goals as goal
 
 pub returns-then-room-ne0 : goal.returns-then-room-ne0

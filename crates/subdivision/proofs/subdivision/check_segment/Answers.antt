@@ -4,7 +4,6 @@ use mathlib.Core.Path.{sym, ◌∙◌}
 use borrow.Author.Tests.{lt-ltb, le-ltb}
 use Rattle.geo.proofs.Rows.{row_fails, row-passes, not_fails, not_passes, whole_fails, whole-passes, done}
 use Rattle.subdivision.specs.Calls.{segment_rows}
-use borrow.Author.Rules.{rules}
 use Rattle.subdivision.proofs.subdivision.check_segment.Goals as goal
 
 pub returns-then-room-ne0 : goal.returns-then-room-ne0

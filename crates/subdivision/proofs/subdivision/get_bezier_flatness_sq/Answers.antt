@@ -1,6 +1,5 @@
 -- `subdivision::subdivision::get_bezier_flatness_sq` meets its contract: by the test on the chord's square. Assumes nothing.
 use Rattle.subdivision.specs.Flatten.{flatness_sq}
-use borrow.Author.Rules.{rules}
 use Rattle.subdivision.proofs.subdivision.get_bezier_flatness_sq.Goals as goal
 
 pub returns-then-norm_sq : goal.returns-then-norm_sq

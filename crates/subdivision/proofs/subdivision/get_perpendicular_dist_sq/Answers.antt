@@ -4,7 +4,6 @@ use lib.Ieee.{Float, binary64, div}
 use Rattle.geo.specs.declared.types.Point3D.{Point3D}
 use Rattle.geo.specs.Vector.{cross3}
 use Rattle.subdivision.specs.Flatten.{norm_sq, perpendicular_sq}
-use borrow.Author.Rules.{rules}
 use Rattle.subdivision.proofs.subdivision.get_perpendicular_dist_sq.Goals as goal
 
 pub returns : goal.returns

@@ -5,7 +5,6 @@ use borrow.Author.Tests.{not-true, not-false}
 use Rattle.geo.specs.declared.types.CubicBezier.{CubicBezier}
 use Rattle.bezier.specs.Curve.{curve_in}
 use Rattle.subdivision.specs.Calls.{flat_call, flat_answer}
-use borrow.Author.Rules.{rules}
 use Rattle.subdivision.proofs.subdivision.is_bezier_flat.Goals as goal
 
 pub returns-then-not-curve_in : goal.returns-then-not-curve_in

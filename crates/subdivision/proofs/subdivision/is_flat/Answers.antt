@@ -5,7 +5,6 @@ use lib.Ieee.{Float, le}
 use Rattle.geo.proofs.And.{and_2, and_2_first}
 use Rattle.subdivision.specs.declared.subdivision.Chord.{Chord}
 use Rattle.subdivision.specs.Flatten.{off_chord, is_flat}
-use borrow.Author.Rules.{rules}
 use Rattle.subdivision.proofs.subdivision.is_flat.Goals as goal
 
 pub returns-then-off-tolerance_sq : goal.returns-then-off-tolerance_sq

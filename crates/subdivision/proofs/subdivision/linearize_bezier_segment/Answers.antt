@@ -13,7 +13,6 @@ use Rattle.subdivision.specs.Flatten.{flattened}
 use Rattle.subdivision.specs.Calls.{most_depth}
 use Rattle.subdivision.proofs.Halving.{flattened-few, flattened_length}
 use Rattle.subdivision.proofs.Rows.{segment_passed, segment_at}
-use borrow.Author.Rules.{rules}
 use Rattle.subdivision.proofs.subdivision.linearize_bezier_segment.Goals as goal
 
 pub returns-then-refused-gt0 : goal.returns-then-refused-gt0

@@ -1,11 +1,8 @@
 -- `svg::reading::put_lap` meets its contract: the commands that are left, written from here, give the whole lap. The measure is how much of the text is left. Assumes nothing.
-use Prim.Native.Nat.{◌-◌}
 use mathlib.Core.Path.{subst}
 use native.Mathlib.Omega.{arith}
-use borrow.Author.Rules.{rules}
-use lib.ListN.{length}
 use Rattle.svg_items.specs.Strokes.{StrokeAt}
-use Rattle.svg.proofs.Lapping.{Lapping, lapping_starts, command-there, room-there, further, text-ends, read-on, lap-closed, lapping_goes-on}
+use Rattle.svg.proofs.Lapping.{lapping_starts, command-there, room-there, further, text-ends, read-on, lap-closed, lapping_goes-on}
 use Rattle.svg.proofs.reading.put_lap.Goals as goal
 
 pub loop-c-init : goal.loop-c-init

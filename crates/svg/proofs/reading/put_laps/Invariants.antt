@@ -1,7 +1,6 @@
 -- `svg::reading::put_laps` meets its contract: the laps that are left, written from here, give the whole file. The measure is how many laps are left. Assumes nothing.
 use Prim.Native.Nat.{◌-◌, ◌≤◌}
-use native.Mathlib.Omega.{arith}
-use Rattle.svg.proofs.Coursing.{Coursing, coursing_starts, lap-fits, lap-ends_by, lap_entry, coursing_goes-on, course_put}
+use Rattle.svg.proofs.Coursing.{Coursing}
 use Rattle.svg.proofs.reading.put_laps.Given as goal
 
 abbrev pub invariant-loop-j : goal.invariant-loop-j

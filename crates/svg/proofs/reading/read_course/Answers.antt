@@ -1,6 +1,5 @@
 -- `svg::reading::read_course` meets its contract: a refusal is that of the first row, and what passed them all is written. Assumes nothing.
 use mathlib.Core.Path.{sym, ◌∙◌}
-use borrow.Author.Rules.{rules}
 use Rattle.svg.proofs.Checking.{known, too_long, breaks_rules, counts-refused, counts-fit, course_read}
 use Rattle.svg.proofs.reading.read_course.Goals as goal
 

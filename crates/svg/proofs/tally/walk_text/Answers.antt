@@ -1,11 +1,8 @@
 -- `svg::tally::walk_text` meets its contract: what was counted so far and what the rest of the text adds give the whole. The measure is how much text is left. Assumes nothing.
-use Prim.Native.Nat.{◌-◌}
 use mathlib.Core.Path.{subst}
 use native.Mathlib.Omega.{arith}
-use borrow.Author.Rules.{rules}
-use lib.ListN.{length}
 use Rattle.svg_items.specs.Strokes.{StrokeAt}
-use Rattle.svg.proofs.Counting.{Counting, at_most_one, nothing-named, no_first_m, counting_starts, no_command-there, onward, all-counted, bad-behind, counting_goes-on}
+use Rattle.svg.proofs.Counting.{at_most_one, nothing-named, no_first_m, counting_starts, no_command-there, onward, all-counted, bad-behind, counting_goes-on}
 use Rattle.svg.proofs.tally.walk_text.Goals as goal
 
 pub returns-then-s-eq0 : goal.returns-then-s-eq0

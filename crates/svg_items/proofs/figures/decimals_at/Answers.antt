@@ -1,7 +1,6 @@
 -- `svg_items::figures::decimals_at` meets its contract. Assumes nothing.
 use native.Mathlib.Omega.{arith}
 use Rattle.svg_items.proofs.Cursor.{whole-ends, whole_other, no_decimals, some-decimals}
-use borrow.Author.Rules.{rules}
 use Rattle.svg_items.proofs.figures.decimals_at.Goals as goal
 
 pub returns-then-at-s : goal.returns-then-at-s

@@ -9,7 +9,6 @@ use Rattle.svg_items.specs.Numbers.{UnsignedAt}
 use Rattle.svg_text.proofs.Tens.{ten-negative}
 use Rattle.svg_items.proofs.Signed.{held_64}
 use Rattle.svg_items.proofs.Cursor.{nothing-there, minus-broken, plus-broken, minus-found, plus-found}
-use borrow.Author.Rules.{rules}
 use Rattle.svg_items.proofs.figures.figure_at.Goals as goal
 
 pub returns-then-at-s : goal.returns-then-at-s

@@ -6,7 +6,7 @@ use lib.ListN.{get_or}
 use borrow.Author.Rules.{rules}
 use borrow.Author.Tests.{not-true, not-false}
 use Rattle.svg_text.proofs.Spelled.{digit_byte}
-use Rattle.svg_items.proofs.Cursor.{Going, starts, under, ends_full, ends-text, ends_other, goes_on_lem}
+use Rattle.svg_items.proofs.Cursor.{starts, under, ends_full, ends-text, ends_other, goes_on_lem}
 use Rattle.svg_items.proofs.figures.more_digits.Goals as goal
 
 pub loop-room-init : goal.loop-room-init

@@ -1,6 +1,5 @@
 -- `svg_items::figures::unsigned_at` meets its contract. Assumes nothing.
 use Rattle.svg_items.proofs.Cursor.{no_units, some-units, few-units}
-use borrow.Author.Rules.{rules}
 use Rattle.svg_items.proofs.figures.unsigned_at.Goals as goal
 
 pub returns-then-d-eq-MOST_DIGITS : goal.returns-then-d-eq-MOST_DIGITS

@@ -2,7 +2,6 @@
 use Rattle.svg_text.proofs.Tens.{ten-negative}
 use Rattle.svg_text.specs.Path.{negative}
 use Rattle.svg_items.proofs.Signed.{fits_64, back_64, plain_64, minus_64}
-use borrow.Author.Rules.{rules}
 use Rattle.svg_items.proofs.figures.with_sign.Goals as goal
 
 pub overflow_sub-result : goal.overflow_sub-result

@@ -2,7 +2,6 @@
 use mathlib.Core.Path.{subst}
 use Rattle.svg_items.specs.Strokes.{PlaceAt}
 use Rattle.svg_items.proofs.Drawing.{no_curve_1, no_curve_2, no_curve_3, a_curve}
-use borrow.Author.Rules.{rules}
 use Rattle.svg_items.proofs.strokes.curve_at.Goals as goal
 
 pub returns-in_default : goal.returns-in_default

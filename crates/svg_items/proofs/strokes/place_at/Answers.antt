@@ -3,7 +3,6 @@ use mathlib.Core.Path.{subst}
 use Rattle.svg_items.specs.Strokes.{SpacedAt}
 use Rattle.svg_items.proofs.Signed.{back_64}
 use Rattle.svg_items.proofs.Drawing.{no_place-x, no_place-y, a_place}
-use borrow.Author.Rules.{rules}
 use Rattle.svg_items.proofs.strokes.place_at.Goals as goal
 
 pub returns-in_default : goal.returns-in_default

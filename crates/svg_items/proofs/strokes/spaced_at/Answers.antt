@@ -1,6 +1,5 @@
 -- `svg_items::strokes::spaced_at` meets its contract. Assumes nothing.
 use Rattle.svg_items.proofs.Drawing.{none-spaced, not_spaced, is-spaced}
-use borrow.Author.Rules.{rules}
 use Rattle.svg_items.proofs.strokes.spaced_at.Goals as goal
 
 pub returns-then-at-s : goal.returns-then-at-s

@@ -2,7 +2,6 @@
 use mathlib.Core.Path.{subst}
 use Rattle.svg_items.specs.Strokes.{PlaceAt}
 use Rattle.svg_items.proofs.Drawing.{no_straight, a_move, a_line}
-use borrow.Author.Rules.{rules}
 use Rattle.svg_items.proofs.strokes.straight_at.Goals as goal
 
 pub returns-in_default : goal.returns-in_default

@@ -1,6 +1,5 @@
 -- `svg_items::strokes::stroke_at` meets its contract. Assumes nothing.
 use Rattle.svg_items.proofs.Drawing.{no_command, letter_m, letter_l, letter_c, no_letter}
-use borrow.Author.Rules.{rules}
 use Rattle.svg_items.proofs.strokes.stroke_at.Goals as goal
 
 pub returns-then-at-s : goal.returns-then-at-s

@@ -1,15 +1,11 @@
 -- `trial::trial::arc_deviation` meets its contract: the loop's invariant is that the steps left decide the greatest deviation, and that p and s are the point and the spoke reached. The measure is how many steps are left. Assumes nothing.
-use mathlib.Core.Path.{◌≡◌, refl, ap, ◌∙◌}
-use Prim.Native.Nat.{◌+◌, ◌-◌, ◌≤◌}
+use mathlib.Core.Path.{refl, ap, ◌∙◌}
 use native.Mathlib.Omega.{arith}
-use borrow.Author.Rules.{rules}
 use lib.Ieee.{Float}
-use Rattle.geo.specs.Lent.{point_at}
-use Rattle.geo.specs.Walk.{fold}
 use Rattle.geo.proofs.Walk.{fold_turn, fold_done}
 use Rattle.circle.specs.Worst.{worse, worst as worstOf}
-use Rattle.trial.specs.Deviation.{spoke_of, step_between, arc_deviation}
-use Rattle.trial.proofs.Steps.{walk, step_is}
+use Rattle.trial.specs.Deviation.{spoke_of, arc_deviation}
+use Rattle.trial.proofs.Steps.{step_is}
 use Rattle.trial.proofs.trial.arc_deviation.Goals as goal
 
 pub point_at-p-requires : goal.point_at-p-requires

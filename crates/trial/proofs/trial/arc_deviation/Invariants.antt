@@ -1,15 +1,10 @@
 -- `trial::trial::arc_deviation` meets its contract: the loop's invariant is that the steps left decide the greatest deviation, and that p and s are the point and the spoke reached. The measure is how many steps are left. Assumes nothing.
-use mathlib.Core.Path.{◌≡◌, refl, ap, ◌∙◌}
+use mathlib.Core.Path.{◌≡◌}
 use Prim.Native.Nat.{◌+◌, ◌-◌, ◌≤◌}
-use native.Mathlib.Omega.{arith}
-use borrow.Author.Rules.{rules}
-use lib.Ieee.{Float}
 use Rattle.geo.specs.Lent.{point_at}
 use Rattle.geo.specs.Walk.{fold}
-use Rattle.geo.proofs.Walk.{fold_turn, fold_done}
-use Rattle.circle.specs.Worst.{worse, worst as worstOf}
 use Rattle.trial.specs.Deviation.{spoke_of, step_between, arc_deviation}
-use Rattle.trial.proofs.Steps.{walk, step_is}
+use Rattle.trial.proofs.Steps.{walk}
 use Rattle.trial.proofs.trial.arc_deviation.Given as goal
 
 abbrev pub invariant-loop-i : goal.invariant-loop-i

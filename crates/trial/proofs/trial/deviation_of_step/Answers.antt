@@ -2,7 +2,6 @@
 use mathlib.Core.Path.{sym, subst}
 use lib.Dec.{T}
 use lib.Ieee.{binary64, fits}
-use borrow.Author.Rules.{rules}
 use Rattle.geo.specs.Vector.{length_of}
 use Rattle.trial.proofs.Squares.{step_inside}
 use Rattle.trial.proofs.trial.deviation_of_step.Goals as goal

@@ -1,6 +1,5 @@
 -- `trial::trial::ends_off` meets its contract: the callees' promises, put together as the definition has them. Assumes nothing.
 use Rattle.trial.specs.Deviation.{ends_of}
-use borrow.Author.Rules.{rules}
 use Rattle.trial.proofs.trial.ends_off.Goals as goal
 
 pub returns : goal.returns

@@ -1,16 +1,12 @@
 -- `trial::trial::goes_clockwise` meets its contract: the loop's invariant is that the steps left decide the whole sum, and that p is the point reached. The measure is how many steps are left. Assumes nothing.
-use mathlib.Core.Path.{◌≡◌, refl, ap, ◌∙◌}
-use Prim.Native.Nat.{◌+◌, ◌-◌, ◌≤◌}
+use mathlib.Core.Path.{refl, ap, ◌∙◌}
 use native.Mathlib.Omega.{arith}
-use borrow.Author.Rules.{rules}
 use lib.Ieee.{Float, lt}
 use Rattle.floats.specs.Ops.{◌⊕◌, +0}
 use Rattle.geo.specs.declared.types.Point3D.{Point3D}
 use Rattle.geo.specs.Vector.{flatten}
-use Rattle.geo.specs.Lent.{point_at}
-use Rattle.geo.specs.Walk.{fold}
 use Rattle.geo.proofs.Walk.{fold_turn, fold_done}
-use Rattle.arc.specs.Direction.{turn_at, cross_sum, clockwise}
+use Rattle.arc.specs.Direction.{cross_sum, clockwise}
 use Rattle.trial.proofs.trial.goes_clockwise.Goals as goal
 
 pub point_at-requires : goal.point_at-requires

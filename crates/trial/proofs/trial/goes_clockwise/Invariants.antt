@@ -1,16 +1,11 @@
 -- `trial::trial::goes_clockwise` meets its contract: the loop's invariant is that the steps left decide the whole sum, and that p is the point reached. The measure is how many steps are left. Assumes nothing.
-use mathlib.Core.Path.{◌≡◌, refl, ap, ◌∙◌}
+use mathlib.Core.Path.{◌≡◌}
 use Prim.Native.Nat.{◌+◌, ◌-◌, ◌≤◌}
-use native.Mathlib.Omega.{arith}
-use borrow.Author.Rules.{rules}
-use lib.Ieee.{Float, lt}
-use Rattle.floats.specs.Ops.{◌⊕◌, +0}
-use Rattle.geo.specs.declared.types.Point3D.{Point3D}
+use Rattle.floats.specs.Ops.{◌⊕◌}
 use Rattle.geo.specs.Vector.{flatten}
 use Rattle.geo.specs.Lent.{point_at}
 use Rattle.geo.specs.Walk.{fold}
-use Rattle.geo.proofs.Walk.{fold_turn, fold_done}
-use Rattle.arc.specs.Direction.{turn_at, cross_sum, clockwise}
+use Rattle.arc.specs.Direction.{turn_at, cross_sum}
 use Rattle.trial.proofs.trial.goes_clockwise.Given as goal
 
 abbrev pub invariant-loop-i : goal.invariant-loop-i

@@ -1,6 +1,5 @@
 -- `trial::trial::half` meets its contract: by the tests on the cross product. Assumes nothing.
 use Rattle.trial.specs.Traversal.{half_of}
-use borrow.Author.Rules.{rules}
 use Rattle.trial.proofs.trial.half.Goals as goal
 
 pub returns-then-c : goal.returns-then-c

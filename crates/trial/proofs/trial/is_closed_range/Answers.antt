@@ -1,6 +1,5 @@
 -- `trial::trial::is_closed_range` meets its contract: a square from 1e-11 up has a root above 1e-6, and of any other the root is taken. Assumes nothing.
 use mathlib.Core.Path.{sym}
-use borrow.Author.Rules.{rules}
 use Rattle.geo.specs.Vector.{length_of}
 use Rattle.trial.specs.Trial.{closed_range}
 use Rattle.trial.proofs.Squares.{not_closed}

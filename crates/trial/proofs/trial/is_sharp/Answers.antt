@@ -1,7 +1,6 @@
 -- `trial::trial::is_sharp` meets its contract: a conjunction, left at the first test that fails. Assumes nothing.
 use borrow.Author.Tests.{lt-ltb, le-ltb}
 use Rattle.trial.specs.Trial.{sharp_at}
-use borrow.Author.Rules.{rules}
 use Rattle.trial.proofs.trial.is_sharp.Goals as goal
 
 pub returns-then-split-end : goal.returns-then-split-end

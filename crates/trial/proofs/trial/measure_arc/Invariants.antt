@@ -1,18 +1,11 @@
 -- `trial::trial::measure_arc` meets its contract: as for `arc_deviation`, with the length of the spoke that is handed in for a radius; and a greatest deviation that is not below the tolerance stays so, so the walk may end there; so does a step whose end alone decides. Assumes nothing.
-use Rattle.std.proofs.Common.{not}
-use mathlib.Core.Path.{◌≡◌, refl, ap, ◌∙◌}
+use mathlib.Core.Path.{◌≡◌}
 use Prim.Native.Nat.{◌+◌, ◌-◌, ◌≤◌}
-use native.Mathlib.Omega.{arith}
-use borrow.Author.Rules.{rules}
-use borrow.Author.Tests.{not-true}
-use lib.Ieee.{Float, lt}
 use Rattle.geo.specs.Lent.{point_at}
 use Rattle.geo.specs.Walk.{fold}
-use Rattle.geo.proofs.Walk.{fold_turn, fold_done}
-use Rattle.circle.specs.Worst.{worse, worst as worstOf}
 use Rattle.circle.specs.Three.{radius_from}
 use Rattle.trial.specs.Deviation.{spoke_of, step_between, arc_deviation}
-use Rattle.trial.proofs.Steps.{walk, step_is, spoke_length, spoke_root, reaches, too_far, all-within, not_within}
+use Rattle.trial.proofs.Steps.{walk}
 use Rattle.trial.proofs.trial.measure_arc.Given as goal
 
 abbrev pub invariant-loop-i : goal.invariant-loop-i

@@ -1,5 +1,4 @@
 -- `trial::trial::passes` meets its contract: by the tests on W. Assumes nothing.
-use borrow.Author.Rules.{rules}
 use Rattle.trial.specs.Traversal.{passes_by}
 use Rattle.trial.proofs.Whole.{is_zero, is-minus-one, is_neither}
 use Rattle.trial.proofs.trial.passes.Goals as goal

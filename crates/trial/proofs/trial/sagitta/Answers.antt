@@ -1,6 +1,5 @@
 -- `trial::trial::sagitta` meets its contract: by the tests on the lengths of the spokes. Assumes nothing.
 use Rattle.trial.specs.Deviation.{sagitta_of, cosine}
-use borrow.Author.Rules.{rules}
 use Rattle.trial.proofs.trial.sagitta.Goals as goal
 
 pub returns-then-s : goal.returns-then-s

@@ -1,6 +1,5 @@
 -- `trial::trial::sharp_turn` meets its contract: a conjunction, left at the first test that fails. Assumes nothing.
 use Rattle.trial.specs.Trial.{sharp_turn}
-use borrow.Author.Rules.{rules}
 use Rattle.trial.proofs.trial.sharp_turn.Goals as goal
 
 pub returns-then-len2 : goal.returns-then-len2

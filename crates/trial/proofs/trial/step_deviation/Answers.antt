@@ -1,6 +1,5 @@
 -- `trial::trial::step_deviation` meets its contract: by the tests on the length of the step. Assumes nothing.
 use Rattle.trial.specs.Deviation.{step_of}
-use borrow.Author.Rules.{rules}
 use Rattle.trial.proofs.trial.step_deviation.Goals as goal
 
 pub returns-then-len : goal.returns-then-len

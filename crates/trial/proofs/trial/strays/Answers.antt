@@ -1,7 +1,6 @@
 -- `trial::trial::strays` meets its contract: of a step that is not short the end decides, and of a short one it says nothing. Assumes nothing.
 use mathlib.Core.Path.{sym, ap, ◌∙◌}
 use lib.Ieee.{Float, le}
-use borrow.Author.Rules.{rules}
 use Rattle.floats.proofs.Order.{clash}
 use Rattle.trial.proofs.Squares.{end_decides}
 use Rattle.trial.proofs.trial.strays.Goals as goal

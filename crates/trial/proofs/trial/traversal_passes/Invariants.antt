@@ -1,13 +1,9 @@
 -- `trial::trial::traversal_passes` meets its contract: the loop's invariant is a record of where the walk stands: the offset, the half and the count W so far, and no point at the centre. The measure is how many steps are left. Assumes nothing.
-use mathlib.Core.Path.{◌≡◌, ap, ◌∙◌}
+use mathlib.Core.Path.{◌≡◌}
 use Prim.Native.Nat.{◌-◌}
-use native.Mathlib.Omega.{arith}
-use mir.Syntax.{w64}
-use mir.Val.{to_z}
-use borrow.Author.Rules.{rules}
 use Rattle.geo.specs.Lent.{point_at}
 use Rattle.trial.specs.Traversal.{offset_of}
-use Rattle.trial.proofs.Going.{Going, go_start, go_turn, go_kept, go_first, go_stop, go_done}
+use Rattle.trial.proofs.Going.{Going}
 use Rattle.trial.proofs.trial.traversal_passes.Given as goal
 
 abbrev pub invariant-loop-i : goal.invariant-loop-i

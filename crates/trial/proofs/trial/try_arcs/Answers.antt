@@ -1,7 +1,6 @@
 -- `trial::trial::try_arcs` meets its contract: by the tests, in the order of the definition. Assumes nothing.
 use borrow.Author.Tests.{eq-eqb, ne_eqb}
 use Rattle.trial.specs.Trial.{try_arcs}
-use borrow.Author.Rules.{rules}
 use Rattle.trial.proofs.trial.try_arcs.Goals as goal
 
 pub returns-then-is_sharp : goal.returns-then-is_sharp

@@ -1,6 +1,5 @@
 -- `chain::chain::Flush::joins_beziers` meets its contract: by the case. Assumes nothing.
 use Rattle.chain.specs.Chains.{joins_beziers}
-use borrow.Author.Rules.{rules}
 use Rattle.chain.proofs.chain.Flush.joins_beziers.Goals as goal
 
 pub returns-in-Fitted : goal.returns-in-Fitted

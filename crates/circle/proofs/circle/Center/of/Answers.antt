@@ -2,7 +2,6 @@
 use native.Mathlib.Omega.{arith}
 use Rattle.floats.proofs.float.Ceiling.{whole-fits}
 use Rattle.circle.specs.Kasa.{kasa_center, centered, matrix_of, sides_of}
-use borrow.Author.Rules.{rules}
 use Rattle.circle.proofs.circle.Center.of.Goals as goal
 
 pub returns-then-is_collinear : goal.returns-then-is_collinear

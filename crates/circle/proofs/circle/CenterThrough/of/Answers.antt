@@ -1,6 +1,5 @@
 -- `circle::circle::CenterThrough::of` meets its contract: by the tests on the area and on the turn. Assumes nothing.
 use Rattle.circle.specs.Three.{center_three, center_by}
-use borrow.Author.Rules.{rules}
 use Rattle.circle.proofs.circle.CenterThrough.of.Goals as goal
 
 pub returns-then-abs : goal.returns-then-abs

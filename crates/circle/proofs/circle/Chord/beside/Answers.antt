@@ -1,6 +1,5 @@
 -- `circle::circle::Chord::beside` meets its contract: the absolute value that `abs` promises. Assumes nothing.
 use Rattle.circle.specs.Collinear.{beside_of}
-use borrow.Author.Rules.{rules}
 use Rattle.circle.proofs.circle.Chord.beside.Goals as goal
 
 pub returns : goal.returns

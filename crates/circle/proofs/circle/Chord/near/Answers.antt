@@ -1,6 +1,5 @@
 -- `circle::circle::Chord::near` meets its contract: the length that `get_length` promises. Assumes nothing.
 use Rattle.circle.specs.Collinear.{near_to}
-use borrow.Author.Rules.{rules}
 use Rattle.circle.proofs.circle.Chord.near.Goals as goal
 
 pub returns : goal.returns

@@ -1,6 +1,5 @@
 -- `circle::circle::Chord::new` meets its contract: the definition's operations in the same order. Assumes nothing.
 use Rattle.circle.specs.Collinear.{ends_chord}
-use borrow.Author.Rules.{rules}
 use Rattle.circle.proofs.circle.Chord.new.Goals as goal
 
 pub returns : goal.returns

@@ -1,7 +1,6 @@
 -- `circle::circle::CircleThrough::of` meets its contract: by the case of the centre. Assumes nothing.
 use Rattle.circle.specs.Three.{through_three, circle_round}
 use Rattle.circle.specs.Calls.{through_answer}
-use borrow.Author.Rules.{rules}
 use Rattle.circle.proofs.circle.CircleThrough.of.Goals as goal
 
 pub returns-in-At : goal.returns-in-At

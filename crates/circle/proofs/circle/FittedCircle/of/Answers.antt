@@ -1,7 +1,6 @@
 -- `circle::circle::FittedCircle::of` meets its contract: by the case of the centre. Assumes nothing.
 use Rattle.circle.specs.Kasa.{kasa_circle, fitted_to}
 use Rattle.circle.specs.Calls.{fitted_answer}
-use borrow.Author.Rules.{rules}
 use Rattle.circle.proofs.circle.FittedCircle.of.Goals as goal
 
 pub returns-in-At : goal.returns-in-At

@@ -1,6 +1,5 @@
 -- `circle::circle::Solution::solve_3x3` meets its contract: by the test on the determinant. Assumes nothing.
 use Rattle.circle.specs.Kasa.{solved, inverse_times}
-use borrow.Author.Rules.{rules}
 use Rattle.circle.proofs.circle.Solution.solve_3x3.Goals as goal
 
 pub returns-then-abs : goal.returns-then-abs

@@ -1,12 +1,9 @@
 -- `circle::circle::Sums::of` meets its contract: the loop's invariant is that the points left decide the whole sums. The measure is how many are left. Assumes nothing.
-use mathlib.Core.Path.{◌≡◌, ◌∙◌}
-use Prim.Native.Nat.{◌+◌, ◌-◌}
+use mathlib.Core.Path.{◌∙◌}
+use Prim.Native.Nat.{◌+◌}
 use native.Mathlib.Omega.{arith}
-use borrow.Author.Rules.{rules}
-use Rattle.geo.specs.Lent.{point_at}
-use Rattle.geo.specs.Walk.{fold}
 use Rattle.geo.proofs.Walk.{fold_turn, fold_done}
-use Rattle.circle.specs.Kasa.{plus, sums_of}
+use Rattle.circle.specs.Kasa.{sums_of}
 use Rattle.circle.proofs.circle.Sums.of.Goals as goal
 
 pub overflow_add-i-end : goal.overflow_add-i-end

@@ -1,5 +1,4 @@
 -- `farthest::farthest::Search::look` meets its contract: a point whose spread is not above the top is no farther than the best, since division keeps the order. Assumes nothing.
-use borrow.Author.Rules.{rules}
 use Rattle.farthest.proofs.Search.{look_past, look_at}
 use Rattle.farthest.proofs.farthest.Search.look.Goals as goal
 

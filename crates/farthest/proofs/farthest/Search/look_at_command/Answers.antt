@@ -1,6 +1,5 @@
 -- `farthest::farthest::Search::look_at_command` meets its contract: a Move counts as on the chord, any other command is its end. Assumes nothing.
 use mathlib.Core.Path.{sym, ◌∙◌}
-use borrow.Author.Rules.{rules}
 use Rattle.farthest.proofs.Search.{look_past_move, look_at_end}
 use Rattle.farthest.proofs.farthest.Search.look_at_command.Goals as goal
 

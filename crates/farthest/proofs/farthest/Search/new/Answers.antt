@@ -1,7 +1,6 @@
 -- `farthest::farthest::Search::new` meets its contract: its best is what `Farthest::new` gives. Assumes nothing.
 use mathlib.Core.Path.{ap}
 use lib.Ieee.{neg, of_bits}
-use borrow.Author.Rules.{rules}
 use Rattle.floats.specs.Ops.{one}
 use Rattle.farthest.specs.declared.farthest.Farthest.{Farthest}
 use Rattle.farthest.specs.declared.farthest.Search.{Search}

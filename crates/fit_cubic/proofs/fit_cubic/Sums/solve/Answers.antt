@@ -1,6 +1,5 @@
 -- `fit_cubic::fit_cubic::Sums::solve` meets its contract: by the test on the determinant. Assumes nothing.
 use Rattle.fit_cubic.specs.FitCubic.{cubic_solved}
-use borrow.Author.Rules.{rules}
 use Rattle.fit_cubic.proofs.fit_cubic.Sums.solve.Goals as goal
 
 pub returns-then-abs : goal.returns-then-abs

@@ -1,7 +1,6 @@
 -- `flatten::flatten::Ray::new` meets its contract: the length as promised. Assumes nothing.
 use Rattle.flatten.specs.Parts.{length_by}
 use Rattle.flatten.specs.Written.{ray_of}
-use borrow.Author.Rules.{rules}
 use Rattle.flatten.proofs.flatten.Ray.new.Goals as goal
 
 pub returns : goal.returns

@@ -1,8 +1,7 @@
--- `live::live::Live::close` meets its contract: the last point is endUnder out where there are two, by the rows' number. Assumes nothing.
+-- `live::live::Live::close` meets its contract: the last point is end_under out where there are two, by the rows' number. Assumes nothing.
 use native.Mathlib.Omega.{arith}
 use Rattle.live.specs.Calls.{close, live_rows, next_of}
 use Rattle.live.proofs.Answers.{answer-refused, answer-given, few-accepted, shut_none, shut-last}
-use borrow.Author.Rules.{rules}
 use Rattle.live.proofs.live.Live.close.Goals as goal
 
 pub returns-then-n-ne0 : goal.returns-then-n-ne0

@@ -2,7 +2,6 @@
 use mathlib.Core.Path.{ap}
 use Rattle.live.specs.declared.live.End.TheVariants.{At}
 use Rattle.live.specs.Thinner.{cutting, put}
-use borrow.Author.Rules.{rules}
 use Rattle.live.proofs.live.Live.cut.Goals as goal
 
 pub returns : goal.returns

@@ -4,7 +4,6 @@ use mathlib.Core.Bool.{Bool, true}
 use Rattle.geo.specs.Outcome.{refusal}
 use Rattle.live.specs.Calls.{feed, state_rows, live_rows, next_of}
 use Rattle.live.proofs.Answers.{answer-refused, answer-given, few-accepted}
-use borrow.Author.Rules.{rules}
 use Rattle.live.proofs.live.Live.feed.Goals as goal
 
 pub returns-then-n-ne0 : goal.returns-then-n-ne0

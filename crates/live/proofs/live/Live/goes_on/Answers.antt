@@ -2,7 +2,6 @@
 use borrow.Author.Tests.{lt-ltb, le-ltb}
 use Rattle.deviations.specs.Line.{rooted, line_deviation}
 use Rattle.live.specs.Thinner.{slot}
-use borrow.Author.Rules.{rules}
 use Rattle.live.proofs.live.Live.goes_on.Goals as goal
 
 pub returns-then-self-lt3 : goal.returns-then-self-lt3

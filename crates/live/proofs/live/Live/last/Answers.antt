@@ -1,6 +1,5 @@
 -- `live::live::Live::last` meets its contract: the slot before the count. Assumes nothing.
 use Rattle.live.specs.Thinner.{slot}
-use borrow.Author.Rules.{rules}
 use Rattle.live.proofs.live.Live.last.Goals as goal
 
 pub returns : goal.returns

@@ -1,6 +1,5 @@
 -- `live::live::Live::push` meets its contract: by the two tests, each return is the definition's (Pushing). Assumes nothing.
 use Rattle.live.proofs.Pushing.{longer_few, longer_two, push_full, push_longer, push-cut_off}
-use borrow.Author.Rules.{rules}
 use Rattle.live.proofs.live.Live.push.Goals as goal
 
 pub returns-then-self-ge-SLOTS : goal.returns-then-self-ge-SLOTS

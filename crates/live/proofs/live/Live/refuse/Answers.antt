@@ -1,7 +1,6 @@
 -- `live::live::Live::refuse` meets its contract: each return is the row that its tests led to. Assumes nothing.
 use Rattle.std.proofs.Common.{ap, not}
 use Rattle.live.proofs.Answers.{state_2, state_5, state_5_own, state_6, state_6_own, state_10, state_0}
-use borrow.Author.Rules.{rules}
 use Rattle.live.proofs.live.Live.refuse.Goals as goal
 
 pub returns-then-self-gt-SLOTS : goal.returns-then-self-gt-SLOTS

@@ -1,6 +1,5 @@
 -- `live::live::Live::refuse_retune` meets its contract: each return is the row that its tests led to, the state's rows between. Assumes nothing.
 use Rattle.live.proofs.Answers.{tuned_1, tuned_state, tuned_9, tuned_0}
-use borrow.Author.Rules.{rules}
 use Rattle.live.proofs.live.Live.refuse_retune.Goals as goal
 
 pub returns-then-room-ne0 : goal.returns-then-room-ne0

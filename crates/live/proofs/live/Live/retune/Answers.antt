@@ -1,6 +1,5 @@
 -- `live::live::Live::retune` meets its contract: the rows decide, and then the replay (Tuned). Assumes nothing.
 use Rattle.live.proofs.Tuned.{tuned_accepted, tuned_refused, tuned_given}
-use borrow.Author.Rules.{rules}
 use Rattle.live.proofs.live.Live.retune.Goals as goal
 
 pub returns-then-n-ne0 : goal.returns-then-n-ne0

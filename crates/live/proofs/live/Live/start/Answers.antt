@@ -6,7 +6,6 @@ use borrow.Author.Tests.{not-true, not-false}
 use Rattle.geo.specs.Outcome.{refusal}
 use Rattle.geo.specs.Domain.{tolerance}
 use Rattle.live.specs.Calls.{start_rows}
-use borrow.Author.Rules.{rules}
 use Rattle.live.proofs.live.Live.start.Goals as goal
 
 pub returns-then-not-is_tolerance : goal.returns-then-not-is_tolerance

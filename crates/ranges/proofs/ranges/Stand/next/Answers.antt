@@ -1,5 +1,4 @@
 -- `ranges::ranges::Stand::next` meets its contract, with and without an end that waits. Assumes nothing.
-use borrow.Author.Rules.{rules}
 use Rattle.ranges.proofs.Waiting.{next-none, next-some}
 use Rattle.ranges.proofs.ranges.Stand.next.Goals as goal
 

@@ -1,6 +1,5 @@
 -- `segment::segment::Segment::both` meets its contract: two feet strictly inside, else each point by itself. Assumes nothing.
-use borrow.Author.Rules.{rules}
-use mathlib.Core.Path.{◌≡◌, sym, ◌∙◌}
+use mathlib.Core.Path.{sym, ◌∙◌}
 use Rattle.segment.proofs.Saved.{by_foot}
 use Rattle.segment.proofs.segment.Segment.both.Goals as goal
 

@@ -1,5 +1,4 @@
 -- `segment::segment::Segment::is_inside` meets its contract: each return is the definition with the tests that led there. Assumes nothing.
-use mathlib.Core.Path.{◌≡◌}
 use Rattle.segment.specs.Saved.{is_inside}
 use Rattle.segment.proofs.segment.Segment.is_inside.Goals as goal
 

@@ -1,5 +1,4 @@
 -- `segment::space::Climb::distance_squared` meets its contract: each return is the definition with the tests that led there. Assumes nothing.
-use borrow.Author.Rules.{rules}
 use mathlib.Core.Path.{◌∙◌}
 use Rattle.segment.specs.Segment.{parameter_of}
 use Rattle.segment.specs.Saved.{to_climb}

@@ -1,6 +1,5 @@
 -- `subdivision::subdivision::Chord::off` meets its contract: by the test on the chord's square. Assumes nothing.
 use Rattle.subdivision.specs.Flatten.{off_chord}
-use borrow.Author.Rules.{rules}
 use Rattle.subdivision.proofs.subdivision.Chord.off.Goals as goal
 
 pub returns-then-self : goal.returns-then-self

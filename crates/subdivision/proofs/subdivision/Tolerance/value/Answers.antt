@@ -1,6 +1,5 @@
 -- `subdivision::subdivision::Tolerance::value` meets its contract: by the case. Assumes nothing.
 use Rattle.subdivision.specs.Calls.{tolerance_of}
-use borrow.Author.Rules.{rules}
 use Rattle.subdivision.proofs.subdivision.Tolerance.value.Goals as goal
 
 pub returns-in-Given : goal.returns-in-Given

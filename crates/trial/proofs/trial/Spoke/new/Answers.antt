@@ -1,6 +1,5 @@
 -- `trial::trial::Spoke::new` meets its contract: the length that `get_length` promises. Assumes nothing.
 use Rattle.trial.specs.Deviation.{spoke_of}
-use borrow.Author.Rules.{rules}
 use Rattle.trial.proofs.trial.Spoke.new.Goals as goal
 
 pub returns : goal.returns

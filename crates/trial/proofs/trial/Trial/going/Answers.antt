@@ -1,6 +1,5 @@
 -- `trial::trial::Trial::going` meets its contract: the callees' promises, by the test. Assumes nothing.
 use Rattle.std.proofs.Common.{ap, not}
-use borrow.Author.Rules.{rules}
 use borrow.Author.Tests.{not-true, not-false}
 use Rattle.trial.specs.Trial.{going_round}
 use Rattle.trial.proofs.trial.Trial.going.Goals as goal

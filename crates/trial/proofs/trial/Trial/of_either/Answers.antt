@@ -1,6 +1,5 @@
 -- `trial::trial::Trial::of_either` meets its contract: by the case of the first trial. Assumes nothing.
 use Rattle.trial.specs.Trial.{or_else}
-use borrow.Author.Rules.{rules}
 use Rattle.trial.proofs.trial.Trial.of_either.Goals as goal
 
 pub returns-in-Arc : goal.returns-in-Arc

@@ -1,6 +1,5 @@
 -- `trial::trial::Trial::of_least_squares` meets its contract: by the case of the centre. Assumes nothing.
 use Rattle.trial.specs.Trial.{trial_least, of_center}
-use borrow.Author.Rules.{rules}
 use Rattle.trial.proofs.trial.Trial.of_least_squares.Goals as goal
 
 pub returns-in-At : goal.returns-in-At

@@ -1,7 +1,6 @@
 -- `trial::trial::Trial::of_three` meets its contract: by the case of the centre. Assumes nothing.
 use Rattle.circle.specs.Three.{circle_round, through_three}
 use Rattle.trial.specs.Trial.{trial_three, of_circle}
-use borrow.Author.Rules.{rules}
 use Rattle.trial.proofs.trial.Trial.of_three.Goals as goal
 
 pub returns-in-At : goal.returns-in-At

@@ -3,7 +3,6 @@ use mathlib.Core.Path.{ap, ◌∙◌}
 use native.Mathlib.Omega.{arith}
 use Rattle.trial.specs.Deviation.{spoke_of}
 use Rattle.trial.specs.Trial.{of_measured, trial_round, trial_of}
-use borrow.Author.Rules.{rules}
 use Rattle.trial.proofs.trial.Trial.round.Goals as goal
 
 pub measure_arc-t-requires : goal.measure_arc-t-requires
