@@ -1,0 +1,11 @@
+-- `lapsvg::main` meets its contract: what is printed lies in the output. Assumes nothing.
+use native.Mathlib.Omega.{arith}
+use lib.ListN.{length, length-append, length-take}
+use mathlib.Core.Path.{ap}
+use Rattle.lapsvg.proofs.main.Goals as goal
+
+pub slice_bounds-out-end : goal.slice_bounds-out-end
+slice_bounds-out-end c = omega (arith, c.print_input-m.ensures.count, simp length-append at (ap length c.print_input-m.ensures.bytes))
+
+pub slice_bounds-write_all-end : goal.slice_bounds-write_all-end
+slice_bounds-write_all-end c = simp length-take (omega (arith, c.print_input-m.ensures.count, simp length-append at (ap length c.print_input-m.ensures.bytes)))
