@@ -1,11 +1,12 @@
 -- Each quarter turn that is taken falls strictly before the end, and one more would not: a turned vector's cross to the end has the opposite sign of the dot before, and
 -- its dot the sign of the cross before. Assumes nothing.
+use Rattle.std.specs.Prelude.{if◌then◌else◌}
 use Prim.Native.Nat.{ℕ, zero, suc}
 use mathlib.Core.Path.{◌≡◌, refl, sym, ap, ◌∙◌, subst}
 use mathlib.Core.Bool.{Bool, true, false, not, ◌&&◌, ◌||◌}
 use native.Mathlib.Omega.{arith}
 use lib.Ieee.{Float, sub, neg}
-use Rattle.floats.specs.Ops.{◌⊕◌, ◌⊗◌, ◌≺◌, +0, if◌then◌else◌}
+use Rattle.floats.specs.Ops.{◌⊕◌, ◌⊗◌, ◌≺◌, +0}
 use Rattle.floats.proofs.Order.{clash, lt_asym}
 use Rattle.floats.proofs.float.Large.{neg_neg}
 use Rattle.geo.specs.declared.types.Point.{Point}

@@ -1,6 +1,5 @@
 -- The code's own way: the chain under way as the walk holds it, what a command needs and leaves, and what is written of a chain. Definitions only.
-use Rattle.std.specs.Prelude.{ℕ, ◌+◌, ◌-◌, ◌*◌, ◌/◌, ◌≤◌, ◌≡◌, Bool, true, false, List, [], ◌∷◌, map, length, take, drop, ltb, Float}
-use Rattle.floats.specs.Ops.{if◌then◌else◌}
+use Rattle.std.specs.Prelude.{ℕ, ◌+◌, ◌-◌, ◌*◌, ◌/◌, ◌≤◌, ◌≡◌, Bool, true, false, List, [], ◌∷◌, map, length, take, drop, ltb, Float, if◌then◌else◌}
 use Rattle.geo.specs.declared.types.Point3D.{Point3D}
 use Rattle.geo.specs.declared.types.Command.{Command}
 use Rattle.geo.specs.declared.types.Command.TheVariants.{Line}

@@ -1,7 +1,7 @@
 -- A centre moved along a chord to the chord's bisector. Definitions only.
-use Rattle.std.specs.Prelude.{Float}
+use Rattle.std.specs.Prelude.{Float, if◌then◌else◌}
 use Rattle.floats.specs.Limits.{pico}
-use Rattle.floats.specs.Ops.{◌⊕◌, ◌⊖◌, ◌⊗◌, ◌⊘◌, ◌≺◌, if◌then◌else◌, two}
+use Rattle.floats.specs.Ops.{◌⊕◌, ◌⊖◌, ◌⊗◌, ◌⊘◌, ◌≺◌, two}
 use Rattle.geo.specs.Vector.{dot}
 use Rattle.geo.specs.declared.types.Point3D.{Point3D}
 use Rattle.geo.specs.declared.types.Point.{Point}

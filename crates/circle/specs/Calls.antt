@@ -1,7 +1,6 @@
 -- The public calls: which row of document 01's table refuses them, else what they give; and the answer that says so. Definitions only.
-use Rattle.std.specs.Prelude.{◌-◌, ◌/◌, Bool, true, not, ◌&&◌, List, [], ◌∷◌, length, ltb, Float}
+use Rattle.std.specs.Prelude.{◌-◌, ◌/◌, Bool, true, not, ◌&&◌, List, [], ◌∷◌, length, ltb, Float, if◌then◌else◌}
 use Rattle.std.proofs.Math.Option.{Option, none, some}
-use Rattle.floats.specs.Ops.{if◌then◌else◌}
 use Rattle.geo.specs.declared.types.Point.{Point}
 use Rattle.geo.specs.declared.types.Point3D.{Point3D}
 use Rattle.geo.specs.Lent.{point_at}

@@ -1,8 +1,8 @@
 -- Whether points lie on a line. Definitions only.
-use Rattle.std.specs.Prelude.{ℕ, ◌+◌, ◌-◌, Bool, true, not, ltb, Float}
+use Rattle.std.specs.Prelude.{ℕ, ◌+◌, ◌-◌, Bool, true, not, ltb, Float, if◌then◌else◌}
 use Rattle.floats.specs.Limits.{nano}
 use Rattle.floats.specs.Float.{abs_of}
-use Rattle.floats.specs.Ops.{◌⊖◌, ◌⊘◌, ◌≺◌, if◌then◌else◌}
+use Rattle.floats.specs.Ops.{◌⊖◌, ◌⊘◌, ◌≺◌}
 use Rattle.geo.specs.Vector.{perp_dot, length_of}
 use Rattle.geo.specs.declared.types.Point3D.{Point3D}
 use Rattle.geo.specs.Domain.{every_from}

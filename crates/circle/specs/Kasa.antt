@@ -1,12 +1,12 @@
 -- Kasa's least squares: sums, normal equations, centre, radius, greatest error. Definitions only.
-use Rattle.std.specs.Prelude.{ℕ, ◌+◌, ◌-◌, List, [], ◌∷◌, pos, get_or, Float}
+use Rattle.std.specs.Prelude.{ℕ, ◌+◌, ◌-◌, List, [], ◌∷◌, pos, get_or, Float, if◌then◌else◌}
 use Rattle.std.proofs.Math.Option.{Option, none, some}
 use Rattle.std.specs.Float.{nan, binary64}
 use Rattle.std.specs.Float.Ieee.{of_int}
 use Rattle.floats.specs.Limits.{hundredth, tenth_nano, femto}
 use Rattle.floats.specs.Root.{root_of}
 use Rattle.floats.specs.Float.{abs_of}
-use Rattle.floats.specs.Ops.{◌⊕◌, ◌⊖◌, ◌⊗◌, ◌⊘◌, ◌≺◌, if◌then◌else◌, +0, one, two}
+use Rattle.floats.specs.Ops.{◌⊕◌, ◌⊖◌, ◌⊗◌, ◌⊘◌, ◌≺◌, +0, one, two}
 use Rattle.geo.specs.declared.types.Point3D.{Point3D}
 use Rattle.geo.specs.declared.types.Point.{Point}
 use Rattle.circle.specs.declared.circle.Deviation.{Deviation}

@@ -1,6 +1,6 @@
 -- The greatest of some distances, and the index at which it first stands. Definitions only.
-use Rattle.std.specs.Prelude.{ℕ, Float}
-use Rattle.floats.specs.Ops.{◌≺◌, if◌then◌else◌}
+use Rattle.std.specs.Prelude.{ℕ, Float, if◌then◌else◌}
+use Rattle.floats.specs.Ops.{◌≺◌}
 use Rattle.geo.specs.Walk.{fold}
 use Rattle.circle.specs.declared.circle.Deviation.{Deviation}
 

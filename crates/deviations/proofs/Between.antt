@@ -1,5 +1,6 @@
 -- Where the deviation of a line is below a tolerance, each point between is, whose squared distance is a number: none is above that of the first farthest, and
 -- the root keeps the order. Assumes nothing.
+use Rattle.std.specs.Prelude.{if◌then◌else◌}
 use Prim.Native.Nat.{ℕ, ◌<◌}
 use mathlib.Core.Path.{◌≡◌, refl, sym, ap, ◌∙◌, subst}
 use mathlib.Core.Logic.{⊎_elim}
@@ -10,7 +11,7 @@ use lib.Dec.{T}
 use lib.Ieee.{Float, binary64, is_nan, of_bits, fits}
 use lib.Ieee.Fits.{add-fits, div-fits}
 use lib.Ieee.Bits.{of_bits-fits}
-use Rattle.floats.specs.Ops.{◌⊖◌, ◌⊗◌, ◌⊘◌, ◌≺◌, +0, if◌then◌else◌}
+use Rattle.floats.specs.Ops.{◌⊖◌, ◌⊗◌, ◌⊘◌, ◌≺◌, +0}
 use Rattle.floats.specs.Root.{root_of}
 use Rattle.floats.proofs.Order.{either, clash, lt_or_ge, lt_asym, lt_right}
 use Rattle.floats.proofs.Unsigned.{Unsigned, square-unsigned, sum_unsigned, quotient_unsigned}

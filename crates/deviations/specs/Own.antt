@@ -1,6 +1,6 @@
 -- The points of a range as a list of their own, and its deviations counted in the whole list again. Definitions only; proofs/Own.antt shows what the range and its own points share.
-use Rattle.std.specs.Prelude.{ℕ, ◌+◌, ◌-◌, List, Float}
-use Rattle.floats.specs.Ops.{◌≺◌, if◌then◌else◌, +0}
+use Rattle.std.specs.Prelude.{ℕ, ◌+◌, ◌-◌, List, Float, if◌then◌else◌}
+use Rattle.floats.specs.Ops.{◌≺◌, +0}
 use Rattle.geo.specs.declared.types.Point3D.{Point3D}
 use Rattle.geo.specs.Vector.{flatten}
 use Rattle.geo.specs.Lent.{pair, triple, flat}

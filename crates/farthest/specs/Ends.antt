@@ -1,6 +1,6 @@
 -- How far a command lies from a chord: by its end, and Moves have a rule of their own. Definitions only.
-use Rattle.std.specs.Prelude.{Bool, true, false, Float}
-use Rattle.floats.specs.Ops.{+0, if◌then◌else◌}
+use Rattle.std.specs.Prelude.{Bool, true, false, Float, if◌then◌else◌}
+use Rattle.floats.specs.Ops.{+0}
 use Rattle.geo.specs.declared.types.Command.{Command}
 use Rattle.geo.specs.declared.types.Command.TheVariants.{Move, Line, Arc, Bezier}
 use Rattle.geo.specs.Lent.{end_of}

@@ -1,6 +1,6 @@
 -- The first farthest point of a range. Definitions only.
-use Rattle.std.specs.Prelude.{ℕ, zero, suc, ◌+◌, ◌-◌, Float}
-use Rattle.floats.specs.Ops.{◌≺◌, +0, if◌then◌else◌}
+use Rattle.std.specs.Prelude.{ℕ, zero, suc, ◌+◌, ◌-◌, Float, if◌then◌else◌}
+use Rattle.floats.specs.Ops.{◌≺◌, +0}
 use Rattle.farthest.specs.declared.farthest.Farthest.{Farthest}
 use Rattle.farthest.specs.Measure.{Measure}
 

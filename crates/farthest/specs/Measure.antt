@@ -1,7 +1,7 @@
 -- How far a point lies from the chord of a range, in x and y: document 01's measure, to the endless line; and which measure a ruler stands for. Those to the segment are in
 -- `segment/specs/Segment.antt`. Definitions only.
-use Rattle.std.specs.Prelude.{Float}
-use Rattle.floats.specs.Ops.{◌⊖◌, ◌⊗◌, ◌⊘◌, ◌≺◌, +0, if◌then◌else◌}
+use Rattle.std.specs.Prelude.{Float, if◌then◌else◌}
+use Rattle.floats.specs.Ops.{◌⊖◌, ◌⊗◌, ◌⊘◌, ◌≺◌, +0}
 use Rattle.geo.specs.declared.types.Point.{Point}
 use Rattle.geo.specs.declared.types.Point3D.{Point3D}
 use Rattle.geo.specs.Vector.{length_sq, perp_dot}

@@ -1,7 +1,7 @@
 -- The code's own way: how the search for the first farthest point saves divisions. What a reader has to believe stands in Farthest.antt. Definitions only.
-use Rattle.std.specs.Prelude.{ℕ, ◌≡◌, false, Float}
+use Rattle.std.specs.Prelude.{ℕ, ◌≡◌, false, Float, if◌then◌else◌}
 use Rattle.std.specs.Float.Ieee.{neg}
-use Rattle.floats.specs.Ops.{◌⊖◌, ◌⊗◌, ◌⊘◌, ◌≺◌, +0, one, if◌then◌else◌}
+use Rattle.floats.specs.Ops.{◌⊖◌, ◌⊗◌, ◌⊘◌, ◌≺◌, +0, one}
 use Rattle.geo.specs.declared.types.Point3D.{Point3D}
 use Rattle.geo.specs.Vector.{length_sq, perp_dot}
 use Rattle.segment.specs.Segment.{degenerate}

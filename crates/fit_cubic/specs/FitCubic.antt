@@ -1,7 +1,7 @@
 -- The cubic curve fitted to points: the ends are fixed, the two controls are least squares over parameters by chord length. Definitions only.
-use Rattle.std.specs.Prelude.{ℕ, zero, suc, ◌-◌, ◌<◌, ◌≡◌, List, ltb, eqb, get_or, Float}
+use Rattle.std.specs.Prelude.{ℕ, zero, suc, ◌-◌, ◌<◌, ◌≡◌, List, ltb, eqb, get_or, Float, if◌then◌else◌}
 use Rattle.std.specs.Float.{nan}
-use Rattle.floats.specs.Ops.{◌⊕◌, ◌⊖◌, ◌⊗◌, ◌⊘◌, ◌≺◌, if◌then◌else◌, +0, one, two, three}
+use Rattle.floats.specs.Ops.{◌⊕◌, ◌⊖◌, ◌⊗◌, ◌⊘◌, ◌≺◌, +0, one, two, three}
 use Rattle.floats.specs.Limits.{pico, atto}
 use Rattle.floats.specs.Float.{abs_of}
 use Rattle.geo.specs.declared.types.Point.{Point}

@@ -1,4 +1,5 @@
 -- How many parts an Arc has: one or more, at most 1,024 a quarter, and at most four quarters. Assumes nothing.
+use Rattle.std.specs.Prelude.{if◌then◌else◌}
 use Prim.Native.Nat.{ℕ, zero, suc, ◌+◌, ◌*◌, ◌^◌, ◌≤◌}
 use mathlib.Core.Path.{◌≡◌, refl}
 use mathlib.Core.Logic.{⊎_elim}
@@ -8,7 +9,7 @@ use native.Mathlib.Nat.{pow-succ'}
 use native.Mathlib.Omega.{arith}
 use lib.ListN.{length, length-append}
 use lib.Ieee.{Float}
-use Rattle.floats.specs.Ops.{◌≺◌, ◌⊗◌, +0, if◌then◌else◌}
+use Rattle.floats.specs.Ops.{◌≺◌, ◌⊗◌, +0}
 use Rattle.floats.specs.Limits.{quarter}
 use Rattle.floats.proofs.Order.{either}
 use Rattle.geo.specs.declared.types.Point.{Point}

@@ -1,7 +1,7 @@
 -- The parts of an Arc: exact quarter turns from its first vector on, each part halved until it is flat or took ten halvings (document 02, §6). Definitions only.
-use Rattle.std.specs.Prelude.{ℕ, zero, suc, Bool, true, false, List, [], ◌∷◌, ◌++◌, Float}
+use Rattle.std.specs.Prelude.{ℕ, zero, suc, Bool, true, false, List, [], ◌∷◌, ◌++◌, Float, if◌then◌else◌}
 use Rattle.std.specs.Float.Ieee.{neg}
-use Rattle.floats.specs.Ops.{◌⊕◌, ◌⊖◌, ◌⊗◌, ◌⊘◌, ◌≺◌, if◌then◌else◌, +0, one, two}
+use Rattle.floats.specs.Ops.{◌⊕◌, ◌⊖◌, ◌⊗◌, ◌⊘◌, ◌≺◌, +0, one, two}
 use Rattle.floats.specs.Limits.{quarter}
 use Rattle.floats.specs.Root.{root_of}
 use Rattle.geo.specs.declared.types.Point.{Point}
@@ -73,7 +73,7 @@ unfoldable pub halved : Float → Float → ℕ → Point → Point → List Arc
 halved r limit zero u w = arc_part u w ∷ []
 halved r limit (suc n) u w =
     if bulge r u w ≺ limit then arc_part u w ∷ []
-    else halved r limit n u (middle r u w) ++ halved r limit n (middle r u w) w
+    else (halved r limit n u (middle r u w) ++ halved r limit n (middle r u w) w)
 
 -- ---- the whole arc
 -- k quarter turns from u on, and then the rest up to w

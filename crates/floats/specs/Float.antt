@@ -1,8 +1,8 @@
 -- Absolute value, ceiling, and the Rust's `max` and `clamp`, over every value of `lib.Ieee`. Definitions only.
-use Rattle.std.specs.Prelude.{◌≡◌, ℕ, ◌+◌, ◌-◌, ◌*◌, ◌/◌, Bool, true, false, pos, is_nan, Float}
+use Rattle.std.specs.Prelude.{◌≡◌, ℕ, ◌+◌, ◌-◌, ◌*◌, ◌/◌, Bool, true, false, pos, is_nan, Float, if◌then◌else◌}
 use Rattle.std.specs.Float.{nan, inf, fin, binary64}
 use Rattle.std.specs.Float.Ieee.{up, down, eq, neg, of_int}
-use Rattle.floats.specs.Ops.{◌≺◌, if◌then◌else◌}
+use Rattle.floats.specs.Ops.{◌≺◌}
 
 -- x without its sign
 unfoldable pub abs_of : Float → Float

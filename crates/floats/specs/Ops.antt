@@ -6,7 +6,6 @@ use Rattle.std.specs.Float.Ieee.{add, sub, mul, div, lt, le}
 infixl 6 ◌⊕◌ ◌⊖◌
 infixl 7 ◌⊗◌ ◌⊘◌
 infix 4 ◌≺◌ ◌≼◌
-infix 1 if◌then◌else◌
 abbrev pub ◌⊕◌ : Float → Float → Float
 x ⊕ y = add binary64 x y
 
@@ -24,9 +23,6 @@ x ≺ y = lt x y
 
 abbrev pub ◌≼◌ : Float → Float → Bool
 x ≼ y = le x y
-
-abbrev pub if◌then◌else◌ : {A : Type 0} → Bool → A → A → A
-if b then x else y = cond b x y
 
 -- ---- constants, by their patterns
 abbrev pub +0 : Float

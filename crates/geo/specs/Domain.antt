@@ -1,7 +1,7 @@
 -- Document 01's domain: which numbers a call takes. Definitions only.
-use Rattle.std.specs.Prelude.{ℕ, zero, suc, ◌+◌, ◌*◌, ◌%◌, Bool, true, false, ◌&&◌, List, length, get_or, eqb, Float}
+use Rattle.std.specs.Prelude.{ℕ, zero, suc, ◌+◌, ◌*◌, ◌%◌, Bool, true, false, ◌&&◌, List, length, get_or, eqb, Float, if◌then◌else◌}
 use Rattle.std.specs.Float.{nan, inf, fin}
-use Rattle.floats.specs.Ops.{◌≼◌, +0, one, if◌then◌else◌}
+use Rattle.floats.specs.Ops.{◌≼◌, +0, one}
 use Rattle.floats.specs.Limits.{thousandth, thousand, millionth, million, trillion}
 use Rattle.floats.specs.Float.{abs_of}
 use Rattle.geo.specs.declared.types.Point.{Point}

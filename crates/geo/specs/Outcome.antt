@@ -1,7 +1,6 @@
 -- What a call comes to: the number of a refusal, or a value. Document 01's table of causes is a list of rows, and the first row that fails decides. Definitions only.
-use Rattle.std.specs.Prelude.{ℕ, zero, suc, ◌*◌, Bool, List, [], ◌∷◌, ◌++◌, ◌≡◌, length, drop}
+use Rattle.std.specs.Prelude.{ℕ, zero, suc, ◌*◌, Bool, List, [], ◌∷◌, ◌++◌, ◌≡◌, length, drop, if◌then◌else◌}
 use Rattle.std.proofs.lemmas.List.Edits.{sets}
-use Rattle.floats.specs.Ops.{if◌then◌else◌}
 use Rattle.geo.specs.Lent.{flat}
 use Rattle.geo.specs.declared.types.Answer.{Answer}
 use Rattle.geo.specs.declared.types.Answer.TheVariants.{Written, Refused}

@@ -1,4 +1,5 @@
 -- Where three points share one height, their distance in x, y and z is, bit for bit, that in x and y; so thinning keeps the same of them. Assumes nothing.
+use Rattle.std.specs.Prelude.{if◌then◌else◌}
 use Prim.Native.Nat.{ℕ, zero, suc, ◌+◌, ◌-◌, ◌*◌, ◌/◌, ◌%◌, ◌^◌, ◌<◌, compare}
 use mathlib.Core.Path.{◌≡◌, refl, sym, ap, ◌∙◌}
 use mathlib.Core.Logic.{⊎_elim}
@@ -11,7 +12,7 @@ use lib.Ieee.{Float, nan, inf, fin, binary64, low, emax, prec, up, down, unlike,
 use lib.Ieee.Fits.{add-fits}
 use lib.Ieee.Positive.{first_pos}
 use lib.Ieee.Scale.{finite}
-use Rattle.floats.specs.Ops.{◌⊕◌, ◌⊖◌, ◌⊗◌, ◌⊘◌, ◌≺◌, +0, one, if◌then◌else◌}
+use Rattle.floats.specs.Ops.{◌⊕◌, ◌⊖◌, ◌⊗◌, ◌⊘◌, ◌≺◌, +0, one}
 use Rattle.floats.specs.Float.{clamp_of}
 use Rattle.floats.proofs.Order.{either, clash, lt_gap}
 use Rattle.floats.proofs.Bounds.{Below, Within, sub_below, add_below, mul_below}

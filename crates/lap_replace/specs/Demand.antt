@@ -1,6 +1,5 @@
 -- Demand 3 in words that can be checked: what is said of files, their fits and the replacement of a lap. Definitions only; `proofs/Demand.antt` has the proofs.
-use Rattle.std.specs.Prelude.{ℕ, ◌+◌, ◌-◌, ◌*◌, ◌≤◌, ◌<◌, Bool, true, false, ◌≡◌, List, [], ◌∷◌, map, length, get_or, take, Float}
-use Rattle.floats.specs.Ops.{if◌then◌else◌}
+use Rattle.std.specs.Prelude.{ℕ, ◌+◌, ◌-◌, ◌*◌, ◌≤◌, ◌<◌, Bool, true, false, ◌≡◌, List, [], ◌∷◌, map, length, get_or, take, Float, if◌then◌else◌}
 use Rattle.geo.specs.declared.types.Point3D.{Point3D}
 use Rattle.geo.specs.declared.types.Command.{Command}
 use Rattle.geo.specs.Outcome.{gives}

@@ -1,6 +1,5 @@
 -- Document 02, §9, "Look first, then store": the asking for a lap's replacement and its commit, each with the rows that refuse it. Definitions only.
-use Rattle.std.specs.Prelude.{ℕ, ◌+◌, ◌*◌, ◌/◌, Bool, false, not, ◌&&◌, List, [], ◌∷◌, ◌++◌, ◌≡◌, length, ltb, leb, eqb, Float}
-use Rattle.floats.specs.Ops.{if◌then◌else◌}
+use Rattle.std.specs.Prelude.{ℕ, ◌+◌, ◌*◌, ◌/◌, Bool, false, not, ◌&&◌, List, [], ◌∷◌, ◌++◌, ◌≡◌, length, ltb, leb, eqb, Float, if◌then◌else◌}
 use Rattle.geo.specs.Domain.{whole}
 use Rattle.geo.specs.Outcome.{Row, row, refusal, Outcome, refused, gives, unless, left, Wrote}
 use Rattle.file.specs.Command.{commands_at}

@@ -1,6 +1,5 @@
 -- The laps of a file with one replaced and, where it is fitted again, the one behind it; what both become, and could become at most. Definitions only.
-use Rattle.std.specs.Prelude.{ℕ, ◌+◌, ◌-◌, ◌*◌, Bool, List, [], ◌++◌, ◌≡◌, length, get_or, set, drop, Float}
-use Rattle.floats.specs.Ops.{if◌then◌else◌}
+use Rattle.std.specs.Prelude.{ℕ, ◌+◌, ◌-◌, ◌*◌, Bool, List, [], ◌++◌, ◌≡◌, length, get_or, set, drop, Float, if◌then◌else◌}
 use Rattle.geo.specs.declared.types.Command.{Command}
 use Rattle.file.specs.Command.{commands_at}
 use Rattle.pieces.specs.declared.pieces.Rule.{Rule}

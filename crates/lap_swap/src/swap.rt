@@ -1,7 +1,7 @@
 // A fitted file with one lap replaced and, where it lacks its Move, the next one fitted again: where the new commands start, both fits, what
 // they could become at most, and the file with them.
-ghost use Rattle.std.specs.Prelude.{◌≡◌, true, false, ◌&&◌, [], ◌++◌, ◌+◌, ◌*◌, ◌≤◌, eqb, length, drop};
-ghost use Rattle.floats.specs.Ops.{◌≺◌, +0, if◌then◌else◌};
+ghost use Rattle.std.specs.Prelude.{◌≡◌, true, false, ◌&&◌, [], ◌++◌, ◌+◌, ◌*◌, ◌≤◌, eqb, length, drop, if◌then◌else◌};
+ghost use Rattle.floats.specs.Ops.{◌≺◌, +0};
 ghost use Rattle.file.specs.Command.{commands_at};
 ghost use Rattle.course.specs.Course.{lent_course};
 ghost use Rattle.chain.specs.Chains.{cap};

@@ -1,4 +1,5 @@
 -- What the program prints, by what `list_input` answers: the listing, or the line of a refusal, whose number is at most 9. Assumes nothing.
+use Rattle.std.specs.Prelude.{if◌then◌else◌}
 use Prim.Native.Nat.{ℕ, zero, suc, ◌≤◌}
 use mathlib.Core.Path.{◌≡◌, subst}
 use mathlib.Core.Bool.{Bool, true, false}
@@ -6,7 +7,6 @@ use mathlib.Core.List.{List, ◌++◌}
 use native.Mathlib.Omega.{arith}
 use lib.ListN.{length, drop}
 use lib.Dec.{ltb}
-use Rattle.floats.specs.Ops.{if◌then◌else◌}
 use Rattle.geo.specs.Outcome.{refusal, Outcome, refused, unless}
 use Rattle.file.specs.Bytes.{number_at}
 use Rattle.lap_rows.specs.Listing.{most_text, text_rows, list_file}

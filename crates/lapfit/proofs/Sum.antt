@@ -1,4 +1,5 @@
 -- The sum under the listing, in the bytes that are printed: the theorems of `specs/Sum.antt`. Assumes nothing.
+use Rattle.std.specs.Prelude.{if◌then◌else◌}
 use Prim.Native.Nat.{ℕ, zero, suc, ◌+◌, ◌/◌, ◌%◌, ◌≤◌}
 use mathlib.Core.Path.{◌≡◌, refl, sym, ap, ◌∙◌}
 use mathlib.Core.Logic.{⊎_elim}
@@ -9,7 +10,6 @@ use borrow.Author.Tests.{eq-eqb, ne_eqb}
 use lib.ListN.{length, drop}
 use lib.Dec.{ltb}
 use lib.Ieee.{Float}
-use Rattle.floats.specs.Ops.{if◌then◌else◌}
 use Rattle.floats.proofs.Order.{lt_or_ge}
 use Rattle.geo.specs.Lent.{flat, origin}
 use Rattle.geo.specs.Outcome.{Outcome, refused, gives}

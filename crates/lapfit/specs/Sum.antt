@@ -1,6 +1,5 @@
 -- The sum under the listing (document 02, §8), in the bytes that the program prints: "Students add up the steps column." Definitions only; proofs/Sum.antt shows that it holds.
-use Rattle.std.specs.Prelude.{ℕ, ◌≤◌, ◌≡◌, List, [], ◌∷◌, ◌++◌, map, length, get_or, drop, eqb}
-use Rattle.floats.specs.Ops.{if◌then◌else◌}
+use Rattle.std.specs.Prelude.{ℕ, ◌≤◌, ◌≡◌, List, [], ◌∷◌, ◌++◌, map, length, get_or, drop, eqb, if◌then◌else◌}
 use Rattle.geo.specs.Lent.{origin}
 use Rattle.geo.specs.Outcome.{refused, gives}
 use Rattle.file.specs.Bytes.{number_at}

@@ -1,9 +1,9 @@
 -- Rows 4 and 5 in one walk: each command of all laps passes both tests exactly where each passes the one and each passes the other. Assumes nothing.
+use Rattle.std.specs.Prelude.{if◌then◌else◌}
 use mathlib.Core.Path.{◌≡◌, refl, sym, ap, ◌∙◌}
 use mathlib.Core.Bool.{Bool, true, false, not, ◌&&◌, ◌||◌}
 use mathlib.Core.List.{List, [], ◌∷◌}
 use Prim.Native.Nat.{ℕ}
-use Rattle.floats.specs.Ops.{if◌then◌else◌}
 use Rattle.floats.proofs.Order.{and_left, and_right}
 use Rattle.geo.specs.Outcome.{refusal}
 use Rattle.geo.proofs.Rows.{row_fails, row-passes, done}

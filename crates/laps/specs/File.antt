@@ -1,7 +1,6 @@
 -- The lap file as a list of laps, each a list of commands of 73 bytes as they stand (document 01, "The lap file"). Definitions only.
-use Rattle.std.specs.Prelude.{ℕ, zero, suc, ◌+◌, ◌*◌, ◌<◌, Bool, true, false, not, ◌&&◌, ◌||◌, List, [], ◌∷◌, ◌++◌, ◌≡◌, length, get_or, ltb, eqb}
+use Rattle.std.specs.Prelude.{ℕ, zero, suc, ◌+◌, ◌*◌, ◌<◌, Bool, true, false, not, ◌&&◌, ◌||◌, List, [], ◌∷◌, ◌++◌, ◌≡◌, length, get_or, ltb, eqb, if◌then◌else◌}
 use Rattle.std.proofs.lemmas.List.Edits.{sets}
-use Rattle.floats.specs.Ops.{if◌then◌else◌}
 use Rattle.geo.specs.Domain.{finite3, command_in}
 use Rattle.file.specs.Bytes.{half_at, u32_bytes}
 use Rattle.laps.specs.declared.lap_file.Check.{Check}

@@ -1,4 +1,5 @@
 -- What the program prints, by what `read_course` answers: the file, or the line of a refusal, whose number is at most 14. Assumes nothing.
+use Rattle.std.specs.Prelude.{if◌then◌else◌}
 use Prim.Native.Nat.{ℕ, ◌≤◌}
 use mathlib.Core.Path.{◌≡◌, subst}
 use mathlib.Core.Bool.{Bool, true, false, not, ◌||◌}
@@ -6,7 +7,6 @@ use mathlib.Core.List.{List, [], ◌∷◌, ◌++◌}
 use native.Mathlib.Omega.{arith}
 use lib.ListN.{length, drop}
 use lib.Dec.{ltb}
-use Rattle.floats.specs.Ops.{if◌then◌else◌}
 use Rattle.geo.specs.Outcome.{row, refusal, Outcome, refused, gives, unless}
 use Rattle.laps.specs.Rows.{file_size}
 use Rattle.svg_text.specs.Path.{Drawn, named}

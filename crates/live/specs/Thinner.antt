@@ -1,7 +1,7 @@
 -- The live thinner: its state, and what a point fed, a close and a new tolerance make of it (document 02, §2 and §12). Definitions only.
-use Rattle.std.specs.Prelude.{ℕ, zero, suc, ◌+◌, ◌-◌, ◌*◌, Bool, true, false, ◌&&◌, ◌||◌, List, [], ◌∷◌, ◌++◌, replicate, ltb, Float}
+use Rattle.std.specs.Prelude.{ℕ, zero, suc, ◌+◌, ◌-◌, ◌*◌, Bool, true, false, ◌&&◌, ◌||◌, List, [], ◌∷◌, ◌++◌, replicate, ltb, Float, if◌then◌else◌}
 use Rattle.std.proofs.lemmas.List.Edits.{sets}
-use Rattle.floats.specs.Ops.{◌≺◌, +0, if◌then◌else◌}
+use Rattle.floats.specs.Ops.{◌≺◌, +0}
 use Rattle.geo.specs.declared.types.Point3D.{Point3D}
 use Rattle.geo.specs.Lent.{point_at, triple}
 use Rattle.deviations.specs.Line.{line_deviation}
@@ -52,7 +52,7 @@ unfoldable pub shut : Live → Next
 shut s =
     record {
       state = record { tolerance = s.tolerance; points = s.points; count = s.count; closed = true };
-      ends = if ltb s.count 2 then [] else slot s (s.count - 1) ∷ [];
+      ends = if ltb s.count 2 then [] else (slot s (s.count - 1) ∷ []);
     }
 
 -- ---- a new tolerance

@@ -1,4 +1,5 @@
 -- The laws of the pieces of a fit, each stated alone, over any rule whose tolerance is above zero. Assumes nothing.
+use Rattle.std.specs.Prelude.{if◌then◌else◌}
 use Prim.Native.Nat.{ℕ, zero, suc, ◌+◌, ◌-◌, ◌*◌, ◌≤◌, ◌<◌}
 use mathlib.Core.Path.{◌≡◌, refl, sym, ap, ◌∙◌, subst}
 use mathlib.Core.Logic.{◌⊎◌, inl, inr, ⊎_elim}
@@ -8,7 +9,7 @@ use native.Mathlib.Omega.{arith}
 use borrow.Author.Tests.{lt-ltb, le-ltb, le-leb, lt-leb}
 use lib.ListN.{length, length-append}
 use lib.Ieee.{Float, neg}
-use Rattle.floats.specs.Ops.{◌⊖◌, ◌≺◌, if◌then◌else◌, +0, one}
+use Rattle.floats.specs.Ops.{◌⊖◌, ◌≺◌, +0, one}
 use Rattle.floats.proofs.Order.{either, lt_or_ge}
 use Rattle.geo.specs.declared.types.Point.{Point}
 use Rattle.geo.specs.declared.types.Point3D.{Point3D}

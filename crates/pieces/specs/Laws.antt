@@ -1,7 +1,7 @@
 -- Demand 3's words about the pieces of a range, as propositions, over any rule r and any points `at`. Definitions only; proofs/Laws.antt shows that they hold.
-use Rattle.std.specs.Prelude.{ℕ, ◌+◌, ◌-◌, ◌≤◌, ◌<◌, ◌≡◌, Bool, true, false, ◌&&◌, List, [], ◌∷◌, ◌++◌, ltb, leb, Float}
+use Rattle.std.specs.Prelude.{ℕ, ◌+◌, ◌-◌, ◌≤◌, ◌<◌, ◌≡◌, Bool, true, false, ◌&&◌, List, [], ◌∷◌, ◌++◌, ltb, leb, Float, if◌then◌else◌}
 use Rattle.std.specs.Float.Ieee.{neg}
-use Rattle.floats.specs.Ops.{◌⊖◌, ◌≺◌, if◌then◌else◌, +0, one}
+use Rattle.floats.specs.Ops.{◌⊖◌, ◌≺◌, +0, one}
 use Rattle.geo.specs.declared.types.Point.{Point}
 use Rattle.geo.specs.declared.types.Point3D.{Point3D}
 use Rattle.geo.specs.declared.types.Command as command

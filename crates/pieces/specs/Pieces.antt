@@ -1,8 +1,8 @@
 -- The fit of a range of points: the pieces into which it falls, each a Line or an Arc with its trial's centre. Definitions only.
 -- "A cut leaves two [ranges], sharing its Line's first farthest point. An uncut range is a piece, written to its last point as a Line if that passes, else as the
 -- Arc of the first arc trial that does" (document 01, "Demand 3's words").
-use Rattle.std.specs.Prelude.{ℕ, zero, suc, ◌+◌, ◌-◌, Bool, true, false, List, [], ◌∷◌, ◌++◌, Float}
-use Rattle.floats.specs.Ops.{◌≺◌, if◌then◌else◌}
+use Rattle.std.specs.Prelude.{ℕ, zero, suc, ◌+◌, ◌-◌, Bool, true, false, List, [], ◌∷◌, ◌++◌, Float, if◌then◌else◌}
+use Rattle.floats.specs.Ops.{◌≺◌}
 use Rattle.geo.specs.declared.types.Point.{Point}
 use Rattle.geo.specs.declared.types.Point3D.{Point3D}
 use Rattle.circle.specs.declared.circle.Deviation.{Deviation}

@@ -1,6 +1,5 @@
 -- What `lapfit` makes of its input: "eight bytes of tolerance, then a lap file"; "input below 16 bytes gives 1" (document 01). Definitions only.
-use Rattle.std.specs.Prelude.{ℕ, List, length, drop, ltb}
-use Rattle.floats.specs.Ops.{if◌then◌else◌}
+use Rattle.std.specs.Prelude.{ℕ, List, length, drop, ltb, if◌then◌else◌}
 use Rattle.geo.specs.Outcome.{Outcome, refused}
 use Rattle.file.specs.Bytes.{number_at}
 use Rattle.lap_rows.specs.Listing.{list_file}

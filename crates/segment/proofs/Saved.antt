@@ -1,4 +1,5 @@
 -- The segment's measure, worked out with no division where the foot is clamped, is the clamped one. Assumes nothing.
+use Rattle.std.specs.Prelude.{if◌then◌else◌}
 use mathlib.Core.Path.{◌≡◌, refl, sym, ap, ◌∙◌}
 use mathlib.Core.Logic.{◌⊎◌, inl, inr, ⊎_elim}
 use mathlib.Core.Bool.{Bool, true, false}
@@ -9,7 +10,7 @@ use lib.Dec.{T}
 use lib.Ieee.{Float, nan, inf, fin, binary64, up, down, round, add, mul, lt, le, eq, is_nan, of_bits, fits}
 use lib.Ieee.Fits.{down_pos, sub-fits}
 use lib.Ieee.Scale.{finite}
-use Rattle.floats.specs.Ops.{◌⊕◌, ◌⊖◌, ◌⊗◌, ◌⊘◌, ◌≺◌, ◌≼◌, +0, one, if◌then◌else◌}
+use Rattle.floats.specs.Ops.{◌⊕◌, ◌⊖◌, ◌⊗◌, ◌⊘◌, ◌≺◌, ◌≼◌, +0, one}
 use Rattle.floats.proofs.Order.{either, clash, lt_gap}
 use Rattle.geo.specs.declared.types.Point3D.{Point3D}
 use Rattle.segment.specs.declared.segment.Segment.{Segment}

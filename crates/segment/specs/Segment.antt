@@ -1,8 +1,8 @@
 -- How far a point lies from the segment between two others, in the plane (document 02, §4) and in space (§14). Definitions only.
 -- "Clamp the foot's parameter dot/chord² to 0..1, and measure from the point found, start + parameter × (end − start) in each coordinate."
-use Rattle.std.specs.Prelude.{List, [], ◌∷◌, Float}
+use Rattle.std.specs.Prelude.{List, [], ◌∷◌, Float, if◌then◌else◌}
 use Rattle.floats.specs.Limits.{pico}
-use Rattle.floats.specs.Ops.{◌⊕◌, ◌⊖◌, ◌⊗◌, ◌⊘◌, ◌≺◌, +0, one, if◌then◌else◌}
+use Rattle.floats.specs.Ops.{◌⊕◌, ◌⊖◌, ◌⊗◌, ◌⊘◌, ◌≺◌, +0, one}
 use Rattle.floats.specs.Float.{clamp_of}
 use Rattle.geo.specs.declared.types.Point3D.{Point3D}
 

@@ -1,6 +1,5 @@
 -- Thinning of commands, where Moves have rules of their own. Definitions only.
-use Rattle.std.specs.Prelude.{ℕ, zero, suc, ◌+◌, Bool, false, ◌||◌, List, [], ◌∷◌, map, eqb, Float}
-use Rattle.floats.specs.Ops.{if◌then◌else◌}
+use Rattle.std.specs.Prelude.{ℕ, zero, suc, ◌+◌, Bool, false, ◌||◌, List, [], ◌∷◌, map, eqb, Float, if◌then◌else◌}
 use Rattle.geo.specs.declared.types.Command.{Command}
 use Rattle.farthest.specs.Ends.{is_move, command_sq}
 use Rattle.simplify.specs.Thin.{thinned}

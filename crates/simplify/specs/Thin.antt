@@ -1,6 +1,6 @@
 -- Thinning by the rule of Douglas and Peucker (1973), over any measure m, any limit and any points `at`. Definitions only.
-use Rattle.std.specs.Prelude.{ℕ, zero, suc, ◌-◌, List, [], ◌∷◌, ◌++◌, map, length, get_or, Float}
-use Rattle.floats.specs.Ops.{◌≺◌, if◌then◌else◌}
+use Rattle.std.specs.Prelude.{ℕ, zero, suc, ◌-◌, List, [], ◌∷◌, ◌++◌, map, length, get_or, Float, if◌then◌else◌}
+use Rattle.floats.specs.Ops.{◌≺◌}
 use Rattle.farthest.specs.declared.farthest.Farthest.{Farthest}
 use Rattle.farthest.specs.Measure.{Measure}
 use Rattle.farthest.specs.Farthest.{farthest_in}

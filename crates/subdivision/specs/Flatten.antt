@@ -1,6 +1,6 @@
 -- A curve as a polyline: halved until it is flat, or as often as is allowed. Definitions only.
-use Rattle.std.specs.Prelude.{ℕ, zero, suc, Bool, ◌&&◌, List, [], ◌∷◌, ◌++◌, Float}
-use Rattle.floats.specs.Ops.{◌⊖◌, ◌⊘◌, ◌≺◌, ◌≼◌, if◌then◌else◌, half}
+use Rattle.std.specs.Prelude.{ℕ, zero, suc, Bool, ◌&&◌, List, [], ◌∷◌, ◌++◌, Float, if◌then◌else◌}
+use Rattle.floats.specs.Ops.{◌⊖◌, ◌⊘◌, ◌≺◌, ◌≼◌, half}
 use Rattle.floats.specs.Limits.{nano}
 use Rattle.floats.specs.Float.{max_of}
 use Rattle.geo.specs.declared.types.Point.{Point}
@@ -40,7 +40,7 @@ subdivided zero limit q = q.3 ∷ []
 subdivided (suc depth) limit q =
     if is_flat q limit
     then q.3 ∷ []
-    else subdivided depth limit (left_part q half) ++ subdivided depth limit (right_part q half)
+    else (subdivided depth limit (left_part q half) ++ subdivided depth limit (right_part q half))
 
 -- ---- in space
 unfoldable pub minus : Point3D → Point3D → Point3D

@@ -1,4 +1,5 @@
 -- The rows of a text: what each test of the code tells. The only number of a text that breaks the rules is 14. Assumes nothing.
+use Rattle.std.specs.Prelude.{if◌then◌else◌}
 use Prim.Native.Nat.{ℕ, zero, suc, ◌+◌, ◌*◌, ◌≤◌, ◌<◌}
 use mathlib.Core.Path.{◌≡◌, refl, sym, ap, ◌∙◌}
 use mathlib.Core.Bool.{Bool, true, false, not, ◌||◌}
@@ -7,7 +8,6 @@ use native.Mathlib.Omega.{arith}
 use borrow.Author.Tests.{lt-ltb, le-ltb, ltb-false, not-false}
 use lib.ListN.{length}
 use lib.Dec.{ltb, eqb}
-use Rattle.floats.specs.Ops.{if◌then◌else◌}
 use Rattle.floats.proofs.Order.{or_false}
 use Rattle.geo.specs.declared.types.Answer.TheVariants.{Refused, Written}
 use Rattle.geo.specs.Outcome.{Outcome, refused, gives, refusal, unless, answer, left, Wrote}

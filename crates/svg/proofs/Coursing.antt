@@ -1,4 +1,5 @@
 -- The second walk over a text, lap after lap: the laps that are left, written from here, give the whole file. Assumes nothing.
+use Rattle.std.specs.Prelude.{if◌then◌else◌}
 use Prim.Native.Nat.{ℕ, suc, ◌+◌, ◌*◌, ◌≤◌, ◌<◌}
 use mathlib.Core.Path.{◌≡◌, refl, sym, ap, ◌∙◌, subst}
 use mathlib.Core.Bool.{Bool, true, false}
@@ -7,7 +8,6 @@ use native.Mathlib.Omega.{arith}
 use lib.ListN.{length, drop, length-map}
 use lib.Seq.{sets}
 use lib.Dec.{eqb}
-use Rattle.floats.specs.Ops.{if◌then◌else◌}
 use Rattle.geo.specs.Outcome.{gives}
 use Rattle.file.specs.Bytes.{u32_bytes}
 use Rattle.file.proofs.Stores.{length_enc}

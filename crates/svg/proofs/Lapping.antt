@@ -1,4 +1,5 @@
 -- The second walk over a text, in one lap: the commands that are left, written from here, give the whole lap. Assumes nothing.
+use Rattle.std.specs.Prelude.{if◌then◌else◌}
 use Prim.Native.Nat.{ℕ, ◌+◌, ◌*◌, ◌≤◌, ◌<◌}
 use mathlib.Core.Path.{◌≡◌, refl, sym, ap, ◌∙◌}
 use mathlib.Core.Bool.{Bool, true, false}
@@ -8,7 +9,6 @@ use borrow.Author.Tests.{eq-eqb, ne_eqb}
 use lib.ListN.{length, get_or, drop, length-drop, length-map}
 use lib.Seq.{sets, length-sets}
 use lib.Dec.{eqb}
-use Rattle.floats.specs.Ops.{if◌then◌else◌}
 use Rattle.geo.specs.declared.types.Command.{Command}
 use Rattle.geo.specs.Outcome.{gives}
 use Rattle.geo.proofs.Stores.{sets_append}

@@ -1,6 +1,5 @@
 -- The lap file that a text is read to (document 02, §11), and the rows that refuse it. Definitions only.
-use Rattle.std.specs.Prelude.{ℕ, Bool, true, false, not, ◌||◌, List, [], ◌∷◌, map, length, ltb}
-use Rattle.floats.specs.Ops.{if◌then◌else◌}
+use Rattle.std.specs.Prelude.{ℕ, Bool, true, false, not, ◌||◌, List, [], ◌∷◌, map, length, ltb, if◌then◌else◌}
 use Rattle.geo.specs.Domain.{command_in}
 use Rattle.geo.specs.Outcome.{Row, row, refusal, Outcome, refused, gives, unless}
 use Rattle.file.specs.Command.{enc}

@@ -1,4 +1,5 @@
 -- Document 02, §11: the theorems of `specs/Demand.antt` about the file. Assumes nothing.
+use Rattle.std.specs.Prelude.{if◌then◌else◌}
 use Prim.Native.Nat.{ℕ, zero, suc, ◌≤◌}
 use mathlib.Core.Path.{◌≡◌, refl, sym, ap, ◌∙◌, subst}
 use mathlib.Core.Bool.{Bool, true, false, not, ◌||◌}
@@ -11,7 +12,6 @@ use lib.IntN.{ℤ, pos, negsuc}
 use lib.Ieee.{binary64, fits, of_bits, of_fields, odd}
 use lib.Ieee.Fits.{round-fits}
 use lib.Ieee.Bits.{of_bits-fits}
-use Rattle.floats.specs.Ops.{if◌then◌else◌}
 use Rattle.floats.proofs.Order.{and_left}
 use Rattle.geo.specs.declared.types.Point3D.{Point3D}
 use Rattle.geo.specs.Lent.{origin}

@@ -1,4 +1,5 @@
 -- Document 02, §11: the theorems of `specs/Demand.antt` about texts: 14 is for those that the grammar does not spell, and for no other; and each M opens a lap. Assumes nothing.
+use Rattle.std.specs.Prelude.{if◌then◌else◌}
 use Prim.Native.Nat.{ℕ}
 use mathlib.Core.Path.{◌≡◌, refl, sym, ap, ◌∙◌, subst}
 use mathlib.Core.Bool.{Bool, true, false, not, ◌||◌}
@@ -7,7 +8,6 @@ use native.Mathlib.Omega.{arith}
 use borrow.Author.Tests.{le-ltb}
 use lib.ListN.{length}
 use lib.Dec.{ltb}
-use Rattle.floats.specs.Ops.{if◌then◌else◌}
 use Rattle.geo.specs.Lent.{flat}
 use Rattle.geo.specs.Outcome.{row, refusal, Outcome, refused, gives, unless}
 use Rattle.laps.specs.Rows.{file_size}

@@ -1,4 +1,5 @@
 -- Every text that is read is spelled by the grammar. Assumes nothing.
+use Rattle.std.specs.Prelude.{if◌then◌else◌}
 use Prim.Native.Nat.{ℕ, zero, suc, ◌+◌, ◌-◌, ◌*◌, ◌^◌, ◌≤◌, ◌<◌}
 use mathlib.Core.Path.{◌≡◌, refl, sym, ap, ◌∙◌, subst}
 use mathlib.Core.Bool.{Bool, true, false, ◌&&◌}
@@ -8,7 +9,6 @@ use borrow.Author.Tests.{eqb-true, eqb-false, leb-true}
 use lib.ListN.{length}
 use lib.Dec.{eqb, leb}
 use lib.IntN.{ℤ, pos}
-use Rattle.floats.specs.Ops.{if◌then◌else◌}
 use Rattle.geo.specs.Outcome.{Outcome, refused, gives}
 use Rattle.svg_text.specs.Path.{Drawn, move, line, curve, Reading, broken, read, and_then, space, hyphen, full_stop, nought, nine, letter_c, letter_l, letter_m, is_digit, Digits, digits, in_thousandths, decimals, units, unsigned, signed, negative, number, spaced, pair_of, command, bad, in_front, then_rest, more, others, named}
 use Rattle.svg_text.specs.Spelling.{Number, Figures, Fine, sign, shown, behind, spell, value, thousandths, with_sign, meant, Spelled, spelledM, spelledL, spelled_c, Proper, spell_pair, spell_command, meaning, spell_more, spell_text, All, FirstM, Spells, ReadIsSpelled}

@@ -1,11 +1,11 @@
 -- The commands of a text without the bound on their number: what follows a command is nothing, or a space, a command and what follows that. Assumes nothing.
+use Rattle.std.specs.Prelude.{if◌then◌else◌}
 use Prim.Native.Nat.{ℕ, zero, suc, ◌≤◌, ◌<◌}
 use mathlib.Core.Path.{◌≡◌, refl, ap, subst}
 use mathlib.Core.List.{List, [], ◌∷◌}
 use native.Mathlib.Omega.{arith}
 use lib.ListN.{length}
 use lib.Dec.{eqb}
-use Rattle.floats.specs.Ops.{if◌then◌else◌}
 use Rattle.geo.specs.Outcome.{Outcome, gives}
 use Rattle.svg_text.specs.Path.{Drawn, Reading, broken, read, space, command, bad, in_front, then_rest, more, others}
 use Rattle.svg_text.proofs.Read.{command_longer}

@@ -1,6 +1,5 @@
 -- What a text names (document 02, §11): SVG path data, bytes read from left to right. No float occurs here. Definitions only.
-use Rattle.std.specs.Prelude.{ℕ, zero, suc, ◌+◌, ◌-◌, ◌*◌, ◌^◌, Bool, ◌&&◌, List, [], ◌∷◌, length, leb, eqb, ℤ, pos, neg_ℤ}
-use Rattle.floats.specs.Ops.{if◌then◌else◌}
+use Rattle.std.specs.Prelude.{ℕ, zero, suc, ◌+◌, ◌-◌, ◌*◌, ◌^◌, Bool, ◌&&◌, List, [], ◌∷◌, length, leb, eqb, ℤ, pos, neg_ℤ, if◌then◌else◌}
 use Rattle.geo.specs.Outcome.{Outcome, refused, gives}
 
 -- a command, its numbers in whole thousandths and in the text's order: C has x1 y1 x2 y2 x y

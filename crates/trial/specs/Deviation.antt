@@ -1,7 +1,7 @@
 -- How far a chain of points is off an arc. The sagitta is taken by the root (document 01, "Two departures"). Definitions only.
-use Rattle.std.specs.Prelude.{ℕ, ◌+◌, ◌-◌, Float}
+use Rattle.std.specs.Prelude.{ℕ, ◌+◌, ◌-◌, Float, if◌then◌else◌}
 use Rattle.std.specs.Float.Ieee.{neg}
-use Rattle.floats.specs.Ops.{◌⊕◌, ◌⊖◌, ◌⊗◌, ◌⊘◌, ◌≺◌, if◌then◌else◌, +0, one, two}
+use Rattle.floats.specs.Ops.{◌⊕◌, ◌⊖◌, ◌⊗◌, ◌⊘◌, ◌≺◌, +0, one, two}
 use Rattle.floats.specs.Root.{root_of}
 use Rattle.floats.specs.Float.{abs_of, max_of, clamp_of}
 use Rattle.geo.specs.declared.types.Point.{Point}

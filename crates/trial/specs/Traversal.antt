@@ -1,8 +1,8 @@
 -- Whether points go round a centre by less than a whole turn: document 01's count W (its "Traversal"). Definitions only.
-use Rattle.std.specs.Prelude.{ℕ, zero, suc, ◌+◌, ◌-◌, Bool, true, false, not, ◌&&◌, ℤ, pos, negsuc, ◌+ℤ◌, ◌-ℤ◌, Float}
+use Rattle.std.specs.Prelude.{ℕ, zero, suc, ◌+◌, ◌-◌, Bool, true, false, not, ◌&&◌, ℤ, pos, negsuc, ◌+ℤ◌, ◌-ℤ◌, Float, if◌then◌else◌}
 use Rattle.std.specs.Float.Ieee.{neg, eq}
 use Rattle.floats.specs.Limits.{thousandth}
-use Rattle.floats.specs.Ops.{◌⊖◌, ◌⊗◌, ◌≺◌, ◌≼◌, if◌then◌else◌, +0}
+use Rattle.floats.specs.Ops.{◌⊖◌, ◌⊗◌, ◌≺◌, ◌≼◌, +0}
 use Rattle.geo.specs.declared.types.Point.{Point}
 use Rattle.geo.specs.declared.types.Point3D.{Point3D}
 use Rattle.geo.specs.Vector.{dot, perp_dot}

@@ -1,6 +1,5 @@
 -- The search in layers, by a budget of tests, over any test `ok` of the points 0 to `last`. Definitions only.
-use Rattle.std.specs.Prelude.{ℕ, zero, suc, ◌+◌, ◌-◌, Bool, true, false, List, [], ◌∷◌, length, get_or, set, replicate, eqb, ltb}
-use Rattle.floats.specs.Ops.{if◌then◌else◌}
+use Rattle.std.specs.Prelude.{ℕ, zero, suc, ◌+◌, ◌-◌, Bool, true, false, List, [], ◌∷◌, length, get_or, set, replicate, eqb, ltb, if◌then◌else◌}
 use Rattle.ways.specs.declared.phase.Phase.{Phase}
 use Rattle.ways.specs.declared.phase.Phase.TheVariants.{Going, Arrived, Spent}
 use Rattle.ways.specs.Way.{Test}
