@@ -1,5 +1,5 @@
 -- The operators of `f64` as signs: ⊕ ⊖ ⊗ ⊘ round once each, ≺ and ≼ are the comparisons `<` and `<=`. Definitions only.
-use Rattle.std.specs.Prelude.{Bool, cond, from_bits, Float}
+use Rattle.std.specs.Prelude.{Bool, from_bits, Float}
 use Rattle.std.specs.Float.{binary64}
 use Rattle.std.specs.Float.Ieee.{add, sub, mul, div, lt, le}
 
