@@ -1,4 +1,4 @@
-//! Links the archive of proved functions that `rt staticlib exports` writes, and says whether the given Rust is at hand.
+//! Links the archive of proved functions that `firmware/archive` writes, and says whether the given Rust is at hand.
 use std::env;
 use std::path::Path;
 

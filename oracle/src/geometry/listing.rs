@@ -23,7 +23,7 @@ use std::time::Instant;
 
 pub const FUNCTIONS: [Function; 1] = [draw_listing];
 
-/// The proved program, as `rt check lapfit` leaves it, and the Rust one, as `oracle/run` builds it.
+/// The proved program, as `tools/program lapfit` leaves it, and the Rust one, as `oracle/run` builds it.
 const PROVED: &str = "target/bin/lapfit";
 const GIVEN: &str = "target/oracle/release/lapfit";
 
