@@ -6,7 +6,8 @@ ghost use Rattle.std.specs.Prelude.{◌≤◌, length, IfOk};
 use std::io;
 use std::io::Read;
 
-// Fills a buffer, and answers how many bytes it has: fewer than it holds only where the reader has ended.
+// Fills a buffer, and answers how many bytes it has. It stops before the buffer is full where a read gives none, which is how a
+// reader ends.
 pub fn read_full<R: Read>(reader: &mut R, buffer: &mut [u8]) -> io::Result<usize>
     ensures { IfOk result (λ n. n ≤ length buffer.new) }
 {
