@@ -37,26 +37,26 @@
    lies above all that was measured, rounded up to 128 bytes, and its value at the greatest n; firmware/run measures it again.
    n counts points; for thinning commands and for a path, commands; for a course, a file, a replacement and an asking it is the
    most of the course, of the longest lap, and of the new lap.
-     pz_simplify_polyline             2048 + 112 * n   231424
-     pz_simplify_polyline_3d          2048 + 144 * n   296960
-     pz_simplify_data                 2048 + 144 * n   117248
-     pz_optimize_path_from_array     24448 + 144 * n   139648
-     pz_fit_points_with_primitives    4992               4992
-     pz_fit_points_recursive          4992               4992
-     pz_fit_arcs                     24448 + 144 * n   139648
-     pz_fit_file                    141696 + 144 * n   256896
-     pz_fit_hills                   141568 + 144 * n   256768
-     pz_replace_lap                 199936 + 144 * n   315136
-     pz_ask_lap                     141568 + 144 * n   256768
-     pz_commit_lap                     640                640
-     pz_fewest_straights              1280 + 160 * n    42240
-     pz_flatten_arc                   4992               4992
-     pz_read_course                    768                768
-     pz_live_feed                     9856               9856
+     pz_simplify_polyline             2048 +  96 * n   198656
+     pz_simplify_polyline_3d          2048 +  80 * n   165888
+     pz_simplify_data                 2048 +  80 * n    66048
+     pz_optimize_path_from_array     24320 +  80 * n    88320
+     pz_fit_points_with_primitives    5120               5120
+     pz_fit_points_recursive          5120               5120
+     pz_fit_arcs                     24576 +  80 * n    88576
+     pz_fit_file                    141952 +  80 * n   205952
+     pz_fit_hills                   141824 +  80 * n   205824
+     pz_replace_lap                 200192 +  80 * n   264192
+     pz_ask_lap                     141824 +  80 * n   205824
+     pz_commit_lap                     512                512
+     pz_fewest_straights              1280 + 144 * n    38144
+     pz_flatten_arc                   3968               3968
+     pz_read_course                    640                640
+     pz_live_feed                    11392              11392
      pz_live_retune                  11392              11392
      pz_fit_cubic_bezier             16640              16640
-     pz_linearize_bezier_adaptive     2432               2432
-     pz_linearize_bezier_segment      4096               4096
+     pz_linearize_bezier_adaptive     2048               2048
+     pz_linearize_bezier_segment      3328               3328
      others                           1920               1920
    No input recurses deeper than the zigzags, since each cut takes a point off: thinning, and the cut of the fewest straights,
    recurse as deep as they cut, the fit of points does not. Bytes that a call reserves but never writes do not show: leave a
