@@ -6,9 +6,7 @@ use Rattle.geo.specs.Vector.{perp_dot}
 use Rattle.geo.specs.Walk.{fold}
 use Rattle.geo.specs.Lent.{pair_at}
 use Rattle.geo.specs.Domain.{most_points, coordinate, centre, numbers_in, whole}
-use Rattle.geo.specs.Outcome.{Row, row, refusal, Outcome, refused, gives, unless}
-use Rattle.arc.specs.declared.arc.Direction.{Direction}
-use Rattle.arc.specs.declared.arc.Direction.TheVariants.{Clockwise, Refused}
+use Rattle.geo.specs.Outcome.{Row, row, refusal, Outcome, unless}
 
 -- the cross product of the directions from m to p and to q
 unfoldable pub turn_at : Point → Point → Point → Float
@@ -36,7 +34,3 @@ direction_rows s m =
 unfoldable pub direction_call : List Float → Point → Outcome Bool
 unfolding refusal unless direction_rows clockwise
 direction_call s m = unless (refusal (direction_rows s m)) (clockwise (pair_at s) 0 (length s / 2 - 1) m)
-
-unfoldable pub direction_answer : Outcome Bool → Direction
-direction_answer (refused n) = Refused n
-direction_answer (gives b) = Clockwise b

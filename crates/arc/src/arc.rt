@@ -1,20 +1,17 @@
 // src/geo/shape/arc.rs: the part that is carried over.
-ghost use Rattle.std.specs.Prelude.{◌≡◌, ◌-◌, ◌*◌, ◌≤◌, length};
+ghost use Rattle.std.specs.Prelude.{◌≡◌, ◌-◌, ◌/◌, ◌≤◌, length};
 ghost use Rattle.geo.specs.Lent.{pair_at};
 ghost use Rattle.geo.specs.Outcome.{refusal};
-ghost use Rattle.arc.specs.Direction.{turn_at, cross_sum, direction_rows, direction_call, direction_answer};
+ghost use Rattle.geo.specs.Refusal.{outcome, refused_by};
+ghost use Rattle.arc.specs.Direction.{turn_at, cross_sum, direction_rows, direction_call};
 
 use geo::domain::{MOST_POINTS, all_coordinates, is_centre};
 use geo::lent::pair_at;
+use geo::refusal::Refusal;
 use geo::types::Point;
 
-#[derive(Clone, Copy)]
-pub enum Direction {
-    Clockwise(bool),
-    Refused(u32),
-}
-
 // The cross product of the directions from the centre to two points.
+#[tactic(auto, unfolding(crate::specs::Direction::turn_at))]
 pub fn turn(center: Point, p: Point, q: Point) -> f64
     ensures { result ≡ turn_at center p q }
 {
@@ -26,49 +23,41 @@ pub fn turn(center: Point, p: Point, q: Point) -> f64
 }
 
 // The cross products of each two neighbours, added up.
-fn sum_turns(points: &[f64], n: usize, center: Point) -> f64
-    requires { (1 ≤ n) × (2 * n ≤ length points.now) }
-    ensures { result ≡ cross_sum (pair_at points.now) 0 (n - 1) center }
+fn sum_turns(points: &[f64], center: Point) -> f64
+    requires { 1 ≤ length points.now / 2 }
+    ensures { result ≡ cross_sum (pair_at points.now) 0 (length points.now / 2 - 1) center }
 {
     let mut sum = 0.0;
-    for i in 0..n - 1 {
-        sum = sum + turn(center, pair_at(points, i), pair_at(points, i + 1));
+    for i in 0..points.len() / 2 - 1 {
+        sum += turn(center, pair_at(points, i), pair_at(points, i + 1));
     }
     sum
 }
 
-// The first row of the table that `is_arc_clockwise` falls under, or 0.
-fn check_direction(points: &[f64], center: Point) -> u32
-    ensures { result ≡ refusal (direction_rows points.now center) }
+// The first row of the table that `is_arc_clockwise` falls under.
+#[tactic(auto, unfolding(crate::specs::Direction::direction_rows, geo::specs::Outcome::refusal, geo::specs::Domain::whole))]
+fn check_direction(points: &[f64], center: Point) -> Result<(), Refusal>
+    ensures { refused_by result ≡ refusal (direction_rows points.now center) }
 {
     if points.len() % 2 != 0 {
-        return 1;
+        return Err(Refusal::NotWhole);
     }
     if MOST_POINTS < points.len() / 2 {
-        return 2;
+        return Err(Refusal::TooMany);
     }
-    if !all_coordinates(points) {
-        return 5;
-    }
-    if !is_centre(center.x) {
-        return 5;
-    }
-    if !is_centre(center.y) {
-        return 5;
+    if !(all_coordinates(points) && is_centre(center.x) && is_centre(center.y)) {
+        return Err(Refusal::BadNumber);
     }
     if points.len() / 2 == 0 {
-        return 7;
+        return Err(Refusal::NoSuch);
     }
-    0
+    Ok(())
 }
 
 // Determines if points along an arc go clockwise round the center, by the sum of the cross products of neighbours.
-pub fn is_arc_clockwise(points: &[f64], center: Point) -> Direction
-    ensures { result ≡ direction_answer (direction_call points.now center) }
+pub fn is_arc_clockwise(points: &[f64], center: Point) -> Result<bool, Refusal>
+    ensures { outcome result ≡ direction_call points.now center }
 {
-    let refused = check_direction(points, center);
-    if 0 < refused {
-        return Direction::Refused(refused);
-    }
-    Direction::Clockwise(sum_turns(points, points.len() / 2, center) < 0.0)
+    check_direction(points, center)?;
+    Ok(sum_turns(points, center) < 0.0)
 }

@@ -19,7 +19,7 @@ use Rattle.geo.specs.Domain.{point3_in, finite3, command_in}
 use Rattle.geo.specs.Outcome.{refusal, gives}
 use Rattle.geo.proofs.Rows.{row_passed, unless-given}
 use Rattle.trial.specs.Traversal.{offset_of}
-use Rattle.course.proofs.FinitePoints.{and3, point_in}
+use Rattle.course.proofs.FinitePoints.{point_in}
 use Rattle.flatten.specs.Parts.{centre_of, length_by}
 use Rattle.flatten.specs.Lines.{drawn}
 use Rattle.flatten.specs.Calls.{upright, near_radii, round_by, drawable, flatten_rows, flatten_call}
@@ -38,7 +38,7 @@ arc-end : (kind : ℕ) (b o d : Point3D) → kind ≡ 2 → command_in (command_
 unfolding command_in command_of
 arc-end kind b o d e h =
     let g : (point3_in b && finite3 o && finite3 d) ≡ true = subst (λ (k : ℕ). command_in (command_of k b o d) ≡ true) e h in
-    (and3 (point3_in b) (finite3 o) (finite3 d) g).0
+    and_left (point3_in b) (finite3 o) (and_left (point3_in b && finite3 o) (finite3 d) g)
 
 near_long : (tol r s : Float) → near_radii tol r s ≡ true → ((r ≺ nano) ≡ false) × ((s ≺ nano) ≡ false)
 unfolding near_radii

@@ -1,23 +1,14 @@
 -- The rows of each call, by the tests that its check makes, in their order. Assumes nothing.
-use Rattle.std.proofs.Common.{◌≡◌, ℕ, ◌*◌, ◌<◌, ◌≤◌, true, false, not, ◌||◌, eqb, ltb, length, sym, ap, ◌∙◌, subst, ltb-false, le-ltb, lt-ltb, eq-eqb, ne_eqb}
+use Rattle.std.proofs.Common.{◌≡◌, ℕ, ◌*◌, ◌<◌, ◌≤◌, true, false, not, ◌||◌, eqb, ltb, length, sym, ap, ◌∙◌, subst, ltb-false, le-ltb, lt-ltb}
 use Rattle.geo.specs.declared.types.Point3D.{Point3D}
 use lib.Ieee.{Float, le, to_unsigned}
 use Rattle.floats.proofs.Order.{or_false}
 use Rattle.geo.specs.Outcome.{refusal}
 use Rattle.geo.proofs.Walk.{list_length}
 use Rattle.geo.proofs.Rows.{row_fails, row-passes, row_passed, refusal-front, done}
-use Rattle.bezier.specs.Linearize.{most_asked, steps, steps_needed, param_steps}
+use Rattle.geo.specs.declared.types.CubicBezier.{CubicBezier}
+use Rattle.bezier.specs.Linearize.{most_asked, steps, steps_of, raised, step_count, steps_needed, param_steps}
 use Rattle.bezier.specs.Calls.{linearize_rows, most_steps, param_first_rows, param_last_rows, param_rows}
-
--- a count that is 0, or above the most, or in between
-pub none_fails : (n most : ℕ) → n ≡ 0 → (eqb n 0 || ltb most n) ≡ true
-none_fails n most h = rw (eq-eqb n 0 h)
-
-pub many_fails : (n most : ℕ) → (n ≡ 0 → ⊥) → most < n → (eqb n 0 || ltb most n) ≡ true
-many_fails n most h g = rw (ne_eqb n 0 h, lt-ltb most n g)
-
-pub count-passes : (n most : ℕ) → (n ≡ 0 → ⊥) → n ≤ most → (eqb n 0 || ltb most n) ≡ false
-count-passes n most h g = rw (ne_eqb n 0 h, le-ltb most n g)
 
 pub count_passed : (n most : ℕ) → (eqb n 0 || ltb most n) ≡ false → n ≤ most
 count_passed n most h = ltb-false most n (or_false (eqb n 0) (ltb most n) h).1
@@ -61,6 +52,16 @@ module _ (e c d s : Point3D) (r : Float) (room : ℕ) where
     pub param_accepted : le needed most_steps ≡ true → 6 * length (param_steps e c d s r) ≤ room → 0 ≡ refusal (param_rows e c d s r room)
     unfolding param_last_rows
     param_accepted h g = sym (param_passed first ∙ row-passes _ _ _ (few h) ∙ row-passes _ _ _ (le-ltb _ _ g) ∙ done)
+
+-- the count is that of the command's curve
+pub needed-is : (e c d s : Point3D) (r needed : Float) (q : CubicBezier Point3D) → q ≡ raised e c d s → needed ≡ step_count q.0 q.1 q.2 q.3 r → needed ≡ steps_needed e c d s r
+unfolding steps_needed
+needed-is e c d s r needed q h k = rw h at k
+
+-- and so are the steps
+pub steps-are : (e c d s : Point3D) (r needed : Float) (n : ℕ) (q : CubicBezier Point3D) → q ≡ raised e c d s → needed ≡ steps_needed e c d s r → n ≡ to_unsigned 64 needed → steps_of q n ≡ param_steps e c d s r
+unfolding param_steps
+steps-are e c d s r needed n q h is k = rw (h, k, is)
 
 -- as many steps as the count says
 pub param_length : (e c d s : Point3D) (r needed : Float) (n : ℕ) → needed ≡ steps_needed e c d s r → n ≡ to_unsigned 64 needed → n ≡ length (param_steps e c d s r)

@@ -1,16 +1,12 @@
--- The public calls: which row of document 01's table refuses them, else what they give; and the answer that says so. Definitions only.
+-- The public calls: which row of document 01's table refuses them, else what they give. Definitions only.
 use Rattle.std.specs.Prelude.{ℕ, ◌*◌, not, ◌&&◌, ◌||◌, List, [], ◌∷◌, ◌++◌, length, ◌==◌, nat_lt, Float}
 use Rattle.floats.specs.Limits.{eight_hundred}
 use Rattle.floats.specs.Ops.{◌≼◌}
 use Rattle.geo.specs.declared.types.Point.{Point}
 use Rattle.geo.specs.declared.types.Point3D.{Point3D}
 use Rattle.geo.specs.Vector.{cubic}
-use Rattle.geo.specs.Outcome.{Row, row, refusal, Outcome, refused, gives, unless}
+use Rattle.geo.specs.Outcome.{Row, row, refusal, Outcome, unless}
 use Rattle.geo.specs.Domain.{parameter, tolerance, whole}
-use Rattle.bezier.specs.declared.bezier.BezierPoint.{BezierPoint}
-use Rattle.bezier.specs.declared.bezier.BezierPoint.TheVariants as Point·
-use Rattle.bezier.specs.declared.bezier.BezierSplit.{BezierSplit}
-use Rattle.bezier.specs.declared.bezier.BezierSplit.TheVariants as Split·
 use Rattle.bezier.specs.declared.bezier.Halves.{Halves}
 use Rattle.bezier.specs.Curve.{curve_in, curve3_in, point_on, parts_at}
 use Rattle.bezier.specs.Linearize.{most_asked, Step, steps, steps_needed, param_steps}
@@ -20,19 +16,11 @@ unfoldable pub point_call : Point → Point → Point → Point → Float → Ou
 unfolding refusal unless point_on
 point_call p0 c1 c2 p1 t = unless (refusal (row 5 (not (curve_in (cubic p0 c1 c2 p1) && parameter t)) ∷ [])) (point_on (cubic p0 c1 c2 p1) t)
 
-unfoldable pub point_answer : Outcome Point → BezierPoint
-point_answer (refused n) = Point·.Refused n
-point_answer (gives p) = Point·.At p
-
 -- ---- split_bezier
-unfoldable pub split_call : Point → Point → Point → Point → Float → Outcome Halves
+unfoldable pub split_call : Point → Point → Point → Point → Float → Outcome (Halves Point)
 unfolding refusal unless
 split_call p0 c1 c2 p1 t =
     unless (refusal (row 5 (not (curve_in (cubic p0 c1 c2 p1) && parameter t)) ∷ [])) (parts_at (cubic p0 c1 c2 p1) t)
-
-unfoldable pub split_answer : Outcome Halves → BezierSplit
-split_answer (refused n) = Split·.Refused n
-split_answer (gives h) = Split·.Halves h.left h.right
 
 -- ---- linearize_bezier: a step is six numbers; `room` counts lent numbers
 unfoldable pub linearize_rows : Point3D → Point3D → Point3D → Point3D → ℕ → ℕ → List Row

@@ -5,7 +5,8 @@ use Rattle.std.specs.Float.Ieee.{of_int, to_unsigned}
 use Rattle.floats.specs.Ops.{◌⊕◌, ◌⊗◌, ◌⊘◌, one, two, three}
 use Rattle.floats.specs.Float.{ceil_of, max_of}
 use Rattle.geo.specs.declared.types.Point3D.{Point3D}
-use Rattle.geo.specs.Vector.{distance3}
+use Rattle.geo.specs.declared.types.CubicBezier.{CubicBezier}
+use Rattle.geo.specs.Vector.{cubic, distance3}
 use Rattle.geo.specs.Walk.{list_from}
 use Rattle.geo.specs.Lent.{triple}
 use Rattle.bezier.specs.Curve.{point_on3}
@@ -41,6 +42,10 @@ unfoldable pub steps : Point3D → Point3D → Point3D → Point3D → ℕ → L
 unfolding step_at list_from
 steps p0 c1 c2 p1 n = list_from (step_at p0 c1 c2 p1 n) n 0
 
+-- n steps of a curve
+abbrev pub steps_of : CubicBezier Point3D → ℕ → List Step
+steps_of q = steps q.0 q.1 q.2 q.3
+
 -- the parameters at which the curve is evaluated for them: 0, 1/n, .. n/n
 unfoldable pub step_parameters : ℕ → List Float
 unfolding share list_from
@@ -62,6 +67,10 @@ first_third start end c = record { x = c.x; y = c.y; z = start.z ⊗ (two ⊘ th
 
 unfoldable pub last_third : Point3D → Point3D → Point3D → Point3D
 last_third start end c = record { x = c.x; y = c.y; z = start.z ⊗ (one ⊘ three) ⊕ end.z ⊗ (two ⊘ three) }
+
+-- the curve of a command, from where it starts
+abbrev pub raised : Point3D → Point3D → Point3D → Point3D → CubicBezier Point3D
+raised end c1 c2 start = cubic start (first_third start end c1) (last_third start end c2) end
 
 -- the length of the control polygon
 unfoldable pub polygon_length : Point3D → Point3D → Point3D → Point3D → Float

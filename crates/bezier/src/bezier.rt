@@ -1,90 +1,88 @@
 // src/geo/shape/bezier.rs, first part: a curve's point, its parts, and its steps. The other parts are the crates
-// `subdivision` and `fit_cubic`.
-ghost use Rattle.std.specs.Prelude.{◌≡◌, ◌+◌, ◌*◌, ◌<◌, ◌≤◌, true, ◌++◌, length, pos};
+// `subdivision` and `fit_cubic`. The public calls take their points one by one, as C hands them over; inside, a curve is one
+// value.
+ghost use Rattle.std.specs.Prelude.{◌≡◌, ◌+◌, ◌*◌, ◌<◌, ◌≤◌, true, ◌++◌, Bool, length, pos};
 ghost use Rattle.std.specs.Float.{fin};
 ghost use Rattle.std.specs.Float.Ieee.{lt, le, to_unsigned};
 ghost use Rattle.std.proofs.lemmas.List.Edits.{sets};
+ghost use Rattle.geo.specs.Domain.{point_in, point3_in};
 ghost use Rattle.geo.specs.Lent.{triple, flat};
-ghost use Rattle.geo.specs.Outcome.{refusal, Wrote};
-ghost use Rattle.bezier.specs.Curve.{curve_in, curve3_in, parts_at};
-ghost use Rattle.bezier.specs.Linearize.{most_asked, six, step_end, steps, step_parameters, first_third, last_third, steps_needed};
-ghost use Rattle.bezier.specs.Calls.{point_call, point_answer, split_call, split_answer, most_steps, linearize_rows, linearize_call, param_first_rows, param_call};
+ghost use Rattle.geo.specs.Outcome.{refusal};
+ghost use Rattle.geo.specs.Refusal.{outcome, refused_by};
+ghost use Rattle.geo.specs.Wrote.{Wrote};
+ghost use Rattle.bezier.specs.Curve.{all_in, parts_at};
+ghost use Rattle.bezier.specs.Linearize.{most_asked, six, step_end, steps_of, step_parameters, raised, step_count};
+ghost use Rattle.bezier.specs.Calls.{point_call, split_call, most_steps, linearize_rows, linearize_call, param_first_rows, param_call};
 
-use crate::evaluation::{Evaluated, point_on};
+use crate::evaluation::{Evaluated, Walk, point_on_plane};
 use floats::float::{ceil, max};
 use geo::domain::{is_parameter, is_tolerance, point_in, point3_in};
 use geo::lent::put_point;
 use geo::point::{get_distance_3d, interpolate};
-use geo::types::{Answer, CubicBezier, Point, Point3D};
+use geo::refusal::Refusal;
+use geo::types::{CubicBezier, MOST_ASKED, MOST_STEPS, Point, Point3D};
 
-#[derive(Clone, Copy)]
-pub enum BezierPoint {
-    At(Point),
-    Refused(u32),
+// What a curve's points are: positions in the plane, or in space.
+pub trait Position: Copy {
+    ghost inside: { Self → Bool };
+
+    // Whether it is in the domain.
+    fn is_in(self) -> bool
+        ensures { result ≡ inside self };
 }
 
-#[derive(Clone, Copy)]
-pub enum BezierSplit {
-    Halves(CubicBezier, CubicBezier),
-    Refused(u32),
+impl Position for Point {
+    ghost inside = { point_in };
+
+    fn is_in(self) -> bool {
+        point_in(self)
+    }
+}
+
+impl Position for Point3D {
+    ghost inside = { point3_in };
+
+    fn is_in(self) -> bool {
+        point3_in(self)
+    }
 }
 
 // Whether all four points are in the domain. It serves `subdivision` too.
-pub fn curve_in(q: CubicBezier) -> bool
-    ensures { result ≡ curve_in q }
+pub fn curve_in<P: Position>(q: CubicBezier<P>) -> bool
+    ensures { result ≡ all_in P.inside q }
 {
-    if !point_in(q.0) {
-        return false;
-    }
-    if !point_in(q.1) {
-        return false;
-    }
-    if !point_in(q.2) {
-        return false;
-    }
-    point_in(q.3)
-}
-
-// The same of a curve in space. It serves `subdivision` too.
-pub fn curve_in_3d(p0: Point3D, c1: Point3D, c2: Point3D, p1: Point3D) -> bool
-    ensures { result ≡ curve3_in p0 c1 c2 p1 }
-{
-    if !point3_in(p0) {
-        return false;
-    }
-    if !point3_in(c1) {
-        return false;
-    }
-    if !point3_in(c2) {
-        return false;
-    }
-    point3_in(p1)
+    q.0.is_in() && q.1.is_in() && q.2.is_in() && q.3.is_in()
 }
 
 // Evaluates a cubic Bezier curve at parameter t, 0 to 1, using the Bernstein polynomial.
-pub fn get_bezier_point_at(p0: Point, c1: Point, c2: Point, p1: Point, t: f64) -> BezierPoint
-    ensures { result ≡ point_answer (point_call p0 c1 c2 p1 t) }
+#[tactic(auto, unfolding(crate::specs::Calls::point_call))]
+pub fn get_bezier_point_at(
+    p0: Point,
+    c1: Point,
+    c2: Point,
+    p1: Point,
+    t: f64,
+) -> Result<Point, Refusal>
+    ensures { outcome result ≡ point_call p0 c1 c2 p1 t }
 {
-    let q = CubicBezier::new(p0, c1, c2, p1);
-    if !curve_in(q) {
-        return BezierPoint::Refused(5);
+    let q = CubicBezier(p0, c1, c2, p1);
+    if !(curve_in(q) && is_parameter(t)) {
+        return Err(Refusal::BadNumber);
     }
-    if !is_parameter(t) {
-        return BezierPoint::Refused(5);
-    }
-    BezierPoint::At(point_on(q, t))
+    Ok(point_on_plane(q, t))
 }
 
 // The two parts of a curve, which meet at a parameter.
 #[derive(Clone, Copy)]
-pub struct Halves {
-    pub left: CubicBezier,
-    pub right: CubicBezier,
+pub struct Halves<P> {
+    pub left: CubicBezier<P>,
+    pub right: CubicBezier<P>,
 }
 
-impl Halves {
+impl Halves<Point> {
     // The parts of q that meet at t, by de Casteljau's rule. It serves `subdivision` too.
-    pub fn of(q: CubicBezier, t: f64) -> Self
+    #[tactic(auto, unfolding(crate::specs::Curve::meeting, crate::specs::Curve::left_part, crate::specs::Curve::right_part))]
+    pub fn of(q: CubicBezier<Point>, t: f64) -> Self
         ensures { result ≡ parts_at q t }
     {
         let mid_p0_c1 = interpolate(q.0, q.1, t);
@@ -94,46 +92,50 @@ impl Halves {
         let mid_c1c2_c2p1 = interpolate(mid_c1_c2, mid_c2_p1, t);
         let split_point = interpolate(mid_p0c1_c1c2, mid_c1c2_c2p1, t);
         Self {
-            left: CubicBezier::new(q.0, mid_p0_c1, mid_p0c1_c1c2, split_point),
-            right: CubicBezier::new(split_point, mid_c1c2_c2p1, mid_c2_p1, q.3),
+            left: CubicBezier(q.0, mid_p0_c1, mid_p0c1_c1c2, split_point),
+            right: CubicBezier(split_point, mid_c1c2_c2p1, mid_c2_p1, q.3),
         }
     }
 }
 
 // Splits a Bezier curve into two sub-curves at parameter t.
-pub fn split_bezier(p0: Point, c1: Point, c2: Point, p1: Point, t: f64) -> BezierSplit
-    ensures { result ≡ split_answer (split_call p0 c1 c2 p1 t) }
+#[tactic(auto, unfolding(crate::specs::Calls::split_call))]
+pub fn split_bezier(
+    p0: Point,
+    c1: Point,
+    c2: Point,
+    p1: Point,
+    t: f64,
+) -> Result<Halves<Point>, Refusal>
+    ensures { outcome result ≡ split_call p0 c1 c2 p1 t }
 {
-    let q = CubicBezier::new(p0, c1, c2, p1);
-    if !curve_in(q) {
-        return BezierSplit::Refused(5);
+    let q = CubicBezier(p0, c1, c2, p1);
+    if !(curve_in(q) && is_parameter(t)) {
+        return Err(Refusal::BadNumber);
     }
-    if !is_parameter(t) {
-        return BezierSplit::Refused(5);
-    }
-    let h = Halves::of(q, t);
-    let left = h.left;
-    let right = h.right;
-    BezierSplit::Halves(left, right)
+    Ok(Halves::of(q, t))
 }
 
-// Writes n steps and answers how often the curve was evaluated: the first start before the loop, then each step's end,
-// which is handed to the next step (document 02, §3). The callers drop the count.
-fn put_steps(p0: Point3D, c1: Point3D, c2: Point3D, p1: Point3D, n: usize, out: &mut [f64]) -> usize
-    requires { (n ≤ most_asked) × (6 * n ≤ length out.old) }
-    ensures written { out.new ≡ sets out.old 0 (flat six (steps p0 c1 c2 p1 n)) }
-    ensures evaluations { (result ≡ length (step_parameters n)) × (result ≡ n + 1) }
-{
-    let mut from = Evaluated::at(p0, c1, c2, p1, n, 0, 0);
-    for i in 0..n {
-        let to = from.end(p0, c1, c2, p1, n, i);
-        put_step(out, 6 * i, from.point(), to.point());
-        from = to;
+impl Walk {
+    // Writes the steps and answers how often the curve was evaluated: the first start before the loop, then each step's end,
+    // which is handed to the next step (document 02, §3). The callers drop the count.
+    fn put_steps(self, out: &mut [f64]) -> usize
+        requires { 6 * self.steps ≤ length out.old }
+        ensures written { out.new ≡ sets out.old 0 (flat six (steps_of self.curve self.steps)) }
+        ensures evaluations { (result ≡ length (step_parameters self.steps)) × (result ≡ self.steps + 1) }
+    {
+        let mut from = Evaluated::at(self, 0, 0);
+        for i in 0..self.steps {
+            let to = from.end(self, i);
+            put_step(out, 6 * i, from.point(), to.point());
+            from = to;
+        }
+        from.count()
     }
-    from.count()
 }
 
 // Writes one step from `at` on.
+#[tactic(auto, using(geo::proofs::Stores::sets_append))]
 fn put_step(out: &mut [f64], at: usize, from: Point3D, to: Point3D)
     requires { at + 5 < length out.old }
     ensures { out.new ≡ sets out.old at (triple from ++ triple to) }
@@ -142,33 +144,24 @@ fn put_step(out: &mut [f64], at: usize, from: Point3D, to: Point3D)
     put_point(out, at + 3, to);
 }
 
-// The first row of the table that `linearize_bezier` falls under, or 0.
-fn check_linearize(
-    p0: Point3D,
-    c1: Point3D,
-    c2: Point3D,
-    p1: Point3D,
-    num_steps: usize,
-    room: usize,
-) -> u32
-    ensures { result ≡ refusal (linearize_rows p0 c1 c2 p1 num_steps room) }
+// The first row of the table that `linearize_bezier` falls under.
+#[tactic(auto, unfolding(crate::specs::Calls::linearize_rows, geo::specs::Outcome::refusal, geo::specs::Domain::whole))]
+fn check_linearize(q: CubicBezier<Point3D>, num_steps: usize, room: usize) -> Result<(), Refusal>
+    ensures { refused_by result ≡ refusal (linearize_rows q.0 q.1 q.2 q.3 num_steps room) }
 {
     if room % 6 != 0 {
-        return 1;
+        return Err(Refusal::NotWhole);
     }
-    if num_steps == 0 {
-        return 2;
+    if num_steps == 0 || MOST_ASKED < num_steps {
+        return Err(Refusal::TooMany);
     }
-    if CubicBezier::MOST_ASKED < num_steps {
-        return 2;
-    }
-    if !curve_in_3d(p0, c1, c2, p1) {
-        return 5;
+    if !curve_in(q) {
+        return Err(Refusal::BadNumber);
     }
     if room < 6 * num_steps {
-        return 9;
+        return Err(Refusal::NoRoom);
     }
-    0
+    Ok(())
 }
 
 // Converts a Bezier curve into line segments using uniform parameter steps.
@@ -179,80 +172,69 @@ pub fn linearize_bezier(
     p1: Point3D,
     num_steps: usize,
     out: &mut [f64],
-) -> Answer
+) -> Result<usize, Refusal>
     ensures { Wrote (flat six) (linearize_call p0 c1 c2 p1 num_steps (length out.old)) out.old out.new result }
 {
-    let refused = check_linearize(p0, c1, c2, p1, num_steps, out.len());
-    if 0 < refused {
-        return Answer::Refused(refused);
-    }
-    put_steps(p0, c1, c2, p1, num_steps, out);
-    Answer::Written(num_steps)
+    let q = CubicBezier(p0, c1, c2, p1);
+    check_linearize(q, num_steps, out.len())?;
+    let walk = Walk {
+        curve: q,
+        steps: num_steps,
+    };
+    walk.put_steps(out);
+    Ok(num_steps)
 }
 
-// How many steps of the resolution the control polygon has, at least 2, as a float. It serves `course` too.
-pub fn steps_needed(
+// The curve of a command's parameters: a control lies at the height of the third between the ends that is next to it. It
+// serves `chain` too.
+#[tactic(auto, unfolding(crate::specs::Linearize::first_third, crate::specs::Linearize::last_third))]
+pub fn raise_controls(
     end: Point3D,
     control1: Point3D,
     control2: Point3D,
     start_point: Point3D,
-    resolution: f64,
-) -> f64
-    ensures { result ≡ steps_needed end control1 control2 start_point resolution }
+) -> CubicBezier<Point3D>
+    ensures { result ≡ raised end control1 control2 start_point }
 {
-    let c1 = first_third(start_point, end, control1);
-    let c2 = last_third(start_point, end, control2);
-    let l01 = get_distance_3d(start_point, c1);
-    let l12 = get_distance_3d(c1, c2);
-    let l23 = get_distance_3d(c2, end);
+    let near = 2.0 / 3.0;
+    let far = 1.0 / 3.0;
+    let c1 = at_height(control1, start_point.z * near + end.z * far);
+    let c2 = at_height(control2, start_point.z * far + end.z * near);
+    CubicBezier(start_point, c1, c2, end)
+}
+
+fn at_height(p: Point3D, z: f64) -> Point3D
+    ensures { result ≡ record { x = p.x; y = p.y; z = z } }
+{
+    Point3D { x: p.x, y: p.y, z }
+}
+
+// How many steps of the resolution the control polygon has, at least 2, as a float. It serves `chain` too.
+#[tactic(auto, unfolding(crate::specs::Linearize::step_count, crate::specs::Linearize::polygon_length))]
+pub fn steps_needed(q: CubicBezier<Point3D>, resolution: f64) -> f64
+    ensures { result ≡ step_count q.0 q.1 q.2 q.3 resolution }
+{
+    let l01 = get_distance_3d(q.0, q.1);
+    let l12 = get_distance_3d(q.1, q.2);
+    let l23 = get_distance_3d(q.2, q.3);
     max(ceil((l01 + l12 + l23) / resolution), 2.0)
 }
 
-// Writes the ends of n steps of a command's curve as triples, from index `at` on. It serves `course`, where a chain
-// has each step's start already.
-pub fn put_ends(
-    end: Point3D,
-    control1: Point3D,
-    control2: Point3D,
-    start_point: Point3D,
-    n: usize,
-    out: &mut [f64],
-    at: usize,
-)
+// Writes the ends of n steps of a curve as triples, from index `at` on. It serves `chain`, which has each step's start
+// already: so it hands no end on, and is a loop of its own beside `put_steps`.
+pub fn put_ends(q: CubicBezier<Point3D>, n: usize, out: &mut [f64], at: usize)
     requires { (n ≤ most_asked) × (at ≤ most_asked) × (3 * (at + n) ≤ length out.old) }
-    ensures { out.new ≡ sets out.old (3 * at) (flat step_end (steps start_point (first_third start_point end control1) (last_third start_point end control2) end n)) }
+    ensures { out.new ≡ sets out.old (3 * at) (flat step_end (steps_of q n)) }
 {
-    let c1 = first_third(start_point, end, control1);
-    let c2 = last_third(start_point, end, control2);
+    let walk = Walk { curve: q, steps: n };
     for i in 0..n {
-        let to = Evaluated::at(start_point, c1, c2, end, n, i + 1, i);
+        let to = Evaluated::at(walk, i + 1, i);
         put_point(out, 3 * (at + i), to.point());
     }
 }
 
-// A control at the height of the first third between the ends.
-fn first_third(start: Point3D, end: Point3D, c: Point3D) -> Point3D
-    ensures { result ≡ first_third start end c }
-{
-    Point3D {
-        x: c.x,
-        y: c.y,
-        z: start.z * (2.0 / 3.0) + end.z * (1.0 / 3.0),
-    }
-}
-
-// A control at the height of the last third.
-fn last_third(start: Point3D, end: Point3D, c: Point3D) -> Point3D
-    ensures { result ≡ last_third start end c }
-{
-    Point3D {
-        x: c.x,
-        y: c.y,
-        z: start.z * (1.0 / 3.0) + end.z * (2.0 / 3.0),
-    }
-}
-
-// A count of steps, from its float. It serves `course` too.
+// A count of steps, from its float. It serves `chain` too.
+#[tactic(auto, using(crate::proofs::Count::steps_small))]
 pub fn whole_steps(needed: f64) -> usize
     requires above_minus_one { lt (fin true 1 (pos 0)) needed ≡ true }
     requires at_most_all { le needed most_steps ≡ true }
@@ -261,27 +243,22 @@ pub fn whole_steps(needed: f64) -> usize
     std::num::truncating_f64_to_u64(needed) as usize
 }
 
-// The checks of `linearize_bezier_from_params` before its steps are counted.
-fn check_params(
-    end: Point3D,
-    control1: Point3D,
-    control2: Point3D,
-    start_point: Point3D,
-    resolution: f64,
-    room: usize,
-) -> u32
-    ensures { result ≡ refusal (param_first_rows end control1 control2 start_point resolution room) }
+// The checks of `linearize_bezier_from_params` before its steps are counted; `given` has its four points in their order. It and
+// `check_linearize` are two, since they follow two tables.
+#[tactic(auto, unfolding(crate::specs::Calls::param_first_rows, geo::specs::Outcome::refusal, geo::specs::Domain::whole))]
+fn check_params(given: CubicBezier<Point3D>, resolution: f64, room: usize) -> Result<(), Refusal>
+    ensures { refused_by result ≡ refusal (param_first_rows given.0 given.1 given.2 given.3 resolution room) }
 {
     if room % 6 != 0 {
-        return 1;
+        return Err(Refusal::NotWhole);
     }
-    if !curve_in_3d(end, control1, control2, start_point) {
-        return 5;
+    if !curve_in(given) {
+        return Err(Refusal::BadNumber);
     }
     if !is_tolerance(resolution) {
-        return 6;
+        return Err(Refusal::BadTolerance);
     }
-    0
+    Ok(())
 }
 
 // Converts a Bezier curve from parameters into line segments; the number of steps comes from the control polygon.
@@ -292,23 +269,21 @@ pub fn linearize_bezier_from_params(
     start_point: Point3D,
     resolution: f64,
     out: &mut [f64],
-) -> Answer
+) -> Result<usize, Refusal>
     ensures { Wrote (flat six) (param_call end control1 control2 start_point resolution (length out.old)) out.old out.new result }
 {
-    let refused = check_params(end, control1, control2, start_point, resolution, out.len());
-    if 0 < refused {
-        return Answer::Refused(refused);
-    }
-    let needed = steps_needed(end, control1, control2, start_point, resolution);
-    if needed <= CubicBezier::MOST_STEPS {
+    let given = CubicBezier(end, control1, control2, start_point);
+    check_params(given, resolution, out.len())?;
+    let q = raise_controls(end, control1, control2, start_point);
+    let needed = steps_needed(q, resolution);
+    if needed <= MOST_STEPS {
         let n = whole_steps(needed);
         if out.len() < 6 * n {
-            return Answer::Refused(9);
+            return Err(Refusal::NoRoom);
         }
-        let c1 = first_third(start_point, end, control1);
-        let c2 = last_third(start_point, end, control2);
-        put_steps(start_point, c1, c2, end, n, out);
-        return Answer::Written(n);
+        let walk = Walk { curve: q, steps: n };
+        walk.put_steps(out);
+        return Ok(n);
     }
-    Answer::Refused(8)
+    Err(Refusal::TooMuch)
 }

@@ -1,9 +1,12 @@
 // A curve's point at a parameter. No other file works one out; so, of a curve in space, the count in `Evaluated` says how
 // often that was done (document 02, §3).
 ghost use Rattle.std.specs.Prelude.{◌≡◌, ◌+◌, ◌<◌, ◌≤◌};
-ghost use Rattle.bezier.specs.Curve.{weights_at, mixed, point_on, point_on3};
+ghost use Rattle.geo.specs.declared.types.CubicBezier.{CubicBezier};
+ghost use Rattle.bezier.specs.declared.evaluation.Weights.{Weights};
+ghost use Rattle.bezier.specs.Curve.{weights_at, mixed, weighed, weighed3, point_on, point_of};
 ghost use Rattle.bezier.specs.Linearize.{most_asked, share};
 
+use geo::domain::{point_in, point3_in};
 use geo::types::{CubicBezier, Point, Point3D};
 
 // Bernstein's weights at a parameter.
@@ -16,6 +19,7 @@ pub struct Weights {
 }
 
 impl Weights {
+    #[tactic(auto, unfolding(crate::specs::Curve::weights_at))]
     fn at(t: f64) -> Self
         ensures { result ≡ weights_at t }
     {
@@ -27,44 +31,85 @@ impl Weights {
             w3: t * (t * t),
         }
     }
+
+    // One coordinate of the point with these weights.
+    #[tactic(auto, unfolding(crate::specs::Curve::mixed))]
+    fn mix(self, p0: f64, c1: f64, c2: f64, p1: f64) -> f64
+        ensures { result ≡ mixed self p0 c1 c2 p1 }
+    {
+        self.w0 * p0 + self.w1 * c1 + self.w2 * c2 + self.w3 * p1
+    }
 }
 
-// One coordinate of the point with these weights.
-fn mix(w: Weights, p0: f64, c1: f64, c2: f64, p1: f64) -> f64
-    ensures { result ≡ mixed w p0 c1 c2 p1 }
+// What is summed by weights: positions in the plane, or in space. The check does not hand a method over `CubicBezier<Self>` its
+// trait's clause, so each has it again.
+trait Weighed: Copy {
+    ghost weighed: { Weights → CubicBezier Self → Self };
+
+    // The sum of a curve's four points, each by its weight.
+    fn weigh(w: Weights, q: CubicBezier<Self>) -> Self
+        ensures { result ≡ weighed w q };
+}
+
+impl Weighed for Point {
+    ghost weighed = { weighed };
+
+    fn weigh(w: Weights, q: CubicBezier<Point>) -> Point
+        ensures { result ≡ weighed w q }
+    {
+        Point {
+            x: w.mix(q.0.x, q.1.x, q.2.x, q.3.x),
+            y: w.mix(q.0.y, q.1.y, q.2.y, q.3.y),
+        }
+    }
+}
+
+impl Weighed for Point3D {
+    ghost weighed = { weighed3 };
+
+    fn weigh(w: Weights, q: CubicBezier<Point3D>) -> Point3D
+        ensures { result ≡ weighed3 w q }
+    {
+        Point3D {
+            x: w.mix(q.0.x, q.1.x, q.2.x, q.3.x),
+            y: w.mix(q.0.y, q.1.y, q.2.y, q.3.y),
+            z: w.mix(q.0.z, q.1.z, q.2.z, q.3.z),
+        }
+    }
+}
+
+// The point at t. It is private: no other file evaluates a curve in space but through `Evaluated`.
+fn point_on<P: Weighed>(q: CubicBezier<P>, t: f64) -> P
+    ensures { result ≡ P.weighed (weights_at t) q }
 {
-    w.w0 * p0 + w.w1 * c1 + w.w2 * c2 + w.w3 * p1
+    P::weigh(Weights::at(t), q)
 }
 
 // The point at t of a curve in the plane.
-pub(crate) fn point_on(q: CubicBezier, t: f64) -> Point
+#[tactic(auto, unfolding(crate::specs::Curve::point_on))]
+pub(crate) fn point_on_plane(q: CubicBezier<Point>, t: f64) -> Point
     ensures { result ≡ point_on q t }
 {
-    let w = Weights::at(t);
-    Point {
-        x: mix(w, q.0.x, q.1.x, q.2.x, q.3.x),
-        y: mix(w, q.0.y, q.1.y, q.2.y, q.3.y),
-    }
+    point_on(q, t)
 }
 
-// The point at t of a curve in space.
-fn point_on_3d(p0: Point3D, c1: Point3D, c2: Point3D, p1: Point3D, t: f64) -> Point3D
-    ensures { result ≡ point_on3 p0 c1 c2 p1 t }
-{
-    let w = Weights::at(t);
-    Point3D {
-        x: mix(w, p0.x, c1.x, c2.x, p1.x),
-        y: mix(w, p0.y, c1.y, c2.y, p1.y),
-        z: mix(w, p0.z, c1.z, c2.z, p1.z),
-    }
+// A curve in space that is walked in equal steps of its parameter.
+#[derive(Clone, Copy)]
+pub(crate) struct Walk {
+    pub(crate) curve: CubicBezier<Point3D>,
+    pub(crate) steps: usize,
+    ghost few: { steps ≤ most_asked },
 }
 
-// The share i of n.
-fn share_of(n: usize, i: usize) -> f64
-    requires { (n ≤ most_asked) × (i ≤ most_asked) }
-    ensures { result ≡ share n i }
-{
-    i as f64 / n as f64
+impl Walk {
+    // The share i of its steps.
+    #[tactic(auto, unfolding(crate::specs::Linearize::share))]
+    fn share(self, i: usize) -> f64
+        requires { i ≤ most_asked }
+        ensures { result ≡ share self.steps i }
+    {
+        i as f64 / self.steps as f64
+    }
 }
 
 // A point of a curve in space, and how often the curve was evaluated up to it. The fields are private: `at` alone makes
@@ -76,22 +121,15 @@ pub(crate) struct Evaluated {
 }
 
 impl Evaluated {
-    // Evaluates the curve at the share i of n, after `before` evaluations.
-    pub(crate) fn at(
-        p0: Point3D,
-        c1: Point3D,
-        c2: Point3D,
-        p1: Point3D,
-        n: usize,
-        i: usize,
-        before: usize,
-    ) -> Self
-        requires { (n ≤ most_asked) × (i ≤ most_asked) × (before ≤ most_asked) }
-        ensures point { result.point ≡ point_on3 p0 c1 c2 p1 (share n i) }
+    // Evaluates the curve at the share i of its steps, after `before` evaluations.
+    #[tactic(auto, unfolding(crate::specs::Curve::point_on3))]
+    pub(crate) fn at(walk: Walk, i: usize, before: usize) -> Self
+        requires { (i ≤ most_asked) × (before ≤ most_asked) }
+        ensures point { result.point ≡ point_of walk.curve (share walk.steps i) }
         ensures count { result.count ≡ before + 1 }
     {
         Self {
-            point: point_on_3d(p0, c1, c2, p1, share_of(n, i)),
+            point: point_on(walk.curve, walk.share(i)),
             count: before + 1,
         }
     }
@@ -108,20 +146,12 @@ impl Evaluated {
         self.count
     }
 
-    // The end of step i of n, from its start.
-    pub(crate) fn end(
-        self,
-        p0: Point3D,
-        c1: Point3D,
-        c2: Point3D,
-        p1: Point3D,
-        n: usize,
-        i: usize,
-    ) -> Self
-        requires { (n ≤ most_asked) × (i < n) × (self.count ≤ most_asked) }
-        ensures point { result.point ≡ point_on3 p0 c1 c2 p1 (share n (i + 1)) }
+    // The end of step i, from its start.
+    pub(crate) fn end(self, walk: Walk, i: usize) -> Self
+        requires { (i < walk.steps) × (self.count ≤ most_asked) }
+        ensures point { result.point ≡ point_of walk.curve (share walk.steps (i + 1)) }
         ensures count { result.count ≡ self.count + 1 }
     {
-        Self::at(p0, c1, c2, p1, n, i + 1, self.count)
+        Self::at(walk, i + 1, self.count)
     }
 }

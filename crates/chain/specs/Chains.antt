@@ -9,6 +9,7 @@ use Rattle.pieces.specs.declared.pieces.Rule.{Rule}
 use Rattle.pieces.specs.Commands.{kept_of}
 use Rattle.pieces.specs.Written.{Noted, noted, noted_in, chain_noted, NotedPlaced}
 use Rattle.chain.specs.declared.chain.Walk.{Walk}
+use Rattle.chain.specs.declared.chain.Walker.{Walker}
 use Rattle.chain.specs.declared.chain.Flush.{Flush}
 use Rattle.chain.specs.declared.chain.Flush.TheVariants.{Fitted, AsItStands, Lines}
 use Rattle.chain.specs.Parts.{Part, chain, kept, Join, closed, carried, most_of}
@@ -76,3 +77,11 @@ pub record Stepped (fit : List Float → List Noted) (j : Join) (c : Command) (w
   pub carries : under_way r s' ≡ carried (under_way w s) c j
   pub written : r.written ≡ w.written + length (noted_of fit (closed (under_way w s) c j))
   pub wrote : NotedPlaced (noted_of fit (closed (under_way w s) c j)) w.written (length (noted_of fit (closed (under_way w s) c j))) ks ks' ns ns' ss ss'
+
+-- what is lent to a walk stays lent: each reference is the one that it was, and the buffer as long
+pub record SameLent (w w' : Walker) : Type 0 where
+  pub chain : w'.chain.ghost_name ≡ w.chain.ghost_name
+  pub kinds : w'.kinds.ghost_name ≡ w.kinds.ghost_name
+  pub nums : w'.nums.ghost_name ≡ w.nums.ghost_name
+  pub steps : w'.steps.ghost_name ≡ w.steps.ghost_name
+  pub buffer : length w'.chain.now ≡ length w.chain.now

@@ -6,15 +6,18 @@ ghost use Rattle.floats.specs.Limits.{quarter};
 ghost use Rattle.geo.specs.Domain.{most_commands};
 ghost use Rattle.geo.specs.Lent.{triple, flat, point_at};
 ghost use Rattle.geo.specs.Walk.{list_from};
-ghost use Rattle.bezier.specs.Linearize.{step_end, param_steps};
+ghost use Rattle.bezier.specs.Linearize.{step_end, step_count, param_steps};
+ghost use Rattle.std.specs.Float.Ieee.{to_unsigned};
 ghost use Rattle.pieces.specs.Written.{NotedPlaced};
 ghost use Rattle.chain.specs.declared.chain.Flush.TheVariants.{AsItStands, Lines};
 ghost use Rattle.chain.specs.Parts.{ends};
-ghost use Rattle.chain.specs.Chains.{chain_points, chain_numbers, cap, joins_beziers, joined_by, line_noted, flushed_by, Room, Stepped};
+ghost use Rattle.chain.specs.Chains.{chain_points, chain_numbers, cap, joins_beziers, joined_by, line_noted, flushed_by, under_way, Room, Stepped, SameLent};
 
-use bezier::bezier::{put_ends, steps_needed, whole_steps};
+use bezier::bezier::{put_ends, raise_controls, steps_needed, whole_steps};
+use geo::domain::MOST_COMMANDS;
 use geo::lent::{point_at, put_point};
-use geo::types::{Command, Point3D};
+use geo::lists::Stretch;
+use geo::types::{Command, CubicBezier, MOST_STEPS, Point3D};
 use pieces::pieces::{Rule, put_noted};
 use ranges::ranges::{fit_range, flush_chain};
 use simplify::simplify::thin_in_place;
@@ -30,7 +33,7 @@ pub struct Walk {
     pub written: usize,
 }
 
-// What becomes of a chain that is flushed.
+// What becomes of a chain that is flushed. An enum and no closure: whether Beziers join goes with it, and the definition has the same cases.
 #[derive(Clone, Copy)]
 pub enum Flush {
     // thinned and fitted
@@ -43,22 +46,17 @@ pub enum Flush {
 
 impl Flush {
     // Whether a Bezier's steps join the chain; else it is kept.
+    #[tactic(auto, unfolding(crate::specs::Chains::joins_beziers))]
     fn joins_beziers(self) -> bool
         ensures { result ≡ joins_beziers self }
     {
-        match self {
-            Flush::Fitted => true,
-            Flush::AsItStands => false,
-            Flush::Lines => false,
-        }
+        matches!(self, Flush::Fitted)
     }
 }
 
 impl Walk {
     // The most of a course that is accepted, and the commands that one is given in.
-    pub const MOST: usize = 800;
-    // The same as a float, for a Bezier's steps before they are a count.
-    pub const MOST_STEPS: f64 = 800.0;
+    pub const MOST: usize = MOST_COMMANDS;
     // Stands for every count above the most. No longer chain has a course of the most, its first point included.
     pub const OVER: usize = 801;
     // The numbers of the longest chain, three a point.
@@ -76,60 +74,50 @@ impl Walk {
             written: 0,
         }
     }
+
+    // A Line's end joins the chain.
+    fn add_line(&mut self, end: Point3D, chain: &mut [f64])
+        requires { (self.old.points ≤ most_commands) × (3 * self.old.points + 3 ≤ length chain.old) }
+        ensures { (self.new ≡ record { points = self.old.points + 1; last = end; written = self.old.written }) × (chain.new ≡ sets chain.old (3 * self.old.points) (triple end)) }
+    {
+        put_point(chain, 3 * self.points, end);
+        self.points += 1;
+        self.last = end;
+    }
+
+    // The ends of a Bezier's steps join the chain.
+    fn add_bezier(
+        &mut self,
+        end: Point3D,
+        control1: Point3D,
+        control2: Point3D,
+        tolerance: f64,
+        chain: &mut [f64],
+    )
+        requires { (self.old.points + length (param_steps end control1 control2 self.old.last (tolerance ⊗ quarter)) ≤ chain_points) × (1 ≤ self.old.points) × (length chain.old ≡ chain_numbers) }
+        ensures { (self.new ≡ record { points = self.old.points + length (param_steps end control1 control2 self.old.last (tolerance ⊗ quarter)); last = end; written = self.old.written }) × (chain.new ≡ sets chain.old (3 * self.old.points) (flat step_end (param_steps end control1 control2 self.old.last (tolerance ⊗ quarter)))) }
+    {
+        let q = raise_controls(end, control1, control2, self.last);
+        let n = bezier_steps(q, tolerance * 0.25);
+        put_ends(q, n, chain, self.points);
+        self.points += n;
+        self.last = end;
+    }
 }
 
 // How many steps a Bezier of a course has, 801 for all above 800.
-pub fn bezier_steps(
-    end: Point3D,
-    control1: Point3D,
-    control2: Point3D,
-    start: Point3D,
-    resolution: f64,
-) -> usize
-    ensures { result ≡ cap (length (param_steps end control1 control2 start resolution)) }
+pub fn bezier_steps(q: CubicBezier<Point3D>, resolution: f64) -> usize
+    ensures { result ≡ cap (to_unsigned 64 (step_count q.0 q.1 q.2 q.3 resolution)) }
 {
-    let needed = steps_needed(end, control1, control2, start, resolution);
-    if needed <= Walk::MOST_STEPS {
+    let needed = steps_needed(q, resolution);
+    if needed <= MOST_STEPS {
         return whole_steps(needed);
     }
     Walk::OVER
 }
 
-// A Line's end joins the chain.
-fn add_line(end: Point3D, w: Walk, chain: &mut [f64]) -> Walk
-    requires { (w.points ≤ most_commands) × (3 * w.points + 3 ≤ length chain.old) }
-    ensures { (result ≡ record { points = w.points + 1; last = end; written = w.written }) × (chain.new ≡ sets chain.old (3 * w.points) (triple end)) }
-{
-    put_point(chain, 3 * w.points, end);
-    Walk {
-        points: w.points + 1,
-        last: end,
-        written: w.written,
-    }
-}
-
-// The ends of a Bezier's steps join the chain.
-fn add_bezier(
-    end: Point3D,
-    control1: Point3D,
-    control2: Point3D,
-    tolerance: f64,
-    w: Walk,
-    chain: &mut [f64],
-) -> Walk
-    requires { (w.points + length (param_steps end control1 control2 w.last (tolerance ⊗ quarter)) ≤ chain_points) × (1 ≤ w.points) × (length chain.old ≡ chain_numbers) }
-    ensures { (result ≡ record { points = w.points + length (param_steps end control1 control2 w.last (tolerance ⊗ quarter)); last = end; written = w.written }) × (chain.new ≡ sets chain.old (3 * w.points) (flat step_end (param_steps end control1 control2 w.last (tolerance ⊗ quarter)))) }
-{
-    let n = bezier_steps(end, control1, control2, w.last, tolerance * 0.25);
-    put_ends(end, control1, control2, w.last, n, chain, w.points);
-    Walk {
-        points: w.points + n,
-        last: end,
-        written: w.written,
-    }
-}
-
-// Writes a Line to each point but the first. Each covers one step.
+// Writes a Line to each point but the first. Each covers one step. The outputs are parameters here and below, as `fit_range` and `flush_chain`
+// take them.
 fn put_lines(
     points: &[f64],
     kinds: &mut [u8],
@@ -163,9 +151,7 @@ fn thin_chain(
     // What the chain holds at exit is left open.
     ensures { NotedPlaced (flushed_by Lines rule chain.old) at result kinds.old kinds.new nums.old nums.new steps.old steps.new }
 {
-    let n = chain.len() / 3;
-    let ruler = rule.ruler;
-    let k = thin_in_place(ruler, chain, n, rule.tolerance * rule.tolerance);
+    let k = thin_in_place(rule.ruler, chain, rule.tolerance * rule.tolerance);
     put_lines(&chain[..3 * k], kinds, nums, steps, at)
 }
 
@@ -185,7 +171,12 @@ fn fit_chain(
     if n < 2 {
         return 0;
     }
-    fit_range(rule, chain, 0, n - 1, kinds, nums, steps, at)
+    let route = Stretch {
+        points: chain,
+        start: 0,
+        end: n - 1,
+    };
+    fit_range(rule, route, kinds, nums, steps, at)
 }
 
 // Writes a chain's commands with the steps that each covers, and answers how many they are. The chain may be thinned in place.
@@ -209,70 +200,83 @@ pub fn flush_by(
     }
 }
 
-// The command ends the chain: the chain is flushed, and the command kept as it stands. It covers no step.
-fn end_chain(
-    c: Command,
-    how: Flush,
-    rule: Rule,
-    w: Walk,
-    chain: &mut [f64],
-    kinds: &mut [u8],
-    nums: &mut [f64],
-    steps: &mut [u32],
-) -> Walk
-    requires { ((+0 ≺ rule.tolerance) ≡ true) × Room ends c w chain.old (length kinds.old) (length nums.old) }
-    ensures { Stepped (flushed_by how rule) ends c w result chain.old chain.new kinds.old kinds.new nums.old nums.new steps.old steps.new }
-{
-    let n = flush_by(
-        how,
-        rule,
-        &mut chain[..3 * w.points],
-        kinds,
-        nums,
-        steps,
-        w.written,
-    );
-    put_noted(kinds, nums, steps, w.written + n, c, 0);
-    let end = c.end_point();
-    put_point(chain, 0, end);
-    Walk {
-        points: 1,
-        last: end,
-        written: w.written + n + 1,
-    }
+// A walk along a course, with what is lent to it: the chain's buffer, both outputs, and a column for the steps that each command
+// covers, empty where nobody wants them.
+#[derive(Drop)]
+pub struct Walker<'a> {
+    pub at: Walk,
+    pub chain: &'a mut [f64],
+    pub kinds: &'a mut [u8],
+    pub nums: &'a mut [f64],
+    pub steps: &'a mut [u32],
 }
 
-// One command of a course.
-pub fn take_command(
-    c: Command,
-    how: Flush,
-    rule: Rule,
-    w: Walk,
-    chain: &mut [f64],
-    kinds: &mut [u8],
-    nums: &mut [f64],
-    steps: &mut [u32],
-) -> Walk
-    requires { ((+0 ≺ rule.tolerance) ≡ true) × Room (joined_by how rule.tolerance w.last c) c w chain.old (length kinds.old) (length nums.old) }
-    ensures { Stepped (flushed_by how rule) (joined_by how rule.tolerance w.last c) c w result chain.old chain.new kinds.old kinds.new nums.old nums.new steps.old steps.new }
-{
-    match c {
-        Command::Line { end } => add_line(end, w, chain),
-        Command::Bezier {
-            end,
-            control1,
-            control2,
-        } => {
-            if how.joins_beziers() {
-                return add_bezier(end, control1, control2, rule.tolerance, w, chain);
+impl<'a> Walker<'a> {
+    // Writes the commands of the chain under way, and answers how many they are.
+    pub fn flush(&mut self, how: Flush, rule: Rule) -> usize
+        requires { ((+0 ≺ rule.tolerance) ≡ true) × (3 * self.old.at.points ≤ length self.old.chain.now) × (self.old.at.points ≤ chain_points) × (self.old.at.written + (self.old.at.points - 1) ≤ length self.old.kinds.now) × (9 * (self.old.at.written + (self.old.at.points - 1)) ≤ length self.old.nums.now) }
+        ensures same { SameLent self.old self.new }
+        ensures stays { self.new.at ≡ self.old.at }
+        // What the chain holds at exit is left open.
+        ensures written { NotedPlaced (flushed_by how rule (under_way self.old.at self.old.chain.now)) self.old.at.written result self.old.kinds.now self.new.kinds.now self.old.nums.now self.new.nums.now self.old.steps.now self.new.steps.now }
+    {
+        let at = self.at;
+        let chain = &mut *self.chain;
+        flush_by(
+            how,
+            rule,
+            &mut chain[..3 * at.points],
+            self.kinds,
+            self.nums,
+            self.steps,
+            at.written,
+        )
+    }
+
+    // The command ends the chain: the chain is flushed, and the command kept as it stands. It covers no step.
+    fn keep(&mut self, c: Command, how: Flush, rule: Rule)
+        requires { ((+0 ≺ rule.tolerance) ≡ true) × Room ends c self.old.at self.old.chain.now (length self.old.kinds.now) (length self.old.nums.now) }
+        ensures same { SameLent self.old self.new }
+        ensures stepped { Stepped (flushed_by how rule) ends c self.old.at self.new.at self.old.chain.now self.new.chain.now self.old.kinds.now self.new.kinds.now self.old.nums.now self.new.nums.now self.old.steps.now self.new.steps.now }
+    {
+        let n = self.flush(how, rule);
+        let written = self.at.written + n;
+        put_noted(self.kinds, self.nums, self.steps, written, c, 0);
+        let end = c.end_point();
+        put_point(self.chain, 0, end);
+        self.at = Walk {
+            points: 1,
+            last: end,
+            written: written + 1,
+        };
+    }
+
+    // One command of a course.
+    pub fn take(&mut self, c: Command, how: Flush, rule: Rule)
+        requires { ((+0 ≺ rule.tolerance) ≡ true) × Room (joined_by how rule.tolerance self.old.at.last c) c self.old.at self.old.chain.now (length self.old.kinds.now) (length self.old.nums.now) }
+        ensures same { SameLent self.old self.new }
+        ensures stepped { Stepped (flushed_by how rule) (joined_by how rule.tolerance self.old.at.last c) c self.old.at self.new.at self.old.chain.now self.new.chain.now self.old.kinds.now self.new.kinds.now self.old.nums.now self.new.nums.now self.old.steps.now self.new.steps.now }
+    {
+        match c {
+            Command::Line { end } => self.at.add_line(end, self.chain),
+            Command::Bezier {
+                end,
+                control1,
+                control2,
+            } => {
+                if how.joins_beziers() {
+                    self.at
+                        .add_bezier(end, control1, control2, rule.tolerance, self.chain);
+                    return;
+                }
+                self.keep(c, how, rule)
             }
-            end_chain(c, how, rule, w, chain, kinds, nums, steps)
+            Command::Move { end: _ } => self.keep(c, how, rule),
+            Command::Arc {
+                end: _,
+                center_offset: _,
+                normal: _,
+            } => self.keep(c, how, rule),
         }
-        Command::Move { end: _ } => end_chain(c, how, rule, w, chain, kinds, nums, steps),
-        Command::Arc {
-            end: _,
-            center_offset: _,
-            normal: _,
-        } => end_chain(c, how, rule, w, chain, kinds, nums, steps),
     }
 }

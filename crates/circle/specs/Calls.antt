@@ -1,18 +1,15 @@
--- The public calls: which row of document 01's table refuses them, else what they give; and the answer that says so. Definitions only.
-use Rattle.std.specs.Prelude.{◌-◌, ◌/◌, Bool, true, not, ◌&&◌, List, [], ◌∷◌, length, ltb, Float, if◌then◌else◌}
-use Rattle.std.proofs.Math.Option.{Option, none, some}
+-- The public calls: which row of document 01's table refuses them, else what they give. Definitions only.
+use Rattle.std.specs.Prelude.{◌-◌, ◌/◌, Bool, true, not, ◌&&◌, List, [], ◌∷◌, length, ltb, Option, None, Float, if◌then◌else◌}
 use Rattle.geo.specs.declared.types.Point.{Point}
 use Rattle.geo.specs.declared.types.Point3D.{Point3D}
 use Rattle.geo.specs.Lent.{point_at}
 use Rattle.geo.specs.Domain.{most_points, point3_in, tolerance, coordinate, centre, numbers_in, whole}
-use Rattle.geo.specs.Outcome.{Row, row, refusal, Outcome, refused, gives, unless}
-use Rattle.circle.specs.declared.circle.Collinear as answer
-use Rattle.circle.specs.declared.circle.CircleThrough as through
-use Rattle.circle.specs.declared.circle.FittedCircle as fitted
-use Rattle.circle.specs.declared.circle.Projected as moved
+use Rattle.geo.specs.Outcome.{Row, row, refusal, Outcome, unless}
 use Rattle.circle.specs.Collinear.{collinear}
-use Rattle.circle.specs.Three.{Circle, through_three}
-use Rattle.circle.specs.Kasa.{LeastSquares, kasa_circle}
+use Rattle.circle.specs.declared.circle.Circle.{Circle}
+use Rattle.circle.specs.declared.circle.LeastSquares.{LeastSquares}
+use Rattle.circle.specs.Three.{through_three}
+use Rattle.circle.specs.Kasa.{kasa_circle}
 use Rattle.circle.specs.Bisector.{projected}
 
 -- the rows of a list of triples alone
@@ -37,36 +34,18 @@ unfolding refusal unless collinear_rows collinear
 collinear_call s tol =
     unless (refusal (collinear_rows s tol)) (if ltb (length s / 3) 3 then true else collinear tol (point_at s) 0 (length s / 3 - 1))
 
-unfoldable pub collinear_answer : Outcome Bool → answer.Collinear
-collinear_answer (refused n) = answer.TheVariants.Refused n
-collinear_answer (gives b) = answer.TheVariants.Is b
-
 -- ---- fit_circle_to_3_points
 unfoldable pub through_call : Point3D → Point3D → Point3D → Outcome (Option Circle)
 unfolding refusal unless through_three
 through_call a b c = unless (refusal (row 5 (not (point3_in a && point3_in b && point3_in c)) ∷ [])) (through_three a b c)
 
-unfoldable pub through_answer : Outcome (Option Circle) → through.CircleThrough
-through_answer (refused n) = through.TheVariants.Refused n
-through_answer (gives none) = through.TheVariants.None
-through_answer (gives (some c)) = through.TheVariants.Around c.center c.radius
-
 -- ---- fit_circle_to_points_3d: none below three points
 unfoldable pub fitted_call : List Float → Outcome (Option LeastSquares)
 unfolding refusal unless points_rows kasa_circle
 fitted_call s =
-    unless (refusal (points_rows s)) (if ltb (length s / 3) 3 then none else kasa_circle (point_at s) 0 (length s / 3 - 1))
-
-unfoldable pub fitted_answer : Outcome (Option LeastSquares) → fitted.FittedCircle
-fitted_answer (refused n) = fitted.TheVariants.Refused n
-fitted_answer (gives none) = fitted.TheVariants.None
-fitted_answer (gives (some c)) = fitted.TheVariants.Circle c.center c.radius c.error
+    unless (refusal (points_rows s)) (if ltb (length s / 3) 3 then None else kasa_circle (point_at s) 0 (length s / 3 - 1))
 
 -- ---- project_circle_center_to_bisector
 unfoldable pub projected_call : Point3D → Point3D → Point → Outcome Point
 unfolding refusal unless projected
 projected_call a b m = unless (refusal (row 5 (not (point3_in a && point3_in b && centre m.x && centre m.y)) ∷ [])) (projected a b m)
-
-unfoldable pub projected_answer : Outcome Point → moved.Projected
-projected_answer (refused n) = moved.TheVariants.Refused n
-projected_answer (gives p) = moved.TheVariants.At p

@@ -1,7 +1,6 @@
 -- Kasa's least squares: sums, normal equations, centre, radius, greatest error. Definitions only.
-use Rattle.std.specs.Prelude.{ℕ, ◌+◌, ◌-◌, List, [], ◌∷◌, pos, get_or, Float, if◌then◌else◌}
-use Rattle.std.proofs.Math.Option.{Option, none, some}
-use Rattle.std.specs.Float.{nan, binary64}
+use Rattle.std.specs.Prelude.{ℕ, ◌+◌, ◌-◌, pos, Option, None, Some, Float, if◌then◌else◌}
+use Rattle.std.specs.Float.{binary64}
 use Rattle.std.specs.Float.Ieee.{of_int}
 use Rattle.floats.specs.Limits.{hundredth, tenth_nano, femto}
 use Rattle.floats.specs.Root.{root_of}
@@ -15,8 +14,8 @@ use Rattle.geo.specs.Vector.{dot3, cross3}
 use Rattle.circle.specs.Worst.{worst}
 use Rattle.circle.specs.declared.circle.Sums.{Sums}
 use Rattle.circle.specs.declared.circle.Axes.{Axes}
-use Rattle.circle.specs.declared.circle.Solution as solution
-use Rattle.circle.specs.declared.circle.Center as center
+use Rattle.circle.specs.declared.circle.Center.{Center}
+use Rattle.circle.specs.declared.circle.LeastSquares.{LeastSquares}
 use Rattle.circle.specs.Collinear.{collinear}
 use Rattle.circle.specs.Three.{radius_from}
 
@@ -55,22 +54,13 @@ plus p s =
 unfoldable pub sums_of : (ℕ → Point3D) → ℕ → ℕ → Sums
 sums_of at lo hi = fold (λ i. plus (at i)) (hi + 1 - lo) lo no_sums
 
--- ---- three rows of three
-
-abbrev pub at2 : List (List Float) → ℕ → ℕ → Float
-at2 m i j = get_or (get_or m i []) j nan
-
-abbrev pub row_of : List (List Float) → ℕ → Point3D
-row_of m i = record { x = at2 m i 0; y = at2 m i 1; z = at2 m i 2 }
-
-unfoldable pub axes_of : List (List Float) → Axes
-axes_of m = record { x = row_of m 0; y = row_of m 1; z = row_of m 2 }
+-- ---- three rows of three, as vectors
 
 unfoldable pub scaled : Point3D → Float → Point3D
 scaled u k = record { x = u.x ⊗ k; y = u.y ⊗ k; z = u.z ⊗ k }
 
-unfoldable pub det_of : List (List Float) → Float
-det_of m = let a = axes_of m in dot3 a.z (cross3 a.x a.y)
+unfoldable pub det_of : Axes → Float
+det_of a = dot3 a.z (cross3 a.x a.y)
 
 -- the inverse, cross products times k = 1 / determinant, times b
 unfoldable pub inverse_times : Axes → Float → Point3D → Point3D
@@ -81,16 +71,18 @@ inverse_times a k b =
       z = dot3 (scaled (cross3 a.x a.y) k) b;
     }
 
-unfoldable pub solved : List (List Float) → Point3D → solution.Solution
-solved m b =
-    if abs_of (det_of m) ≺ no_inverse then solution.TheVariants.None
-    else solution.TheVariants.At (inverse_times (axes_of m) (one ⊘ det_of m) b)
+unfoldable pub solved : Axes → Point3D → Option Point3D
+solved a b = if abs_of (det_of a) ≺ no_inverse then None else Some (inverse_times a (one ⊘ det_of a) b)
 
 -- ---- the circle
 
-unfoldable pub matrix_of : Sums → ℕ → List (List Float)
+unfoldable pub matrix_of : Sums → ℕ → Axes
 matrix_of s n =
-    (s.xx ∷ s.xy ∷ s.x ∷ []) ∷ (s.xy ∷ s.yy ∷ s.y ∷ []) ∷ (s.x ∷ s.y ∷ of_int binary64 (pos n) ∷ []) ∷ []
+    record {
+      x = record { x = s.xx; y = s.xy; z = s.x };
+      y = record { x = s.xy; y = s.yy; z = s.y };
+      z = record { x = s.x; y = s.y; z = of_int binary64 (pos n) };
+    }
 
 unfoldable pub sides_of : Sums → Point3D
 sides_of s = record { x = s.xb; y = s.yb; z = s.b }
@@ -99,15 +91,15 @@ abbrev pub squared_radius : Point3D → Float
 squared_radius v = v.x ⊗ v.x ⊕ v.y ⊗ v.y ⊕ v.z
 
 -- by the solution: centre, and the constant
-unfoldable pub centered : solution.Solution → center.Center
-centered solution.TheVariants.None = center.TheVariants.None
-centered (solution.TheVariants.At v) =
-    if squared_radius v ≺ no_radius then center.TheVariants.None
-    else center.TheVariants.At (record { x = v.x; y = v.y }) (squared_radius v)
+unfoldable pub centered : Option Point3D → Option Center
+centered None = None
+centered (Some v) =
+    if squared_radius v ≺ no_radius then None
+    else Some (record { center = record { x = v.x; y = v.y }; square = squared_radius v })
 
-unfoldable pub kasa_center : (ℕ → Point3D) → ℕ → ℕ → center.Center
+unfoldable pub kasa_center : (ℕ → Point3D) → ℕ → ℕ → Option Center
 kasa_center at lo hi =
-    if collinear on_one_line at lo hi then center.TheVariants.None
+    if collinear on_one_line at lo hi then None
     else let s = sums_of at lo hi in centered (solved (matrix_of s (hi - lo + 1)) (sides_of s))
 
 -- how far p is off the circle
@@ -117,17 +109,11 @@ error_of m r p = abs_of (radius_from m p ⊖ r)
 unfoldable pub worst_error : Point → Float → (ℕ → Point3D) → ℕ → ℕ → Deviation
 worst_error m r at lo hi = worst (λ i. error_of m r (at i)) (hi + 1 - lo) lo (record { dist = +0; index = lo })
 
--- the circle of least squares and its greatest error
-pub record LeastSquares : Type 0 where
-  pub center : Point
-  pub radius : Float
-  pub error : Float
-
--- by the centre and the squared radius
-unfoldable pub fitted_to : (ℕ → Point3D) → ℕ → ℕ → center.Center → Option LeastSquares
-fitted_to at lo hi center.TheVariants.None = none
-fitted_to at lo hi (center.TheVariants.At m q) =
-    some (record { center = m; radius = root_of q; error = (worst_error m (root_of q) at lo hi).dist })
+-- the circle of least squares and its greatest error, by the centre and the squared radius
+unfoldable pub fitted_to : (ℕ → Point3D) → ℕ → ℕ → Option Center → Option LeastSquares
+fitted_to at lo hi None = None
+fitted_to at lo hi (Some c) =
+    Some (record { center = c.center; radius = root_of c.square; error = (worst_error c.center (root_of c.square) at lo hi).dist })
 
 -- the circle, or none
 unfoldable pub kasa_circle : (ℕ → Point3D) → ℕ → ℕ → Option LeastSquares

@@ -1,22 +1,17 @@
 -- The circle through three points. Definitions only.
-use Rattle.std.proofs.Math.Option.{Option, none, some}
-use Rattle.std.specs.Prelude.{Float, if◌then◌else◌}
+use Rattle.std.specs.Prelude.{Option, None, Some, Float, if◌then◌else◌}
 use Rattle.std.specs.Float.Ieee.{neg}
 use Rattle.floats.specs.Float.{abs_of}
 use Rattle.floats.specs.Ops.{◌⊕◌, ◌⊖◌, ◌⊗◌, ◌⊘◌, ◌≺◌, two}
 use Rattle.geo.specs.Vector.{dot, perp_dot, length_of}
 use Rattle.geo.specs.declared.types.Point3D.{Point3D}
 use Rattle.geo.specs.declared.types.Point.{Point}
-use Rattle.circle.specs.declared.circle.CenterThrough as center
+use Rattle.circle.specs.declared.circle.Circle.{Circle}
 use Rattle.floats.specs.Limits.{nano}
 
 -- three points whose area or whose turn is below this have no circle
 abbrev pub flat_triangle : Float
 flat_triangle = nano
-
-pub record Circle : Type 0 where
-  pub center : Point
-  pub radius : Float
 
 unfoldable pub area_of : Point3D → Point3D → Point3D → Float
 area_of a b c = a.x ⊗ (b.y ⊖ c.y) ⊕ b.x ⊗ (c.y ⊖ a.y) ⊕ c.x ⊗ (a.y ⊖ b.y)
@@ -42,20 +37,20 @@ unfoldable pub radius_from : Point → Point3D → Float
 radius_from m p = length_of (p.x ⊖ m.x) (p.y ⊖ m.y)
 
 -- by the area and the turn
-unfoldable pub center_by : Float → Float → Point3D → Point3D → Point3D → center.CenterThrough
+unfoldable pub center_by : Float → Float → Point3D → Point3D → Point3D → Option Point
 center_by area d a b c =
-    if abs_of area ≺ flat_triangle then center.TheVariants.None
-    else if abs_of d ≺ flat_triangle then center.TheVariants.None
-    else center.TheVariants.At (center3 a b c d)
+    if abs_of area ≺ flat_triangle then None
+    else if abs_of d ≺ flat_triangle then None
+    else Some (center3 a b c d)
 
 -- the centre of the circle, where there is one
-unfoldable pub center_three : Point3D → Point3D → Point3D → center.CenterThrough
+unfoldable pub center_three : Point3D → Point3D → Point3D → Option Point
 center_three a b c = center_by (area_of a b c) (turn_of a b c) a b c
 
 -- its radius is measured to the point p
-unfoldable pub circle_round : Point3D → center.CenterThrough → Option Circle
-circle_round p (center.TheVariants.At m) = some (record { center = m; radius = radius_from m p })
-circle_round p center.TheVariants.None = none
+unfoldable pub circle_round : Point3D → Option Point → Option Circle
+circle_round p (Some m) = Some (record { center = m; radius = radius_from m p })
+circle_round p None = None
 
 -- the circle, or none
 unfoldable pub through_three : Point3D → Point3D → Point3D → Option Circle

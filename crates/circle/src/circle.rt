@@ -1,25 +1,27 @@
-// src/geo/algo/fitting.rs: collinearity, both circle fits and the bisector projection. The inner functions take a range
-// of lent triples, from start to end.
-ghost use Rattle.std.specs.Prelude.{◌≡◌, ◌+◌, ◌*◌, ◌<◌, ◌≤◌, length};
+// src/geo/algo/fitting.rs: collinearity, both circle fits and the bisector projection.
+ghost use Rattle.std.specs.Prelude.{◌≡◌, ◌<◌, ◌≤◌};
 ghost use Rattle.geo.specs.Domain.{most_points};
 ghost use Rattle.geo.specs.Vector.{cross3, dot3};
 ghost use Rattle.geo.specs.Lent.{point_at};
-ghost use Rattle.geo.specs.Outcome.{refusal, gives};
+ghost use Rattle.geo.specs.Outcome.{refusal};
+ghost use Rattle.geo.specs.Refusal.{outcome, refused_by};
 ghost use Rattle.circle.specs.Worst.{worse};
-ghost use Rattle.circle.specs.Collinear.{ends_chord, near_to, beside_of, all_near, all_beside, collinear};
+ghost use Rattle.circle.specs.Collinear.{ends_chord, near_to, beside_of, collinear};
 ghost use Rattle.circle.specs.Three.{area_of, turn_of, center3, radius_from, center_three, through_three};
-ghost use Rattle.circle.specs.Kasa.{no_sums, plus, sums_of, axes_of, scaled, det_of, solved, kasa_center, error_of, worst_error, kasa_circle};
+ghost use Rattle.circle.specs.Kasa.{no_sums, plus, sums_of, matrix_of, sides_of, scaled, det_of, solved, kasa_center, error_of, worst_error, kasa_circle};
 ghost use Rattle.circle.specs.Bisector.{projected};
-ghost use Rattle.circle.specs.Calls.{points_rows, collinear_call, collinear_answer, through_call, through_answer, fitted_call, fitted_answer, projected_call, projected_answer};
+ghost use Rattle.circle.specs.Calls.{points_rows, collinear_call, through_call, fitted_call, projected_call};
 
 use floats::float::abs;
 use floats::root::sqrt;
 use geo::domain::{MOST_POINTS, all_coordinates, is_centre, is_tolerance, point3_in};
-use geo::lent::point_at;
+use geo::lists::Stretch;
 use geo::point::get_length;
+use geo::refusal::Refusal;
 use geo::types::{Point, Point3D};
 
-// The greatest of some distances, and the index at which it first stands.
+// The greatest of some distances, and the index at which it first stands. farthest::Farthest is of squared distances, which are
+// compared with a squared limit: a type for both would not tell which of the two a number is.
 #[derive(Clone, Copy)]
 pub struct Deviation {
     pub dist: f64,
@@ -28,6 +30,7 @@ pub struct Deviation {
 
 impl Deviation {
     // A later distance that is equal does not replace the earlier one.
+    #[tactic(auto, unfolding(crate::specs::Worst::worse))]
     pub fn or(self, dist: f64, index: usize) -> Self
         ensures { result ≡ worse dist index self }
     {
@@ -38,7 +41,8 @@ impl Deviation {
     }
 }
 
-// The chord between two points: its first point, its direction and its length in the plane.
+// The chord between two points: its first point, its direction and its length in the plane. farthest::Chord has the square of the
+// length in its place, and no root: one type would work out both.
 #[derive(Clone, Copy)]
 pub struct Chord {
     pub a: Point3D,
@@ -54,6 +58,7 @@ impl Chord {
     // A chord whose square is below this has no bisector.
     const DEGENERATE: f64 = 1e-12;
 
+    #[tactic(auto, unfolding(crate::specs::Collinear::ends_chord))]
     fn new(a: Point3D, b: Point3D) -> Self
         ensures { result ≡ ends_chord a b }
     {
@@ -68,6 +73,7 @@ impl Chord {
     }
 
     // Whether p lies nearer than the tolerance to the chord's first point.
+    #[tactic(auto, unfolding(crate::specs::Collinear::near_to))]
     fn near(self, p: Point3D, tolerance: f64) -> bool
         ensures { result ≡ near_to self tolerance p }
     {
@@ -75,6 +81,7 @@ impl Chord {
     }
 
     // Whether p lies no farther than the tolerance from the endless line.
+    #[tactic(auto, unfolding(crate::specs::Collinear::beside_of))]
     fn beside(self, p: Point3D, tolerance: f64) -> bool
         ensures { result ≡ beside_of self tolerance p }
     {
@@ -85,46 +92,23 @@ impl Chord {
     }
 }
 
-fn all_near(points: &[f64], start: usize, end: usize, c: Chord, tolerance: f64) -> bool
-    requires { (start ≤ end) × (3 * end + 2 < length points.now) }
-    ensures { result ≡ all_near c tolerance (point_at points.now) start end }
+// Whether the points lie on a straight line within the tolerance.
+#[tactic(auto, unfolding(crate::specs::Collinear::collinear, crate::specs::Collinear::collinear_by))]
+fn is_collinear(stretch: Stretch, tolerance: f64) -> bool
+    ensures { result ≡ collinear tolerance (point_at stretch.entry.points.now) stretch.entry.start stretch.entry.end }
 {
-    for i in start..end + 1 {
-        if !c.near(point_at(points, i), tolerance) {
-            return false;
-        }
-    }
-    true
-}
-
-fn all_beside(points: &[f64], start: usize, end: usize, c: Chord, tolerance: f64) -> bool
-    requires { (start ≤ end) × (3 * end + 2 < length points.now) }
-    ensures { result ≡ all_beside c tolerance (point_at points.now) start end }
-{
-    for i in start + 1..end {
-        if !c.beside(point_at(points, i), tolerance) {
-            return false;
-        }
-    }
-    true
-}
-
-// Whether the points from start to end lie on a straight line within the tolerance.
-fn is_collinear(points: &[f64], start: usize, end: usize, tolerance: f64) -> bool
-    requires { (start ≤ end) × (3 * end + 2 < length points.now) }
-    ensures { result ≡ collinear tolerance (point_at points.now) start end }
-{
-    if end - start < 2 {
+    if stretch.end - stretch.start < 2 {
         return true;
     }
-    let c = Chord::new(point_at(points, start), point_at(points, end));
+    let c = Chord::new(stretch.first(), stretch.last());
     if c.len < Chord::SHORT {
-        return all_near(points, start, end, c, tolerance);
+        return (stretch.start..stretch.end + 1).all(|i| c.near(stretch.at(i), tolerance));
     }
-    all_beside(points, start, end, c, tolerance)
+    (stretch.start + 1..stretch.end).all(|i| c.beside(stretch.at(i), tolerance))
 }
 
 // The distance of p from a centre.
+#[tactic(auto, unfolding(crate::specs::Three::radius_from))]
 fn get_radius(center: Point, p: Point3D) -> f64
     ensures { result ≡ radius_from center p }
 {
@@ -132,6 +116,7 @@ fn get_radius(center: Point, p: Point3D) -> f64
 }
 
 // Twice the signed area of a triangle.
+#[tactic(auto, unfolding(crate::specs::Three::area_of))]
 fn area(a: Point3D, b: Point3D, c: Point3D) -> f64
     ensures { result ≡ area_of a b c }
 {
@@ -139,6 +124,7 @@ fn area(a: Point3D, b: Point3D, c: Point3D) -> f64
 }
 
 // −2 times the cross product of the two steps.
+#[tactic(auto, unfolding(crate::specs::Three::turn_of))]
 fn turn(a: Point3D, b: Point3D, c: Point3D) -> f64
     ensures { result ≡ turn_of a b c }
 {
@@ -146,6 +132,7 @@ fn turn(a: Point3D, b: Point3D, c: Point3D) -> f64
 }
 
 // The centre, where d is the three points' turn.
+#[tactic(auto, unfolding(crate::specs::Three::center3))]
 fn center_of(a: Point3D, b: Point3D, c: Point3D, d: f64) -> Point
     ensures { result ≡ center3 a b c d }
 {
@@ -158,58 +145,69 @@ fn center_of(a: Point3D, b: Point3D, c: Point3D, d: f64) -> Point
     }
 }
 
-// The centre of the circle through three points, or none.
-#[derive(Clone, Copy)]
-pub enum CenterThrough {
-    At(Point),
-    None,
+// The centre of the circle through three points, or none, by the perpendicular bisector method.
+#[tactic(auto, unfolding(crate::specs::Three::center_three, crate::specs::Three::center_by))]
+pub fn center_through(a: Point3D, b: Point3D, c: Point3D) -> Option<Point>
+    ensures { result ≡ center_three a b c }
+{
+    if abs(area(a, b, c)) < Circle::FLAT {
+        return None;
+    }
+    let d = turn(a, b, c);
+    if abs(d) < Circle::FLAT {
+        return None;
+    }
+    Some(center_of(a, b, c, d))
 }
 
-impl CenterThrough {
+// A circle, or an arc of one.
+#[derive(Clone, Copy)]
+pub struct Circle {
+    pub center: Point,
+    pub radius: f64,
+}
+
+impl Circle {
     // Three points whose area or whose turn is below this have no circle.
     const FLAT: f64 = 1e-9;
 
-    // By the perpendicular bisector method.
-    pub fn of(a: Point3D, b: Point3D, c: Point3D) -> Self
-        ensures { result ≡ center_three a b c }
+    // Through three points, or none. Its radius is measured to the first.
+    #[tactic(auto, unfolding(crate::specs::Three::through_three, crate::specs::Three::circle_round))]
+    fn through(a: Point3D, b: Point3D, c: Point3D) -> Option<Self>
+        ensures { result ≡ through_three a b c }
     {
-        if abs(area(a, b, c)) < CenterThrough::FLAT {
-            return CenterThrough::None;
-        }
-        let d = turn(a, b, c);
-        if abs(d) < CenterThrough::FLAT {
-            return CenterThrough::None;
-        }
-        CenterThrough::At(center_of(a, b, c, d))
+        let center = center_through(a, b, c)?;
+        Some(Self {
+            center,
+            radius: get_radius(center, a),
+        })
     }
-}
 
-// The answer of `fit_circle_to_3_points`: the circle through three points, or none.
-#[derive(Clone, Copy)]
-pub enum CircleThrough {
-    Around { center: Point, radius: f64 },
-    None,
-    Refused(u32),
-}
-
-impl CircleThrough {
-    // Its radius is measured to the first point.
-    fn of(a: Point3D, b: Point3D, c: Point3D) -> Self
-        ensures { result ≡ through_answer (gives (through_three a b c)) }
+    // How far a point is off the circle.
+    #[tactic(auto, unfolding(crate::specs::Kasa::error_of))]
+    fn error_of(self, p: Point3D) -> f64
+        ensures { result ≡ error_of self.center self.radius p }
     {
-        let t = CenterThrough::of(a, b, c);
-        match t {
-            CenterThrough::At(center) => CircleThrough::Around {
-                center,
-                radius: get_radius(center, a),
-            },
-            CenterThrough::None => CircleThrough::None,
+        abs(get_radius(self.center, p) - self.radius)
+    }
+
+    // The greatest of these.
+    fn worst_error(self, stretch: Stretch) -> Deviation
+        ensures { result ≡ worst_error self.center self.radius (point_at stretch.entry.points.now) stretch.entry.start stretch.entry.end }
+    {
+        let mut worst = Deviation {
+            dist: 0.0,
+            index: stretch.start,
+        };
+        for i in stretch.start..stretch.end + 1 {
+            worst = worst.or(self.error_of(stretch.at(i)), i);
         }
+        worst
     }
 }
 
 // The sums of Kasa's normal equations.
-#[derive(Clone, Copy)]
+#[derive(Clone, Copy, Default)]
 pub struct Sums {
     pub xx: f64,
     pub xy: f64,
@@ -222,22 +220,8 @@ pub struct Sums {
 }
 
 impl Sums {
-    fn new() -> Self
-        ensures { result ≡ no_sums }
-    {
-        Self {
-            xx: 0.0,
-            xy: 0.0,
-            x: 0.0,
-            yy: 0.0,
-            y: 0.0,
-            xb: 0.0,
-            yb: 0.0,
-            b: 0.0,
-        }
-    }
-
     // One point more. Only this order of operations gives the Rust's bits.
+    #[tactic(auto, unfolding(crate::specs::Kasa::plus))]
     fn add(self, p: Point3D) -> Self
         ensures { result ≡ plus p self }
     {
@@ -256,51 +240,56 @@ impl Sums {
         }
     }
 
-    // Of the points from start to end.
-    fn of(points: &[f64], start: usize, end: usize) -> Self
-        requires { (start ≤ end) × (3 * end + 2 < length points.now) }
-        ensures { result ≡ sums_of (point_at points.now) start end }
+    // Of the points of a stretch.
+    fn of(stretch: Stretch) -> Self
+        ensures { result ≡ sums_of (point_at stretch.entry.points.now) stretch.entry.start stretch.entry.end }
     {
-        let mut s = Sums::new();
-        for i in start..end + 1 {
-            s = s.add(point_at(points, i));
+        let mut s = Sums::default();
+        for i in stretch.start..stretch.end + 1 {
+            s = s.add(stretch.at(i));
         }
         s
     }
-}
 
-// Three rows as vectors. The matrix is symmetric, so a row is a column too.
-#[derive(Clone, Copy)]
-pub struct Axes {
-    pub x: Point3D,
-    pub y: Point3D,
-    pub z: Point3D,
-}
-
-impl Axes {
-    fn rows(m: [[f64; 3]; 3]) -> Self
-        ensures { result ≡ axes_of m }
+    // The matrix of the equations, of n points.
+    #[tactic(auto, unfolding(crate::specs::Kasa::matrix_of))]
+    fn rows(self, n: usize) -> Axes
+        requires { n ≤ most_points }
+        ensures { result ≡ matrix_of self n }
     {
-        Self {
+        Axes {
             x: Point3D {
-                x: m[0][0],
-                y: m[0][1],
-                z: m[0][2],
+                x: self.xx,
+                y: self.xy,
+                z: self.x,
             },
             y: Point3D {
-                x: m[1][0],
-                y: m[1][1],
-                z: m[1][2],
+                x: self.xy,
+                y: self.yy,
+                z: self.y,
             },
             z: Point3D {
-                x: m[2][0],
-                y: m[2][1],
-                z: m[2][2],
+                x: self.x,
+                y: self.y,
+                z: n as f64,
             },
+        }
+    }
+
+    // Their right sides.
+    #[tactic(auto, unfolding(crate::specs::Kasa::sides_of))]
+    fn sides(self) -> Point3D
+        ensures { result ≡ sides_of self }
+    {
+        Point3D {
+            x: self.xb,
+            y: self.yb,
+            z: self.b,
         }
     }
 }
 
+#[tactic(auto, unfolding(geo::specs::Vector::cross3))]
 fn cross(u: Point3D, v: Point3D) -> Point3D
     ensures { result ≡ cross3 u v }
 {
@@ -311,12 +300,14 @@ fn cross(u: Point3D, v: Point3D) -> Point3D
     }
 }
 
+#[tactic(auto, unfolding(geo::specs::Vector::dot3))]
 fn dot(u: Point3D, v: Point3D) -> f64
     ensures { result ≡ dot3 u v }
 {
     u.x * v.x + u.y * v.y + u.z * v.z
 }
 
+#[tactic(auto, unfolding(crate::specs::Kasa::scaled))]
 fn scale(u: Point3D, k: f64) -> Point3D
     ensures { result ≡ scaled u k }
 {
@@ -327,38 +318,40 @@ fn scale(u: Point3D, k: f64) -> Point3D
     }
 }
 
-fn determinant(m: [[f64; 3]; 3]) -> f64
-    ensures { result ≡ det_of m }
-{
-    let a = Axes::rows(m);
-    dot(a.z, cross(a.x, a.y))
-}
-
-// The solution of three linear equations, or none.
+// The rows of a matrix, as vectors: the products below are of vectors with names for their parts, and [[f64; 3]; 3] would be
+// copied to them, or give them indices. It is symmetric, so a row is a column too.
 #[derive(Clone, Copy)]
-pub enum Solution {
-    At(Point3D),
-    None,
+pub struct Axes {
+    pub x: Point3D,
+    pub y: Point3D,
+    pub z: Point3D,
 }
 
-impl Solution {
+impl Axes {
     // A matrix whose determinant is below this has no inverse.
     const SINGULAR: f64 = 1e-15;
 
-    // The inverse, cross products times 1 / determinant, times b.
-    fn solve_3x3(m: [[f64; 3]; 3], b: Point3D) -> Self
-        ensures { result ≡ solved m b }
+    #[tactic(auto, unfolding(crate::specs::Kasa::det_of))]
+    fn determinant(self) -> f64
+        ensures { result ≡ det_of self }
     {
-        let det = determinant(m);
-        if abs(det) < Solution::SINGULAR {
-            return Solution::None;
+        dot(self.z, cross(self.x, self.y))
+    }
+
+    // The solution of three linear equations, or none: the inverse, cross products times 1 / determinant, times b.
+    #[tactic(auto, unfolding(crate::specs::Kasa::solved, crate::specs::Kasa::inverse_times))]
+    fn solve(self, b: Point3D) -> Option<Point3D>
+        ensures { result ≡ solved self b }
+    {
+        let det = self.determinant();
+        if abs(det) < Axes::SINGULAR {
+            return None;
         }
         let k = 1.0 / det;
-        let a = Axes::rows(m);
-        let u = scale(cross(a.y, a.z), k);
-        let v = scale(cross(a.z, a.x), k);
-        let w = scale(cross(a.x, a.y), k);
-        Solution::At(Point3D {
+        let u = scale(cross(self.y, self.z), k);
+        let v = scale(cross(self.z, self.x), k);
+        let w = scale(cross(self.x, self.y), k);
+        Some(Point3D {
             x: dot(u, b),
             y: dot(v, b),
             z: dot(w, b),
@@ -366,11 +359,11 @@ impl Solution {
     }
 }
 
-// The centre of the circle of least squares, and its radius squared; or none.
+// The centre of the circle of least squares, and its radius squared.
 #[derive(Clone, Copy)]
-pub enum Center {
-    At { center: Point, square: f64 },
-    None,
+pub struct Center {
+    pub center: Point,
+    pub square: f64,
 }
 
 impl Center {
@@ -380,95 +373,60 @@ impl Center {
     // A squared radius below this is none.
     const LEAST_SQUARE: f64 = 1e-10;
 
-    // By Kasa's normal equations.
-    pub fn of(points: &[f64], start: usize, end: usize) -> Self
-        requires { (start ≤ end) × (end < most_points) × (3 * end + 2 < length points.now) }
-        ensures { result ≡ kasa_center (point_at points.now) start end }
+    // By Kasa's normal equations; or none. How many points there are has to be a float: two functions here and the trials' entry
+    // ask for it, and a type of its own would be no plainer, since every caller had to make it.
+    #[tactic(auto, unfolding(crate::specs::Kasa::kasa_center, crate::specs::Kasa::centered))]
+    pub fn of(stretch: Stretch) -> Option<Self>
+        requires { stretch.end < most_points }
+        ensures { result ≡ kasa_center (point_at stretch.entry.points.now) stretch.entry.start stretch.entry.end }
     {
-        if is_collinear(points, start, end, Center::COLLINEAR) {
-            return Center::None;
+        if is_collinear(stretch, Center::COLLINEAR) {
+            return None;
         }
-        let s = Sums::of(points, start, end);
-        let n = (end - start + 1) as f64;
-        let ata = [[s.xx, s.xy, s.x], [s.xy, s.yy, s.y], [s.x, s.y, n]];
-        let atb = Point3D {
-            x: s.xb,
-            y: s.yb,
-            z: s.b,
-        };
-        let t = Solution::solve_3x3(ata, atb);
-        match t {
-            Solution::At(v) => {
-                let r_sq = v.x * v.x + v.y * v.y + v.z;
-                if r_sq < Center::LEAST_SQUARE {
-                    return Center::None;
-                }
-                Center::At {
-                    center: Point { x: v.x, y: v.y },
-                    square: r_sq,
-                }
-            }
-            Solution::None => Center::None,
+        let s = Sums::of(stretch);
+        let n = stretch.end - stretch.start + 1;
+        let v = s.rows(n).solve(s.sides())?;
+        let square = v.x * v.x + v.y * v.y + v.z;
+        if square < Center::LEAST_SQUARE {
+            return None;
         }
+        Some(Self {
+            center: Point { x: v.x, y: v.y },
+            square,
+        })
     }
 }
 
-// How far a point is off the circle.
-fn error_of(center: Point, r: f64, p: Point3D) -> f64
-    ensures { result ≡ error_of center r p }
-{
-    abs(get_radius(center, p) - r)
-}
-
-// The greatest of these.
-fn worst_error(points: &[f64], start: usize, end: usize, center: Point, r: f64) -> Deviation
-    requires { (start ≤ end) × (3 * end + 2 < length points.now) }
-    ensures { result ≡ worst_error center r (point_at points.now) start end }
-{
-    let mut worst = Deviation {
-        dist: 0.0,
-        index: start,
-    };
-    for i in start..end + 1 {
-        worst = worst.or(error_of(center, r, point_at(points, i)), i);
-    }
-    worst
-}
-
-// The answer of `fit_circle_to_points_3d`: the circle of least squares and its greatest error, or none.
+// The circle of least squares and its greatest error.
 #[derive(Clone, Copy)]
-pub enum FittedCircle {
-    Circle {
-        center: Point,
-        radius: f64,
-        error: f64,
-    },
-    None,
-    Refused(u32),
+pub struct LeastSquares {
+    pub center: Point,
+    pub radius: f64,
+    pub error: f64,
 }
 
-impl FittedCircle {
-    fn of(points: &[f64], start: usize, end: usize) -> Self
-        requires { (start ≤ end) × (end < most_points) × (3 * end + 2 < length points.now) }
-        ensures { result ≡ fitted_answer (gives (kasa_circle (point_at points.now) start end)) }
+impl LeastSquares {
+    // Or none.
+    #[tactic(auto, unfolding(crate::specs::Kasa::kasa_circle, crate::specs::Kasa::fitted_to))]
+    fn of(stretch: Stretch) -> Option<Self>
+        requires { stretch.end < most_points }
+        ensures { result ≡ kasa_circle (point_at stretch.entry.points.now) stretch.entry.start stretch.entry.end }
     {
-        let t = Center::of(points, start, end);
-        match t {
-            Center::At { center, square } => {
-                let r = sqrt(square);
-                let w = worst_error(points, start, end, center, r);
-                FittedCircle::Circle {
-                    center,
-                    radius: r,
-                    error: w.dist,
-                }
-            }
-            Center::None => FittedCircle::None,
-        }
+        let c = Center::of(stretch)?;
+        let circle = Circle {
+            center: c.center,
+            radius: sqrt(c.square),
+        };
+        Some(Self {
+            center: circle.center,
+            radius: circle.radius,
+            error: circle.worst_error(stretch).dist,
+        })
     }
 }
 
 // The centre moved along the chord a b to its bisector.
+#[tactic(auto, unfolding(crate::specs::Bisector::projected, crate::specs::Bisector::moved_by))]
 pub fn to_bisector(a: Point3D, b: Point3D, center: Point) -> Point
     ensures { result ≡ projected a b center }
 {
@@ -487,98 +445,86 @@ pub fn to_bisector(a: Point3D, b: Point3D, center: Point) -> Point
     }
 }
 
-#[derive(Clone, Copy)]
-pub enum Collinear {
-    Is(bool),
-    Refused(u32),
-}
-
-#[derive(Clone, Copy)]
-pub enum Projected {
-    At(Point),
-    Refused(u32),
-}
-
-// The first row of the table that a list of points falls under, or 0.
-pub fn check_points(points: &[f64]) -> u32
-    ensures { result ≡ refusal (points_rows points.now) }
+// The first row of the table that a list of points falls under.
+#[tactic(auto, unfolding(crate::specs::Calls::points_rows, geo::specs::Outcome::refusal, geo::specs::Domain::whole))]
+pub fn check_points(points: &[f64]) -> Result<(), Refusal>
+    ensures { refused_by result ≡ refusal (points_rows points.now) }
 {
     if points.len() % 3 != 0 {
-        return 1;
+        return Err(Refusal::NotWhole);
     }
     if MOST_POINTS < points.len() / 3 {
-        return 2;
+        return Err(Refusal::TooMany);
     }
     if !all_coordinates(points) {
-        return 5;
+        return Err(Refusal::BadNumber);
     }
-    0
+    Ok(())
 }
 
 // Tests whether a sequence of points lies on a straight line within the given tolerance.
-pub fn are_points_collinear_3d(points: &[f64], tolerance: f64) -> Collinear
-    ensures { result ≡ collinear_answer (collinear_call points.now tolerance) }
+pub fn are_points_collinear_3d(points: &[f64], tolerance: f64) -> Result<bool, Refusal>
+    ensures { outcome result ≡ collinear_call points.now tolerance }
 {
-    let refused = check_points(points);
-    if 0 < refused {
-        return Collinear::Refused(refused);
-    }
+    check_points(points)?;
     if !is_tolerance(tolerance) {
-        return Collinear::Refused(6);
+        return Err(Refusal::BadTolerance);
     }
     let n = points.len() / 3;
     if n < 3 {
-        return Collinear::Is(true);
+        return Ok(true);
     }
-    Collinear::Is(is_collinear(points, 0, n - 1, tolerance))
+    let all = Stretch {
+        points,
+        start: 0,
+        end: n - 1,
+    };
+    Ok(is_collinear(all, tolerance))
 }
 
 // Fits a circle through three points using the perpendicular bisector method.
-pub fn fit_circle_to_3_points(p1: Point3D, p2: Point3D, p3: Point3D) -> CircleThrough
-    ensures { result ≡ through_answer (through_call p1 p2 p3) }
+#[tactic(auto, unfolding(crate::specs::Calls::through_call))]
+pub fn fit_circle_to_3_points(
+    p1: Point3D,
+    p2: Point3D,
+    p3: Point3D,
+) -> Result<Option<Circle>, Refusal>
+    ensures { outcome result ≡ through_call p1 p2 p3 }
 {
-    if !point3_in(p1) {
-        return CircleThrough::Refused(5);
+    if !(point3_in(p1) && point3_in(p2) && point3_in(p3)) {
+        return Err(Refusal::BadNumber);
     }
-    if !point3_in(p2) {
-        return CircleThrough::Refused(5);
-    }
-    if !point3_in(p3) {
-        return CircleThrough::Refused(5);
-    }
-    CircleThrough::of(p1, p2, p3)
+    Ok(Circle::through(p1, p2, p3))
 }
 
 // Fits a circle to a set of points using Kasa's least-squares method.
-pub fn fit_circle_to_points_3d(points: &[f64]) -> FittedCircle
-    ensures { result ≡ fitted_answer (fitted_call points.now) }
+pub fn fit_circle_to_points_3d(points: &[f64]) -> Result<Option<LeastSquares>, Refusal>
+    ensures { outcome result ≡ fitted_call points.now }
 {
-    let refused = check_points(points);
-    if 0 < refused {
-        return FittedCircle::Refused(refused);
-    }
+    check_points(points)?;
     let n = points.len() / 3;
     if n < 3 {
-        return FittedCircle::None;
+        return Ok(None);
     }
-    FittedCircle::of(points, 0, n - 1)
+    let all = Stretch {
+        points,
+        start: 0,
+        end: n - 1,
+    };
+    Ok(LeastSquares::of(all))
 }
 
 // Projects a circle center onto the perpendicular bisector of the chord from p1 to p2.
-pub fn project_circle_center_to_bisector(p1: Point3D, p2: Point3D, center: Point) -> Projected
-    ensures { result ≡ projected_answer (projected_call p1 p2 center) }
+#[tactic(auto, unfolding(crate::specs::Calls::projected_call))]
+pub fn project_circle_center_to_bisector(
+    p1: Point3D,
+    p2: Point3D,
+    center: Point,
+) -> Result<Point, Refusal>
+    ensures { outcome result ≡ projected_call p1 p2 center }
 {
-    if !point3_in(p1) {
-        return Projected::Refused(5);
+    if !(point3_in(p1) && point3_in(p2) && is_centre(center.x) && is_centre(center.y)) {
+        return Err(Refusal::BadNumber);
     }
-    if !point3_in(p2) {
-        return Projected::Refused(5);
-    }
-    if !is_centre(center.x) {
-        return Projected::Refused(5);
-    }
-    if !is_centre(center.y) {
-        return Projected::Refused(5);
-    }
-    Projected::At(to_bisector(p1, p2, center))
+    Ok(to_bisector(p1, p2, center))
 }

@@ -1,6 +1,6 @@
 -- The rows of a course: what passed, and what an accepted call answers and leaves. Assumes nothing.
 use Prim.Native.Nat.{ℕ, ◌*◌, ◌/◌, ◌≤◌, ◌<◌}
-use mathlib.Core.Path.{◌≡◌, sym, ap, ◌∙◌}
+use mathlib.Core.Path.{◌≡◌, ap, ◌∙◌}
 use mathlib.Core.Bool.{true}
 use mathlib.Core.List.{List}
 use native.Mathlib.Omega.{arith}
@@ -10,13 +10,14 @@ use lib.Ieee.{Float}
 use Rattle.floats.specs.Ops.{◌≺◌, +0}
 use Rattle.geo.specs.declared.types.Point3D.{Point3D}
 use Rattle.geo.specs.declared.types.Command.{Command}
-use Rattle.geo.specs.declared.types.Answer.TheVariants.{Written}
+use Rattle.std.specs.Prelude.{Ok}
 use Rattle.geo.specs.Outcome.{refusal}
-use Rattle.geo.specs.Commands.{WroteCommands}
+use Rattle.geo.specs.Wrote.{WroteCommands}
 use Rattle.geo.specs.Lent.{origin, numbers_of}
 use Rattle.geo.proofs.Rows.{row_passed}
 use Rattle.geo.proofs.Tolerance.{tolerance-positive}
-use Rattle.geo.proofs.Outcomes.{commands-given, nine}
+use Rattle.geo.proofs.Wrote.{commands-given}
+use Rattle.geo.proofs.Wrote.{nine}
 use Rattle.geo.proofs.Flat.{flat_length}
 use Rattle.pieces.specs.declared.pieces.Rule.{Rule}
 use Rattle.pieces.specs.Pieces.{laps_rule}
@@ -67,7 +68,7 @@ module _ (most kinds numbers m : ℕ) (e : m ≡ cap most) where
     room_passed k n = let i = is-most in rw (le-ltb 800 most (omega arith), le-ltb kinds most (omega arith), le-ltb (numbers / 9) most (omega arith))
 
 -- ---- what an accepted course knows, answers and leaves
-module _ (ks : List ℕ) (ns : List Float) (tol : Float) (kinds numbers r : ℕ) (e : r ≡ refusal (arcs_rows ks ns tol kinds numbers)) (z : r ≡ 0) where
+module _ (ks : List ℕ) (ns : List Float) (tol : Float) (kinds numbers : ℕ) (z : 0 ≡ refusal (arcs_rows ks ns tol kinds numbers)) where
   pub record Accepted : Type 0 where
     pub nine-each : length ns ≡ 9 * length ks
     pub above_zero : (+0 ≺ tol) ≡ true
@@ -78,7 +79,7 @@ module _ (ks : List ℕ) (ns : List Float) (tol : Float) (kinds numbers r : ℕ)
   pub arcs_accepted : Accepted
   unfolding arcs_rows room_rows
   arcs_accepted =
-      let a = row_passed 0 _ _ (sym z ∙ e) in
+      let a = row_passed 0 _ _ z in
       let b = row_passed 0 _ _ a.1 in
       let c = row_passed 1 _ _ b.1 in
       let d = row_passed 3 _ _ c.1 in
@@ -95,14 +96,14 @@ module _ (ks : List ℕ) (ns : List Float) (tol : Float) (kinds numbers r : ℕ)
         room-numbers = ltb-false _ _ j.0;
       }
 
-pub wrote_arcs : (ks : List ℕ) (ns : List Float) (tol : Float) (oks oks' : List ℕ) (ons ons' : List Float) (r k : ℕ)
-    → r ≡ refusal (arcs_rows ks ns tol (length oks) (length ons)) → r ≡ 0 → FitPlaced (course_fit (laps_rule tol) (lent_course ks ns)) 0 k oks oks' ons ons'
-    → WroteCommands (arcs_call ks ns tol (length oks) (length ons)) oks oks' ons ons' (Written k)
+pub wrote_arcs : (ks : List ℕ) (ns : List Float) (tol : Float) (oks oks' : List ℕ) (ons ons' : List Float) (k : ℕ)
+    → 0 ≡ refusal (arcs_rows ks ns tol (length oks) (length ons)) → FitPlaced (course_fit (laps_rule tol) (lent_course ks ns)) 0 k oks oks' ons ons'
+    → WroteCommands (arcs_call ks ns tol (length oks) (length ons)) oks oks' ons ons' (Ok k)
 unfolding arcs_call
-wrote_arcs ks ns tol oks oks' ons ons' r k e z p =
+wrote_arcs ks ns tol oks oks' ons ons' k z p =
     let xs = course_fit (laps_rule tol) (lent_course ks ns) in
-    let a = arcs_accepted ks ns tol (length oks) (length ons) r e z in
+    let a = arcs_accepted ks ns tol (length oks) (length ons) z in
     let l = course_few (laps_rule tol) a.above_zero origin (lent_course ks ns) in
     let b = a.room-kinds in
     let c = a.room-numbers in
-    commands-given _ r e xs oks oks' ons ons' k z p.count (omega arith) (omega (arith, flat_length numbers_of 9 nine xs)) p.kinds p.numbers
+    commands-given _ z xs oks oks' ons ons' k p.count (omega arith) (omega (arith, flat_length numbers_of 9 nine xs)) p.kinds p.numbers

@@ -34,7 +34,7 @@ module _ (f : Flush) (rule : Rule) (p : Point3D) (ks : List ℕ) (ns : List Floa
   On w s ks' ns' ss' i =
       Going (joined_by f rule.tolerance) (flushed_by f rule) (fit_by f rule p (lent_course ks ns)) (most_of (parts_by f rule.tolerance p (lent_course ks ns))) oks ons oss w s ks' ns' ss' (commands_from ks ns (length ks - i) i)
 
-  on-start : (w : Walk) (s : List Float) → w ≡ record { points = 1; last = p; written = 0 } → take 3 s ≡ triple p → length s ≡ chain_numbers → On w s oks ons oss 0
+  pub on-start : (w : Walk) (s : List Float) → w ≡ record { points = 1; last = p; written = 0 } → take 3 s ≡ triple p → length s ≡ chain_numbers → On w s oks ons oss 0
   unfolding fit_by parts_by
   on-start w s e t l =
       let q : length ks - 0 ≡ length ks = omega arith in
@@ -79,13 +79,3 @@ module _ (f : Flush) (rule : Rule) (p : Point3D) (ks : List ℕ) (ns : List Floa
       pub on-done : (ks'' : List ℕ) (ns'' : List Float) (ss'' : List ℕ) (n : ℕ) → NotedPlaced (flushed_by f rule (under_way w s)) w.written n ks' ks'' ns' ns'' ss' ss''
           → NotedPlaced (fit_by f rule p (lent_course ks ns)) 0 (w.written + n) oks ks'' ons ns'' oss ss''
       on-done ks'' ns'' ss'' n done = going_done (joined_by f rule.tolerance) (flushed_by f rule) _ _ oks ons oss w s ks' ns' ss' ks'' ns'' ss'' n at_end done
-
--- the walk that has not begun holds the start
-module _ (f : Flush) (rule : Rule) (p : Point3D) (ks : List ℕ) (ns : List Float) (oks : List ℕ) (ons : List Float) (oss : List ℕ) (w₀ : Walk) where
-  pub on_new : (s : List Float) → w₀ ≡ record { points = 1; last = p; written = 0 } → take 3 s ≡ triple p → length s ≡ chain_numbers → On f rule w₀.last ks ns oks ons oss w₀ s oks ons oss 0
-  on_new s e t l =
-      subst (λ (q : Point3D). On f rule q ks ns oks ons oss w₀ s oks ons oss 0) (sym (ap (λ (w : Walk). w.last) e)) (on-start f rule p ks ns oks ons oss w₀ s e t l)
-
-  pub from_new : w₀ ≡ record { points = 1; last = p; written = 0 } → (w : Walk) (s : List Float) (ks' : List ℕ) (ns' : List Float) (ss' : List ℕ) (i : ℕ)
-      → On f rule w₀.last ks ns oks ons oss w s ks' ns' ss' i → On f rule p ks ns oks ons oss w s ks' ns' ss' i
-  from_new e w s ks' ns' ss' i g = subst (λ (q : Point3D). On f rule q ks ns oks ons oss w s ks' ns' ss' i) (ap (λ (v : Walk). v.last) e) g

@@ -3,7 +3,6 @@ use Prim.Native.Nat.{ℕ, zero, suc, ◌+◌, ◌-◌, ◌*◌, ◌^◌, ◌≤�
 use mathlib.Core.Path.{◌≡◌, refl, sym, ap, ◌∙◌, subst}
 use mathlib.Core.Logic.{⊎_elim}
 use mathlib.Core.Bool.{true, false}
-use mathlib.Core.List.{List}
 use native.Mathlib.Omega.{arith}
 use native.Mathlib.Nat.{le_trans, le_of_eq, lt_of_le_of_lt, mul-le-mul_right, add-mul, one-mul, mul_comm}
 use lib.IntN.{pos}
@@ -20,15 +19,15 @@ use Rattle.geo.specs.declared.types.Point.{Point}
 use Rattle.geo.specs.declared.types.Point3D.{Point3D}
 use Rattle.geo.specs.Vector.{dot, cross3, dot3}
 use Rattle.geo.specs.Walk.{fold}
-use mathlib.Core.Option.{Option, none, some}
-use Rattle.circle.specs.declared.circle.Center as center
-use Rattle.circle.specs.declared.circle.Solution as solution
+use Rattle.std.specs.Prelude.{Option, Some, None}
+use Rattle.circle.specs.declared.circle.Center.{Center}
+use Rattle.circle.specs.declared.circle.Circle.{Circle}
 use Rattle.circle.specs.declared.circle.Sums.{Sums}
 use Rattle.circle.specs.declared.circle.Axes.{Axes}
 use Rattle.floats.specs.Limits.{hundredth, nano, tenth_nano, pico, femto}
 use Rattle.circle.specs.Collinear.{collinear}
-use Rattle.circle.specs.Three.{area_of, square_of, turn_of, center3, center_by, center_three, Circle, circle_round, through_three}
-use Rattle.circle.specs.Kasa.{no_sums, plus, sums_of, axes_of, scaled, det_of, inverse_times, solved, matrix_of, sides_of, squared_radius, centered, kasa_center}
+use Rattle.circle.specs.Three.{area_of, square_of, turn_of, center3, center_by, center_three, circle_round, through_three}
+use Rattle.circle.specs.Kasa.{no_sums, plus, sums_of, scaled, det_of, inverse_times, solved, matrix_of, sides_of, squared_radius, centered, kasa_center}
 use Rattle.circle.specs.Bisector.{moved_by, projected}
 
 -- x, y and z at most 2 ^ k in size
@@ -108,8 +107,8 @@ module _ {a b c : Point3D} (A : Placed 27 a) (B : Placed 27 b) (C : Placed 27 c)
       (mul_below (omega arith) (apart B.in_y A.in_y) (apart C.in_x B.in_x)))
 
   abbrev pub Through : Option Circle → Type 0
-  Through (some c) = Flat 115 c.center
-  Through none = Unit
+  Through (Some c) = Flat 115 c.center
+  Through None = Unit
 
   -- The centre of the circle through three points is at most 2 ^ 115 from zero.
   pub three-flat : Through (through_three a b c)
@@ -196,8 +195,8 @@ pub record Rows (k : ℕ) (a : Axes) : Type 0 where
   pub in_y : Placed k a.y
   pub in_z : Placed k a.z
 
-matrix_rows : (c n : ℕ) (s : Sums) → c ≤ 2048 → n ≤ 2048 → Summed c s → Rows 94 (axes_of (matrix_of s n))
-unfolding axes_of matrix_of
+matrix_rows : (c n : ℕ) (s : Sums) → c ≤ 2048 → n ≤ 2048 → Summed c s → Rows 94 (matrix_of s n)
+unfolding matrix_of
 matrix_rows c n s h g S =
     record {
       in_x = record { in_x = few-below c s.xx h S.in_xx; in_y = few-below c s.xy h S.in_xy; in_z = few-below c s.x h S.in_x };
@@ -231,7 +230,7 @@ scaled-placed : {u : Point3D} {k : Float} → Placed 189 u → Below 50 k → Pl
 unfolding scaled
 scaled-placed U K = record { in_x = mul_below (omega arith) U.in_x K; in_y = mul_below (omega arith) U.in_y K; in_z = mul_below (omega arith) U.in_z K }
 
-det_below : (m : List (List Float)) → Rows 94 (axes_of m) → Below 285 (det_of m)
+det_below : (m : Axes) → Rows 94 m → Below 285 (det_of m)
 unfolding det_of
 det_below m R = dot-below (omega arith) R.in_z (cross_placed R.in_x R.in_y)
 
@@ -252,11 +251,11 @@ femto-plain : T (plain femto)
 unfolding of_bits plain
 femto-plain = tt
 
-abbrev Solved : solution.Solution → Type 0
-Solved (solution.TheVariants.At v) = Placed 335 v
-Solved solution.TheVariants.None = Unit
+abbrev Solved : Option Point3D → Type 0
+Solved (Some v) = Placed 335 v
+Solved None = Unit
 
-solved-placed : (m : List (List Float)) (b : Point3D) → Rows 94 (axes_of m) → Placed 94 b → Solved (solved m b)
+solved-placed : (m : Axes) (b : Point3D) → Rows 94 m → Placed 94 b → Solved (solved m b)
 unfolding solved
 solved-placed m b R B =
     ⊎_elim (λ h. rw h tt)
@@ -265,14 +264,14 @@ solved-placed m b R B =
     (div_below 50 (det_of m) (omega arith) one_below (at_least_of_abs 50 (2 ^ 285) (det_of m) femto (det_below m R).within femto-plain h femto-least)) B))
     (either (lt (abs_of (det_of m)) femto))
 
-abbrev pub Centered : center.Center → Type 0
-Centered (center.TheVariants.At m q) = Flat 335 m
-Centered center.TheVariants.None = Unit
+abbrev pub Centered : Option Center → Type 0
+Centered (Some c) = Flat 335 c.center
+Centered None = Unit
 
-centered-flat : (v : solution.Solution) → Solved v → Centered (centered v)
+centered-flat : (v : Option Point3D) → Solved v → Centered (centered v)
 unfolding centered
-centered-flat solution.TheVariants.None h = tt
-centered-flat (solution.TheVariants.At v) h =
+centered-flat None h = tt
+centered-flat (Some v) h =
     ⊎_elim (λ g. rw g tt) (λ g. rw g (record { in_x = h.in_x; in_y = h.in_y })) (either (lt (squared_radius v) tenth_nano))
 
 sums_summed : (at : ℕ → Point3D) (lo hi : ℕ) → lo ≤ hi → hi - lo < 2048 → ((j : ℕ) → lo ≤ j → j < hi + 1 → Placed 27 (at j)) → Summed (hi + 1 - lo) (sums_of at lo hi)

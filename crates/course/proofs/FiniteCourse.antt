@@ -152,7 +152,7 @@ pub fit-points-finite : (s : List Float) (tol : Float) (lo hi kinds numbers plac
 unfolding fit_call fit_rows points_rows
 fit-points-finite s tol lo hi kinds numbers places xs e =
     let g = unless-given (refusal (fit_rows s tol lo hi kinds numbers places)) (fit_in (points_rule tol) (point_at s) lo hi) xs e in
-    let acc = fit-accepted s tol lo hi kinds numbers places 0 g.0 refl in
+    let acc = fit-accepted s tol lo hi kinds numbers places g.0 in
     let a = row_passed 0 _ _ g.0 in
     let b = row_passed 0 _ _ a.1 in
     let c = row_passed 1 _ _ b.1 in
@@ -168,7 +168,7 @@ pub arcs_finite : (ks : List ℕ) (ns : List Float) (tol : Float) (kinds numbers
 unfolding arcs_call arcs_rows
 arcs_finite ks ns tol kinds numbers xs e =
     let g = unless-given (refusal (arcs_rows ks ns tol kinds numbers)) (course_fit (laps_rule tol) (lent_course ks ns)) xs e in
-    let acc = arcs_accepted ks ns tol kinds numbers 0 g.0 refl in
+    let acc = arcs_accepted ks ns tol kinds numbers g.0 in
     let a = row_passed 0 _ _ g.0 in
     let b = row_passed 0 _ _ a.1 in
     let c = row_passed 1 _ _ b.1 in

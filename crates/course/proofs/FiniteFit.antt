@@ -19,13 +19,13 @@ use Rattle.geo.specs.declared.types.Command.{Command}
 use Rattle.geo.specs.Lent.{point_at, triple, flat, origin, numbers_of}
 use Rattle.geo.specs.Domain.{is_finite}
 use Rattle.geo.proofs.Flat.{flat_length}
-use mathlib.Core.Option.{Option, none, some}
-use Rattle.circle.specs.declared.circle.Center as center
-use Rattle.circle.specs.Three.{Circle, radius_from, through_three}
+use Rattle.std.specs.Prelude.{Option, Some, None}
+use Rattle.circle.specs.declared.circle.Center.{Center}
+use Rattle.circle.specs.declared.circle.Circle.{Circle}
+use Rattle.circle.specs.Three.{radius_from, through_three}
 use Rattle.circle.specs.Kasa.{kasa_center}
 use Rattle.circle.specs.Bisector.{projected}
 use Rattle.trial.specs.declared.trial.Trial.{Trial}
-use Rattle.trial.specs.declared.trial.Trial.TheVariants.{Arc, None}
 use Rattle.trial.specs.Deviation.{arc_deviation}
 use Rattle.trial.specs.Traversal.{traverses}
 use Rattle.trial.specs.Trial.{sharp_at, closed_range, measured_by, going_round, of_measured, trial_round, trial_of, of_circle, of_center, trial_three, trial_least, or_else, try_arcs}
@@ -55,8 +55,8 @@ pub zero_is-finite : is_finite +0 ≡ true
 zero_is-finite = below-is-finite (zero_below 0)
 
 -- ---- the centre of an arc that a trial found
-abbrev Tried : Trial → Type 0
-Tried (Arc m d w) = Flat 434 m
+abbrev Tried : Option Trial → Type 0
+Tried (Some t) = Flat 434 t.center
 Tried None = Unit
 
 module _ (tol : Float) (at : ℕ → Point3D) (lo hi : ℕ) where
@@ -66,9 +66,9 @@ module _ (tol : Float) (at : ℕ → Point3D) (lo hi : ℕ) where
       ⊎_elim (λ g. rw g (⊎_elim (λ t. rw t h) (λ t. rw t tt) (either (traverses m at lo hi))))
       (λ g. rw g tt) (either (lt (arc_deviation m (radius_from m (at lo)) at lo hi).dist tol))
 
-  tried_or : (t u : Trial) → Tried t → Tried u → Tried (or_else t u)
+  tried_or : (t u : Option Trial) → Tried t → Tried u → Tried (or_else t u)
   unfolding or_else
-  tried_or (Arc m d w) u p q = p
+  tried_or (Some t) u p q = p
   tried_or None u p q = q
 
   module _ (order : lo ≤ hi) (few : hi - lo < 2048) (each : (j : ℕ) → lo ≤ j → j ≤ hi → Placed 27 (at j)) where
@@ -84,8 +84,8 @@ module _ (tol : Float) (at : ℕ → Point3D) (lo hi : ℕ) where
 
     tried_circle : (b : Point3D) (B : Placed 27 b) (c : Option Circle) → Through first-placed B last-placed c → Tried (of_circle at lo hi tol c)
     unfolding of_circle
-    tried_circle b B (some c) h = tried_of c.center (flat-more 335 (omega arith) h)
-    tried_circle b B none h = tt
+    tried_circle b B (Some c) h = tried_of c.center (flat-more 335 (omega arith) h)
+    tried_circle b B None h = tt
 
     tried_three : hi - lo ≡ 2 → Tried (trial_three at lo hi tol)
     unfolding trial_three
@@ -93,10 +93,10 @@ module _ (tol : Float) (at : ℕ → Point3D) (lo hi : ℕ) where
         let B = each (lo + 1) (omega arith) (omega arith) in
         tried_circle (at (lo + 1)) B (through_three (at lo) (at (lo + 1)) (at hi)) (three-flat first-placed B last-placed)
 
-    tried_center : (c : center.Center) → Centered c → Tried (of_center at lo hi tol c)
+    tried_center : (c : Option Center) → Centered c → Tried (of_center at lo hi tol c)
     unfolding of_center
-    tried_center (center.TheVariants.At m q) h = tried_of m h
-    tried_center center.TheVariants.None h = tt
+    tried_center (Some c) h = tried_of c.center h
+    tried_center None h = tt
 
     tried_least : Tried (trial_least at lo hi tol)
     unfolding trial_least
@@ -130,12 +130,12 @@ module _ (r : Rule) (at : ℕ → Point3D) where
       ⊎_elim (λ e. subst (λ (w : Farthest). (lo ≤ w.index) × (w.index ≤ hi)) (sym e.0) (omega arith, o))
       (λ e. let f = e.from in let t = e.to in (omega arith, omega arith)) (found_in (distance r) at lo hi)
 
-  chosen_or : (t : Trial) (lo k hi : ℕ) → Tried t → lo ≤ k → k ≤ hi → Chosen lo hi (arc_or_cut t k)
+  chosen_or : (t : Option Trial) (lo k hi : ℕ) → Tried t → lo ≤ k → k ≤ hi → Chosen lo hi (arc_or_cut t k)
   unfolding arc_or_cut
-  chosen_or (Arc c d w) lo k hi h a b = h
+  chosen_or (Some t) lo k hi h a b = h
   chosen_or None lo k hi h a b = (a, b)
 
-  tried_counted : (t : Trial) → Tried t → Tried (counted r t)
+  tried_counted : (t : Option Trial) → Tried t → Tried (counted r t)
   tried_counted t h = ⊎_elim (λ e. rw e h) (λ e. rw e tt) (either r.arcs)
 
   chosen : (lo hi : ℕ) → lo ≤ hi → hi - lo < 2048 → ((j : ℕ) → lo ≤ j → j ≤ hi → Placed 27 (at j)) → Chosen lo hi (choice r at lo hi)

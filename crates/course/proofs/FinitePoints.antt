@@ -1,6 +1,6 @@
 -- Bounds of the points that a course fits: an end in the domain is at most 2 ^ 20 from zero, and a point of a linearised Bezier at most 2 ^ 27. Assumes nothing.
 use Prim.Native.Nat.{ℕ, zero, suc, ◌+◌, ◌*◌, ◌^◌, ◌≤◌, ◌<◌}
-use mathlib.Core.Path.{◌≡◌, refl, sym, ap, ◌∙◌, subst}
+use mathlib.Core.Path.{◌≡◌, sym, ap, ◌∙◌, subst}
 use mathlib.Core.Bool.{Bool, true, false, ◌&&◌, cond}
 use native.Mathlib.Omega.{arith}
 use native.Mathlib.Nat.{lt_of_le_of_lt, lt_irrefl, mul-one, zero-mul, mul-pos, mul_comm, mul_assoc, mul-le-mul_right}
@@ -10,7 +10,7 @@ use lib.Ieee.Fits.{down_pos}
 use lib.Ieee.Exact.{HasValue}
 use lib.Ieee.Back.{round_whole}
 use Rattle.floats.specs.Ops.{◌⊕◌, ◌⊖◌, ◌⊗◌, ◌⊘◌, one, two, three}
-use Rattle.floats.proofs.Order.{clash}
+use Rattle.floats.proofs.Order.{and_left, and_right}
 use Rattle.floats.proofs.Bounds.{Within, Below, AtLeast, round_within, add_within, within_more, add_below, sub_below, mul_below, div_below, below_more, within_of_abs}
 use Rattle.geo.specs.declared.types.Point3D.{Point3D}
 use Rattle.floats.specs.Limits.{million}
@@ -25,18 +25,11 @@ use Rattle.course.proofs.FiniteFit.{EachBelow, each_append}
 
 -- ---- ends and controls in the domain
 pub and3 : (a b c : Bool) → (a && b && c) ≡ true → (a ≡ true) × (b ≡ true) × (c ≡ true)
-and3 true true true h = (refl, refl, refl)
-and3 true true false h = clash h
-and3 true false c h = clash h
-and3 false b c h = clash h
-
-million-below : Below 20 million
-unfolding of_bits
-million-below = record { within = omega arith }
+and3 a b c h = let ab = and_left (a && b) c h in (and_left a b ab, and_right a b ab, and_right (a && b) c h)
 
 pub coordinate-below : {x : Float} → coordinate x ≡ true → Below 20 x
-unfolding coordinate
-coordinate-below {x} h = record { within = within_of_abs (2 ^ 20) x million h million-below.within }
+unfolding coordinate of_bits
+coordinate-below {x} h = record { within = within_of_abs (2 ^ 20) x million h (omega arith) }
 
 pub point_in : (p : Point3D) → point3_in p ≡ true → Placed 20 p
 unfolding point3_in

@@ -1,6 +1,6 @@
 -- The two courses as the walk has them, and the most of a path. Assumes nothing.
 use Prim.Native.Nat.{ℕ, zero, suc, ◌+◌, ◌-◌, ◌*◌, ◌/◌, ◌≤◌}
-use mathlib.Core.Path.{◌≡◌, refl, sym, ap, ◌∙◌}
+use mathlib.Core.Path.{◌≡◌, refl, ap, ◌∙◌}
 use mathlib.Core.Bool.{Bool, true, false}
 use mathlib.Core.List.{List, [], ◌∷◌, map}
 use native.Mathlib.Omega.{arith}
@@ -11,11 +11,12 @@ use Rattle.floats.specs.Ops.{◌≺◌, +0}
 use Rattle.geo.specs.declared.types.Point3D.{Point3D}
 use Rattle.geo.specs.declared.types.Command.{Command}
 use Rattle.geo.specs.declared.types.Command.TheVariants.{Move, Line, Arc, Bezier}
-use Rattle.geo.specs.declared.types.Answer.TheVariants.{Written}
+use Rattle.std.specs.Prelude.{Ok}
 use Rattle.geo.specs.Outcome.{refusal}
-use Rattle.geo.specs.Commands.{WroteCommands}
+use Rattle.geo.specs.Wrote.{WroteCommands}
 use Rattle.geo.specs.Lent.{triple, origin, end_of, numbers_of, commands_from, point_at}
-use Rattle.geo.proofs.Outcomes.{commands-given, nine}
+use Rattle.geo.proofs.Wrote.{commands-given}
+use Rattle.geo.proofs.Wrote.{nine}
 use Rattle.geo.proofs.Flat.{flat_length}
 use Rattle.geo.proofs.Rows.{row_passed}
 use Rattle.geo.proofs.Tolerance.{tolerance-positive}
@@ -103,9 +104,9 @@ unfolding fit_by
 path_few arcs tol pos cs = noted-few (flushed_by (path_flush arcs) (points_rule tol)) (flushed_few (path_flush arcs) (points_rule tol) pos) (parts_by (path_flush arcs) tol origin cs)
 
 -- the tolerance of a path that is accepted
-path_positive : (ks : List ℕ) (ns : List Float) (tol : Float) (kinds numbers r : ℕ) → r ≡ refusal (command_rows ks ns tol kinds numbers) → r ≡ 0 → (+0 ≺ tol) ≡ true
-path_positive ks ns tol kinds numbers r e z =
-    let a = row_passed 0 _ _ (sym z ∙ e) in
+path_positive : (ks : List ℕ) (ns : List Float) (tol : Float) (kinds numbers : ℕ) → 0 ≡ refusal (command_rows ks ns tol kinds numbers) → (+0 ≺ tol) ≡ true
+path_positive ks ns tol kinds numbers z =
+    let a = row_passed 0 _ _ z in
     let b = row_passed 0 _ _ a.1 in
     let c = row_passed 1 _ _ b.1 in
     let d = row_passed 3 _ _ c.1 in
@@ -114,20 +115,20 @@ path_positive ks ns tol kinds numbers r e z =
     tolerance-positive tol (not-false _ g.0)
 
 -- what an accepted path knows, answers and leaves
-module _ (ks : List ℕ) (ns : List Float) (tol : Float) (arcs : Bool) (oks : List ℕ) (ons : List Float) (r : ℕ)
-    (e : r ≡ refusal (command_rows ks ns tol (length oks) (length ons))) (z : r ≡ 0) where
+module _ (ks : List ℕ) (ns : List Float) (tol : Float) (arcs : Bool) (oks : List ℕ) (ons : List Float)
+    (z : 0 ≡ refusal (command_rows ks ns tol (length oks) (length ons))) where
   most-is : most_of (parts_by (path_flush arcs) tol origin (lent_course ks ns)) ≡ length ks
   most-is = path_most arcs tol (lent_course ks ns) ∙ course_length ks ns (length ks) 0
 
   pub path_accepted : ((+0 ≺ tol) ≡ true) × ((9 * length ks ≤ length ns) × (most_of (parts_by (path_flush arcs) tol origin (lent_course ks ns)) ≤ 800)
       × (most_of (parts_by (path_flush arcs) tol origin (lent_course ks ns)) ≤ length oks) × (9 * most_of (parts_by (path_flush arcs) tol origin (lent_course ks ns)) ≤ length ons))
   path_accepted =
-      let a = commands-accepted ks ns tol (length oks) (length ons) r e z in
+      let a = commands-accepted ks ns tol (length oks) (length ons) z in
       let m = most-is in
-      (path_positive ks ns tol (length oks) (length ons) r e z, (omega (arith, a), omega (arith, a, m), omega (arith, a, m), omega (arith, a, m)))
+      (path_positive ks ns tol (length oks) (length ons) z, (omega (arith, a), omega (arith, a, m), omega (arith, a, m), omega (arith, a, m)))
 
   pub wrote_path : (f : Flush) → f ≡ path_flush arcs → (oks' : List ℕ) (ons' : List Float) (oss oss' : List ℕ) (k : ℕ) → NotedPlaced (fit_by f (points_rule tol) origin (lent_course ks ns)) 0 k oks oks' ons ons' oss oss'
-      → WroteCommands (optimize_call ks ns tol arcs (length oks) (length ons)) oks oks' ons ons' (Written k)
+      → WroteCommands (optimize_call ks ns tol arcs (length oks) (length ons)) oks oks' ons ons' (Ok k)
   unfolding optimize_call
   wrote_path f is oks' ons' oss oss' k q =
       let fitted = fit_by (path_flush arcs) (points_rule tol) origin (lent_course ks ns) in
@@ -138,4 +139,4 @@ module _ (ks : List ℕ) (ns : List Float) (tol : Float) (arcs : Bool) (oks : Li
       let l : length fitted ≤ most_of (parts_by (path_flush arcs) tol origin (lent_course ks ns)) = path_few arcs tol a.0 (lent_course ks ns) in
       let m = commands_length fitted in
       let s = ap length d in
-      commands-given _ r e xs oks oks' ons ons' k z p.count (omega (arith, a.1)) (omega (arith, a.1, flat_length numbers_of 9 nine xs)) p.kinds p.numbers
+      commands-given _ z xs oks oks' ons ons' k p.count (omega (arith, a.1)) (omega (arith, a.1, flat_length numbers_of 9 nine xs)) p.kinds p.numbers

@@ -1,25 +1,30 @@
 // src/geo/algo/fitting.rs: fit_arcs and optimize_path_from_array.
-ghost use Rattle.std.specs.Prelude.{◌≡◌, true, ◌+◌, ◌*◌, ◌≤◌, length};
+ghost use Rattle.std.specs.Prelude.{◌≡◌, true, ◌+◌, ◌*◌, ◌≤◌, length, take};
 ghost use Rattle.floats.specs.Ops.{◌≺◌, +0};
 ghost use Rattle.geo.specs.Domain.{most_commands};
 ghost use Rattle.geo.specs.Outcome.{refusal};
-ghost use Rattle.geo.specs.Commands.{WroteCommands};
+ghost use Rattle.geo.specs.Refusal.{refused_by};
+ghost use Rattle.geo.specs.Wrote.{WroteCommands};
 ghost use Rattle.pieces.specs.Written.{FitPlaced, NotedPlaced};
 ghost use Rattle.chain.specs.Parts.{most_of};
 ghost use Rattle.chain.specs.Joins.{joined};
-ghost use Rattle.chain.specs.Chains.{chain_points, chain_numbers, cap};
+ghost use Rattle.chain.specs.Chains.{chain_points, chain_numbers, cap, SameLent};
+ghost use Rattle.geo.specs.Lent.{triple};
 ghost use Rattle.course.specs.Course.{fit_on, most_on, end_on, lent_course, arcs_rows, arcs_call, optimize_call};
 ghost use Rattle.course.specs.Walks.{weight_of, path_flush, parts_by, fit_by, noted_on};
 
-use chain::chain::{Flush, Walk, bezier_steps, flush_by, take_command};
+use bezier::bezier::raise_controls;
+use chain::chain::{Flush, Walk, Walker, bezier_steps};
 use geo::domain::check_input;
 use geo::lent::{command_at, put_point};
-use geo::types::{Answer, Command, Point3D};
+use geo::refusal::Refusal;
+use geo::types::{Command, Point3D};
 use pieces::pieces::{Rule, put_noted};
 use ranges::ranges::{fit_range, flush_chain};
 use simplify::simplify::refuse_commands;
 
 // What a command adds to the most of its course.
+#[tactic(auto, unfolding(chain::specs::Chains::cap, chain::specs::Joins::joined, crate::specs::Walks::weight_of))]
 pub fn weight(c: Command, last: Point3D, tolerance: f64) -> usize
     ensures { result ≡ cap (weight_of (joined tolerance last c)) }
 {
@@ -35,11 +40,15 @@ pub fn weight(c: Command, last: Point3D, tolerance: f64) -> usize
             end,
             control1,
             control2,
-        } => bezier_steps(end, control1, control2, last, tolerance * 0.25),
+        } => {
+            let q = raise_controls(end, control1, control2, last);
+            bezier_steps(q, tolerance * 0.25)
+        }
     }
 }
 
 // The sum of two counts, 801 for all above 800.
+#[tactic(auto, unfolding(chain::specs::Chains::cap))]
 pub fn add_capped(a: usize, b: usize) -> usize
     requires { (a ≤ chain_points) × (b ≤ chain_points) }
     ensures { (result ≡ cap (a + b)) × (result ≤ chain_points) }
@@ -51,7 +60,8 @@ pub fn add_capped(a: usize, b: usize) -> usize
     n
 }
 
-// The most of a course from its start, 801 for all above 800.
+// The most of a course from its start, 801 for all above 800. Here and below the commands stay two lists: callers are asked for nine numbers
+// each at least, and `Commands` would ask for exactly nine.
 pub fn course_most(kinds: &[u8], nums: &[f64], start: Point3D, tolerance: f64) -> usize
     requires { 9 * length kinds.now ≤ length nums.now }
     ensures { result ≡ cap (most_on tolerance start (lent_course kinds.now nums.now)) }
@@ -78,6 +88,20 @@ pub fn course_end(kinds: &[u8], nums: &[f64], start: Point3D) -> Point3D
     command_at(kinds, nums, n - 1).end_point()
 }
 
+// Walks along a course from where w stands, which has written nothing and holds its start alone, and answers how many commands it gives.
+fn walk_along(kinds: &[u8], nums: &[f64], how: Flush, rule: Rule, w: &mut Walker) -> usize
+    requires room { ((+0 ≺ rule.tolerance) ≡ true) × ((9 * length kinds.now ≤ length nums.now) × (most_of (parts_by how rule.tolerance w.old.at.last (lent_course kinds.now nums.now)) ≤ most_commands) × (most_of (parts_by how rule.tolerance w.old.at.last (lent_course kinds.now nums.now)) ≤ length w.old.kinds.now) × (9 * most_of (parts_by how rule.tolerance w.old.at.last (lent_course kinds.now nums.now)) ≤ length w.old.nums.now) × (length w.old.chain.now ≡ chain_numbers)) }
+    requires begun { (w.old.at ≡ record { points = 1; last = w.old.at.last; written = 0 }) × (take 3 w.old.chain.now ≡ triple w.old.at.last) }
+    ensures same { SameLent w.old w.new }
+    ensures written { NotedPlaced (fit_by how rule w.old.at.last (lent_course kinds.now nums.now)) 0 result w.old.kinds.now w.new.kinds.now w.old.nums.now w.new.nums.now w.old.steps.now w.new.steps.now }
+{
+    for i in 0..kinds.len() {
+        w.take(command_at(kinds, nums, i), how, rule);
+    }
+    let n = w.flush(how, rule);
+    w.at.written + n
+}
+
 // Walks along a course from its start, and answers how many commands it gives. The caller lends the chain's buffer, so that many courses
 // share one, and a column for the steps that each command covers, empty where nobody wants them.
 fn walk_course(
@@ -95,23 +119,16 @@ fn walk_course(
     // What the chain holds at exit is left open.
     ensures { NotedPlaced (fit_by how rule start (lent_course kinds.now nums.now)) 0 result out_kinds.old out_kinds.new out_nums.old out_nums.new steps.old steps.new }
 {
-    let mut w = Walk::new(start);
     // The buffer may still hold the chain of another course.
     put_point(chain, 0, start);
-    for i in 0..kinds.len() {
-        let c = command_at(kinds, nums, i);
-        w = take_command(c, how, rule, w, chain, out_kinds, out_nums, steps);
-    }
-    let n = flush_by(
-        how,
-        rule,
-        &mut chain[..3 * w.points],
-        out_kinds,
-        out_nums,
+    let mut w = Walker {
+        at: Walk::new(start),
+        chain,
+        kinds: out_kinds,
+        nums: out_nums,
         steps,
-        w.written,
-    );
-    w.written + n
+    };
+    walk_along(kinds, nums, how, rule, &mut w)
 }
 
 // Fits a course from its start, notes how many steps each command covers, and answers how many commands there are.
@@ -168,31 +185,28 @@ pub fn fit_course(
     )
 }
 
-// Why a course is refused, or 0. An output's room is that of the smaller of its two slices.
+// Why a course is refused, if it is. An output's room is that of the smaller of its two slices.
 fn check_course(
     kinds: &[u8],
     nums: &[f64],
     tolerance: f64,
     out_kinds: usize,
     out_nums: usize,
-) -> u32
-    ensures { result ≡ refusal (arcs_rows kinds.now nums.now tolerance out_kinds out_nums) }
+) -> Result<(), Refusal>
+    ensures { refused_by result ≡ refusal (arcs_rows kinds.now nums.now tolerance out_kinds out_nums) }
 {
-    let refused = check_input(kinds, nums, tolerance, out_nums);
-    if refused != 0 {
-        return refused;
-    }
+    check_input(kinds, nums, tolerance, out_nums)?;
     let most = course_most(kinds, nums, Point3D::ZERO, tolerance);
     if Walk::MOST < most {
-        return 8;
+        return Err(Refusal::TooMuch);
     }
     if out_kinds < most {
-        return 9;
+        return Err(Refusal::NoRoom);
     }
     if out_nums / 9 < most {
-        return 9;
+        return Err(Refusal::NoRoom);
     }
-    0
+    Ok(())
 }
 
 // Fits lines and arcs to the commands' chains of points; Arcs are kept as they stand, and Beziers become points of a chain.
@@ -202,16 +216,13 @@ pub fn fit_arcs(
     tolerance: f64,
     out_kinds: &mut [u8],
     out_nums: &mut [f64],
-) -> Answer
+) -> Result<usize, Refusal>
     ensures { WroteCommands (arcs_call kinds.now nums.now tolerance (length out_kinds.old) (length out_nums.old)) out_kinds.old out_kinds.new out_nums.old out_nums.new result }
 {
-    let refused = check_course(kinds, nums, tolerance, out_kinds.len(), out_nums.len());
-    if refused != 0 {
-        return Answer::Refused(refused);
-    }
+    check_course(kinds, nums, tolerance, out_kinds.len(), out_nums.len())?;
     let mut chain = [0.0; Walk::CHAIN];
     let rule = Rule::of_laps(tolerance);
-    Answer::Written(fit_course(
+    Ok(fit_course(
         kinds,
         nums,
         Point3D::ZERO,
@@ -223,13 +234,15 @@ pub fn fit_arcs(
 }
 
 // How a path's chains are written.
+#[tactic(auto, unfolding(crate::specs::Walks::path_flush))]
 fn path_flush(use_fit_arcs: bool) -> Flush
     ensures { result ≡ path_flush use_fit_arcs }
 {
     if use_fit_arcs {
-        return Flush::AsItStands;
+        Flush::AsItStands
+    } else {
+        Flush::Lines
     }
-    Flush::Lines
 }
 
 // Optimises a path by thinning its chains of Lines, or by fitting lines and arcs to them; every other command is kept.
@@ -240,17 +253,14 @@ pub fn optimize_path_from_array(
     use_fit_arcs: bool,
     out_kinds: &mut [u8],
     out_nums: &mut [f64],
-) -> Answer
+) -> Result<usize, Refusal>
     ensures { WroteCommands (optimize_call kinds.now nums.now tolerance use_fit_arcs (length out_kinds.old) (length out_nums.old)) out_kinds.old out_kinds.new out_nums.old out_nums.new result }
 {
-    let refused = refuse_commands(kinds, nums, tolerance, out_kinds.len(), out_nums.len());
-    if refused != 0 {
-        return Answer::Refused(refused);
-    }
+    refuse_commands(kinds, nums, tolerance, out_kinds.len(), out_nums.len())?;
     let how = path_flush(use_fit_arcs);
     let rule = Rule::of_points(tolerance);
     let mut chain = [0.0; Walk::CHAIN];
-    Answer::Written(walk_course(
+    Ok(walk_course(
         kinds,
         nums,
         Point3D::ZERO,

@@ -1,42 +1,38 @@
--- What the fewest straights tell, from the case of their answer. Assumes nothing.
+-- What the fewest straights tell, from their answer. Assumes nothing.
 use Prim.Native.Nat.{ℕ}
 use mathlib.Core.Path.{◌≡◌, refl, sym, ap, ◌∙◌}
 use native.Mathlib.Omega.{arith}
 use lib.ListN.{length}
 use Rattle.geo.specs.Outcome.{Outcome, refused, gives}
 use Rattle.ways.specs.Layers.{Best}
-use Rattle.fewest.specs.declared.fewest.Straights.{Straights}
-use Rattle.fewest.specs.declared.fewest.Straights.TheVariants as straight
+use Rattle.fewest.specs.declared.fewest.Counts.{Counts}
 use Rattle.fewest.specs.Calls.{straights_answer}
 use Rattle.exports.specs.Plain.{Told}
 use Rattle.exports.proofs.Plain.{tells, tells_nothing}
 
-module _ (o : Outcome Best) (r : Straights) (e : r ≡ straights_answer o) (count tested bound : ℕ) where
+module _ (o : Outcome Best) (count tested bound : ℕ) where
   -- the three numbers afterwards, q being the refusal's number or 0
   abbrev AllTold : ℕ → ℕ → ℕ → ℕ → Type 0
   AllTold n k m q = Told (λ (b : Best). length b.ends) o count n q × Told (λ (b : Best). b.tested) o tested k q × Told (λ (b : Best). b.bound) o bound m q
 
-  pub tell_straights : (n k m : ℕ) → r ≡ straight.Are n k m → AllTold n k m 0
-  unfolding straights_answer
-  tell_straights n k m h = go o refl
+  pub tell_straights : (c : Counts) → gives c ≡ straights_answer o → AllTold c.count c.tested c.bound 0
+  tell_straights c e = go o refl e
     where
-      go : (u : Outcome Best) → o ≡ u → AllTold n k m 0
-      go (refused i) q = let d : straight.Are n k m ≡ straight.Refused i = sym h ∙ e ∙ ap straights_answer q in let z : ◌≡◌ {A = ℕ} 0 1 = cc in absurd (omega arith)
-      go (gives b) q =
-          let d : straight.Are n k m ≡ straight.Are (length b.ends) b.tested b.bound = sym h ∙ e ∙ ap straights_answer q in
-          let x : n ≡ length b.ends = cc in
-          let y : k ≡ b.tested = cc in
-          let z : m ≡ b.bound = cc in
-          (tells (λ (b : Best). length b.ends) o count b n q x, tells (λ (b : Best). b.tested) o tested b k q y, tells (λ (b : Best). b.bound) o bound b m q z)
+      go : (u : Outcome Best) → o ≡ u → gives c ≡ straights_answer u → AllTold c.count c.tested c.bound 0
+      go (refused i) q d = absurd (unfold straights_answer in let z : ◌≡◌ {A = ℕ} 0 1 = cc in omega arith)
+      go (gives b) q d =
+          let h : c ≡ record { count = length b.ends; tested = b.tested; bound = b.bound } = unfold straights_answer in cc in (
+            tells (λ (x : Best). length x.ends) o count b c.count (sym q) (ap (λ (x : Counts). x.count) h),
+            tells (λ (x : Best). x.tested) o tested b c.tested (sym q) (ap (λ (x : Counts). x.tested) h),
+            tells (λ (x : Best). x.bound) o bound b c.bound (sym q) (ap (λ (x : Counts). x.bound) h),
+          )
 
-  pub tell_no_straights : (i : ℕ) → r ≡ straight.Refused i → AllTold count tested bound i
-  unfolding straights_answer
-  tell_no_straights i h = go o refl
+  pub tell_no_straights : (i r : ℕ) → refused i ≡ straights_answer o → r ≡ i → AllTold count tested bound r
+  tell_no_straights i r e s = go o refl e
     where
-      go : (u : Outcome Best) → o ≡ u → AllTold count tested bound i
-      go (refused j) q =
-          let d : straight.Refused i ≡ straight.Refused j = sym h ∙ e ∙ ap straights_answer q in
-          let z : i ≡ j = cc in
-          let f : o ≡ refused i = q ∙ ap (λ (x : ℕ). refused x) (sym z) in
-          (tells_nothing (λ (b : Best). length b.ends) o count i f, tells_nothing (λ (b : Best). b.tested) o tested i f, tells_nothing (λ (b : Best). b.bound) o bound i f)
-      go (gives b) q = let d : straight.Refused i ≡ straight.Are (length b.ends) b.tested b.bound = sym h ∙ e ∙ ap straights_answer q in let z : ◌≡◌ {A = ℕ} 0 1 = cc in absurd (omega arith)
+      go : (u : Outcome Best) → o ≡ u → refused i ≡ straights_answer u → AllTold count tested bound r
+      go (refused j) q d =
+          let z : i ≡ j = unfold straights_answer in cc in
+          let f : refused i ≡ o = ap (λ (x : ℕ). refused x) z ∙ sym q in
+          (tells_nothing (λ (x : Best). length x.ends) o count i r f s, tells_nothing (λ (x : Best). x.tested) o tested i r f s, tells_nothing (λ (x : Best). x.bound) o bound i r f s)
+      go (gives b) q d = absurd (unfold straights_answer in let z : ◌≡◌ {A = ℕ} 0 1 = cc in omega arith)

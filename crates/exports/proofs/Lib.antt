@@ -1,4 +1,3 @@
-pub mod Answers
 pub mod Plain
 pub mod Runs
 pub mod LiveThinner

@@ -1,22 +1,17 @@
 -- What a call gives to a caller that knows numbers only: 0, with the answer's numbers in lent memory, or the number of its refusal. Definitions only.
-use Rattle.std.specs.Prelude.{ℕ, ◌≡◌, Bool, true, false, List, [], ◌++◌, map, length, Float}
-use Rattle.std.proofs.Math.Option.{Option, none, some}
+use Rattle.std.specs.Prelude.{ℕ, ◌≡◌, Bool, true, false, List, [], ◌++◌, map, length, Float, Option, Some, None, Result, Ok, Err}
 use Rattle.std.proofs.lemmas.List.Edits.{sets}
 use Rattle.geo.specs.declared.types.Point.{Point}
 use Rattle.geo.specs.declared.types.Point3D.{Point3D}
 use Rattle.geo.specs.declared.types.CubicBezier.{CubicBezier}
-use Rattle.geo.specs.declared.types.Answer.{Answer}
-use Rattle.geo.specs.declared.types.Answer.TheVariants as Answer·
+use Rattle.geo.specs.declared.refusal.Refusal.{Refusal}
 use Rattle.geo.specs.declared.types.Command.{Command}
 use Rattle.geo.specs.Lent.{pair, triple, flat, kind_of, numbers_of}
 use Rattle.geo.specs.Outcome.{Outcome, refused, gives, left}
+use Rattle.geo.specs.Refusal.{refused_by}
 use Rattle.bezier.specs.declared.bezier.Halves.{Halves}
-use Rattle.subdivision.specs.declared.subdivision.Tolerance.{Tolerance}
-use Rattle.subdivision.specs.declared.subdivision.Tolerance.TheVariants.{Given, Default}
-use Rattle.fit_cubic.specs.declared.fit_cubic.FittedCubic.{FittedCubic}
-use Rattle.fit_cubic.specs.declared.fit_cubic.FittedCubic.TheVariants.{Curve, None, Refused}
-use Rattle.circle.specs.Three.{Circle}
-use Rattle.circle.specs.Kasa.{LeastSquares}
+use Rattle.circle.specs.declared.circle.Circle.{Circle}
+use Rattle.circle.specs.declared.circle.LeastSquares.{LeastSquares}
 
 -- ---- points from their numbers
 abbrev pub plane_point : Float → Float → Point
@@ -26,42 +21,36 @@ abbrev pub point3 : Float → Float → Float → Point3D
 point3 x y z = record { x = x; y = y; z = z }
 
 -- ---- curves as numbers: four points of two, and both parts one behind the other
-abbrev pub eight : CubicBezier → List Float
+abbrev pub eight : CubicBezier Point → List Float
 eight q = pair q.0 ++ pair q.1 ++ pair q.2 ++ pair q.3
 
-abbrev pub sixteen : Halves → List Float
+abbrev pub sixteen : Halves Point → List Float
 sixteen h = eight h.left ++ eight h.right
 
--- a fitted curve, if there is one
-unfoldable pub is_curve : FittedCubic → Bool
-is_curve (Curve q) = true
-is_curve None = false
-is_curve (Refused n) = false
-
-unfoldable pub curve_numbers : FittedCubic → List Float
-curve_numbers (Curve q) = eight q
-curve_numbers None = []
-curve_numbers (Refused n) = []
-
--- a circle, or none: whether there is one
+-- a curve or a circle, or none: whether there is one
 unfoldable pub is_found : {A : Type 0} → Option A → Bool
-is_found (some a) = true
-is_found none = false
+is_found (Some a) = true
+is_found None = false
+
+-- the fitted curve
+unfoldable pub curve_numbers : Option (CubicBezier Point) → List Float
+curve_numbers (Some q) = eight q
+curve_numbers None = []
 
 -- the circle through three points: centre and radius
 unfoldable pub through_numbers : Option Circle → List Float
-through_numbers (some c) = triple (point3 c.center.x c.center.y c.radius)
-through_numbers none = []
+through_numbers (Some c) = triple (point3 c.center.x c.center.y c.radius)
+through_numbers None = []
 
 -- the circle of least squares: centre, radius and greatest error
 unfoldable pub circle_numbers : Option LeastSquares → List Float
-circle_numbers (some c) = pair c.center ++ pair (plane_point c.radius c.error)
-circle_numbers none = []
+circle_numbers (Some c) = pair c.center ++ pair (plane_point c.radius c.error)
+circle_numbers None = []
 
 -- ---- a tolerance that is given, or else the source's
-unfoldable pub tolerance_by : Bool → Float → Tolerance
-tolerance_by true t = Given t
-tolerance_by false t = Default
+unfoldable pub tolerance_by : Bool → Float → Option Float
+tolerance_by true t = Some t
+tolerance_by false t = None
 
 -- ---- an outcome in plain numbers
 
@@ -80,14 +69,10 @@ unfoldable pub told : {A B : Type 0} → (A → B) → B → Outcome A → B
 told of b (refused n) = b
 told of b (gives a) = of a
 
--- an answer's refusal, or 0; and its count, or what stood there
-unfoldable pub refused_by : Answer → ℕ
-refused_by (Answer·.Written n) = 0
-refused_by (Answer·.Refused n) = n
-
-unfoldable pub count_or : ℕ → Answer → ℕ
-count_or count (Answer·.Written n) = n
-count_or count (Answer·.Refused n) = count
+-- the count that a result says, or what stood there
+unfoldable pub count_or : ℕ → Result ℕ Refusal → ℕ
+count_or count (Ok n) = n
+count_or count (Err cause) = count
 
 -- ---- the promises
 
@@ -102,7 +87,7 @@ pub record Told {A B : Type 0} (of : A → B) (o : Outcome A) (b b' : B) (r : �
   pub leaves : b' ≡ told of b o
 
 -- a count or a refusal, handed on to a lent number or back
-pub record Handed (a : Answer) (count count' : ℕ) (r : ℕ) : Type 0 where
+pub record Handed (a : Result ℕ Refusal) (count count' : ℕ) (r : ℕ) : Type 0 where
   pub says : r ≡ refused_by a
   pub leaves : count' ≡ count_or count a
 

@@ -2,7 +2,6 @@
 ghost use Rattle.arc.specs.Direction.{direction_call};
 ghost use Rattle.exports.specs.Plain.{plane_point, Told};
 
-use arc::arc::Direction;
 use geo::types::Point;
 
 // Whether points go clockwise round a centre.
@@ -11,12 +10,11 @@ pub extern "C" fn pz_is_arc_clockwise(points: &[f64], cx: f64, cy: f64, clockwis
     ensures { Told (λ b. b) (direction_call points.now (plane_point cx cy)) clockwise.old clockwise.new result }
 {
     let center = Point { x: cx, y: cy };
-    let d = arc::arc::is_arc_clockwise(points, center);
-    match d {
-        Direction::Clockwise(b) => {
+    match arc::arc::is_arc_clockwise(points, center) {
+        Ok(b) => {
             *clockwise = b;
             0
         }
-        Direction::Refused(n) => n,
+        Err(cause) => u32::from(cause),
     }
 }

@@ -6,16 +6,13 @@ ghost use Rattle.bezier.specs.Linearize.{six};
 ghost use Rattle.bezier.specs.Calls.{point_call, split_call, linearize_call, param_call};
 ghost use Rattle.subdivision.specs.Calls.{flat_call, adaptive_call, segment_call};
 ghost use Rattle.fit_cubic.specs.Calls.{cubic_call};
-ghost use Rattle.exports.specs.Plain.{plane_point, point3, eight, sixteen, is_curve, curve_numbers, tolerance_by, Gave, Told, Listed};
+ghost use Rattle.exports.specs.Plain.{plane_point, point3, eight, sixteen, is_found, curve_numbers, tolerance_by, Gave, Told, Listed};
 
 use crate::counts::hand_on;
-use bezier::bezier::{BezierPoint, BezierSplit};
-use fit_cubic::fit_cubic::FittedCubic;
 use geo::lent::put_pair;
 use geo::types::{CubicBezier, Point, Point3D};
-use subdivision::subdivision::{Flatness, Tolerance};
 
-// The plane_point at t of a curve in the plane.
+// The point at t of a curve in the plane.
 #[unsafe(no_mangle)]
 pub extern "C" fn pz_get_bezier_point_at(
     p0x: f64,
@@ -35,18 +32,17 @@ pub extern "C" fn pz_get_bezier_point_at(
     let c1 = Point { x: c1x, y: c1y };
     let c2 = Point { x: c2x, y: c2y };
     let p1 = Point { x: p1x, y: p1y };
-    let a = bezier::bezier::get_bezier_point_at(p0, c1, c2, p1, t);
-    match a {
-        BezierPoint::At(p) => {
+    match bezier::bezier::get_bezier_point_at(p0, c1, c2, p1, t) {
+        Ok(p) => {
             put_pair(answer, 0, p);
             0
         }
-        BezierPoint::Refused(n) => n,
+        Err(cause) => u32::from(cause),
     }
 }
 
 // Writes the eight numbers of a curve from `at` on.
-fn put_curve(out: &mut [f64], at: usize, q: CubicBezier)
+fn put_curve(out: &mut [f64], at: usize, q: CubicBezier<Point>)
     requires { at + 7 < length out.old }
     ensures { out.new ≡ sets out.old at (eight q) }
 {
@@ -76,14 +72,13 @@ pub extern "C" fn pz_split_bezier(
     let c1 = Point { x: c1x, y: c1y };
     let c2 = Point { x: c2x, y: c2y };
     let p1 = Point { x: p1x, y: p1y };
-    let a = bezier::bezier::split_bezier(p0, c1, c2, p1, t);
-    match a {
-        BezierSplit::Halves(left, right) => {
-            put_curve(answer, 0, left);
-            put_curve(answer, 8, right);
+    match bezier::bezier::split_bezier(p0, c1, c2, p1, t) {
+        Ok(halves) => {
+            put_curve(answer, 0, halves.left);
+            put_curve(answer, 8, halves.right);
             0
         }
-        BezierSplit::Refused(n) => n,
+        Err(cause) => u32::from(cause),
     }
 }
 
@@ -107,13 +102,12 @@ pub extern "C" fn pz_is_bezier_flat(
     let c1 = Point { x: c1x, y: c1y };
     let c2 = Point { x: c2x, y: c2y };
     let p1 = Point { x: p1x, y: p1y };
-    let a = subdivision::subdivision::is_bezier_flat(p0, c1, c2, p1, tolerance_sq);
-    match a {
-        Flatness::Is(b) => {
+    match subdivision::subdivision::is_bezier_flat(p0, c1, c2, p1, tolerance_sq) {
+        Ok(b) => {
             *flat = b;
             0
         }
-        Flatness::Refused(n) => n,
+        Err(cause) => u32::from(cause),
     }
 }
 
@@ -158,8 +152,10 @@ pub extern "C" fn pz_linearize_bezier(
         y: p1y,
         z: p1z,
     };
-    let a = bezier::bezier::linearize_bezier(p0, c1, c2, p1, num_steps, out);
-    hand_on(a, count)
+    hand_on(
+        bezier::bezier::linearize_bezier(p0, c1, c2, p1, num_steps, out),
+        count,
+    )
 }
 
 // A curve from a command's numbers, as steps of the resolution.
@@ -203,8 +199,10 @@ pub extern "C" fn pz_linearize_bezier_from_params(
         y: sy,
         z: sz,
     };
-    let a = bezier::bezier::linearize_bezier_from_params(end, c1, c2, start, resolution, out);
-    hand_on(a, count)
+    hand_on(
+        bezier::bezier::linearize_bezier_from_params(end, c1, c2, start, resolution, out),
+        count,
+    )
 }
 
 // A curve in the plane as the ends of flat parts.
@@ -229,26 +227,26 @@ pub extern "C" fn pz_linearize_bezier_adaptive(
     let c1 = Point { x: c1x, y: c1y };
     let c2 = Point { x: c2x, y: c2y };
     let p1 = Point { x: p1x, y: p1y };
-    let a = subdivision::subdivision::linearize_bezier_adaptive(
-        p0,
-        c1,
-        c2,
-        p1,
-        tolerance_sq,
-        max_depth,
-        out,
-    );
-    hand_on(a, count)
+    hand_on(
+        subdivision::subdivision::linearize_bezier_adaptive(
+            p0,
+            c1,
+            c2,
+            p1,
+            tolerance_sq,
+            max_depth,
+            out,
+        ),
+        count,
+    )
 }
 
 // The given tolerance, or the source's own.
-fn tolerance_by(given: bool, t: f64) -> Tolerance
+#[tactic(auto, unfolding(crate::specs::Plain::tolerance_by))]
+fn tolerance_by(given: bool, t: f64) -> Option<f64>
     ensures { result ≡ tolerance_by given t }
 {
-    if given {
-        return Tolerance::Given(t);
-    }
-    Tolerance::Default
+    if given { Some(t) } else { None }
 }
 
 // A curve in space as the ends of flat parts.
@@ -294,8 +292,10 @@ pub extern "C" fn pz_linearize_bezier_segment(
         z: p1z,
     };
     let t = tolerance_by(given, tolerance);
-    let a = subdivision::subdivision::linearize_bezier_segment(p0, c1, c2, p1, t, out);
-    hand_on(a, count)
+    hand_on(
+        subdivision::subdivision::linearize_bezier_segment(p0, c1, c2, p1, t, out),
+        count,
+    )
 }
 
 // The curve fitted to points in the plane, if there is one.
@@ -305,20 +305,19 @@ pub extern "C" fn pz_fit_cubic_bezier(
     found: &mut bool,
     answer: &mut [f64; 8],
 ) -> u32
-    ensures found { Told is_curve (cubic_call points.now) found.old found.new result }
+    ensures found { Told is_found (cubic_call points.now) found.old found.new result }
     ensures answer { Gave curve_numbers (cubic_call points.now) answer.old answer.new result }
 {
-    let a = fit_cubic::fit_cubic::fit_cubic_bezier(points);
-    match a {
-        FittedCubic::Curve(q) => {
+    match fit_cubic::fit_cubic::fit_cubic_bezier(points) {
+        Ok(Some(q)) => {
             put_curve(answer, 0, q);
             *found = true;
             0
         }
-        FittedCubic::None => {
+        Ok(None) => {
             *found = false;
             0
         }
-        FittedCubic::Refused(n) => n,
+        Err(cause) => u32::from(cause),
     }
 }

@@ -4,7 +4,6 @@ ghost use Rattle.geo.specs.Lent.{pair};
 ghost use Rattle.circle.specs.Calls.{collinear_call, through_call, fitted_call, projected_call};
 ghost use Rattle.exports.specs.Plain.{plane_point, point3, is_found, through_numbers, circle_numbers, Gave, Told};
 
-use circle::circle::{CircleThrough, Collinear, FittedCircle, Projected};
 use geo::lent::{put_pair, put_point};
 use geo::types::{Point, Point3D};
 
@@ -17,13 +16,12 @@ pub extern "C" fn pz_are_points_collinear_3d(
 ) -> u32
     ensures { Told (λ b. b) (collinear_call points.now tolerance) collinear.old collinear.new result }
 {
-    let a = circle::circle::are_points_collinear_3d(points, tolerance);
-    match a {
-        Collinear::Is(b) => {
+    match circle::circle::are_points_collinear_3d(points, tolerance) {
+        Ok(b) => {
             *collinear = b;
             0
         }
-        Collinear::Refused(n) => n,
+        Err(cause) => u32::from(cause),
     }
 }
 
@@ -60,23 +58,22 @@ pub extern "C" fn pz_fit_circle_to_3_points(
         y: p3y,
         z: p3z,
     };
-    let a = circle::circle::fit_circle_to_3_points(p1, p2, p3);
-    match a {
-        CircleThrough::Around { center, radius } => {
+    match circle::circle::fit_circle_to_3_points(p1, p2, p3) {
+        Ok(Some(circle)) => {
             let three = Point3D {
-                x: center.x,
-                y: center.y,
-                z: radius,
+                x: circle.center.x,
+                y: circle.center.y,
+                z: circle.radius,
             };
             put_point(answer, 0, three);
             *found = true;
             0
         }
-        CircleThrough::None => {
+        Ok(None) => {
             *found = false;
             0
         }
-        CircleThrough::Refused(n) => n,
+        Err(cause) => u32::from(cause),
     }
 }
 
@@ -90,27 +87,22 @@ pub extern "C" fn pz_fit_circle_to_points_3d(
     ensures found { Told is_found (fitted_call points.now) found.old found.new result }
     ensures answer { Gave circle_numbers (fitted_call points.now) answer.old answer.new result }
 {
-    let a = circle::circle::fit_circle_to_points_3d(points);
-    match a {
-        FittedCircle::Circle {
-            center,
-            radius,
-            error,
-        } => {
-            put_pair(answer, 0, center);
+    match circle::circle::fit_circle_to_points_3d(points) {
+        Ok(Some(circle)) => {
+            put_pair(answer, 0, circle.center);
             let rest = Point {
-                x: radius,
-                y: error,
+                x: circle.radius,
+                y: circle.error,
             };
             put_pair(answer, 2, rest);
             *found = true;
             0
         }
-        FittedCircle::None => {
+        Ok(None) => {
             *found = false;
             0
         }
-        FittedCircle::Refused(n) => n,
+        Err(cause) => u32::from(cause),
     }
 }
 
@@ -140,12 +132,11 @@ pub extern "C" fn pz_project_circle_center_to_bisector(
         z: p2z,
     };
     let center = Point { x: cx, y: cy };
-    let a = circle::circle::project_circle_center_to_bisector(p1, p2, center);
-    match a {
-        Projected::At(p) => {
+    match circle::circle::project_circle_center_to_bisector(p1, p2, center) {
+        Ok(p) => {
             put_pair(answer, 0, p);
             0
         }
-        Projected::Refused(n) => n,
+        Err(cause) => u32::from(cause),
     }
 }

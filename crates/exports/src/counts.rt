@@ -1,17 +1,18 @@
 // Answers that are a count or a refusal.
 ghost use Rattle.exports.specs.Plain.{Handed};
 
-use geo::types::Answer;
+use geo::refusal::Refusal;
 
-// Hands an answer on: the count to `count`, or the refusal's number back.
-pub fn hand_on(a: Answer, count: &mut usize) -> u32
+// Hands an answer on: the count to `count`, or the number of the refusal back.
+#[tactic(auto, unfolding(crate::specs::Plain::count_or))]
+pub fn hand_on(a: Result<usize, Refusal>, count: &mut usize) -> u32
     ensures { Handed a count.old count.new result }
 {
     match a {
-        Answer::Written(n) => {
+        Ok(n) => {
             *count = n;
             0
         }
-        Answer::Refused(n) => n,
+        Err(cause) => u32::from(cause),
     }
 }

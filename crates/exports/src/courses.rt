@@ -17,8 +17,10 @@ pub extern "C" fn pz_fit_arcs(
 ) -> u32
     ensures { ListedCommands (arcs_call kinds.now nums.now tolerance (length out_kinds.old) (length out_nums.old)) out_kinds.old out_kinds.new out_nums.old out_nums.new count.old count.new result }
 {
-    let a = course::course::fit_arcs(kinds, nums, tolerance, out_kinds, out_nums);
-    hand_on(a, count)
+    hand_on(
+        course::course::fit_arcs(kinds, nums, tolerance, out_kinds, out_nums),
+        count,
+    )
 }
 
 // Thins or fits the chains of Lines of a path.
@@ -34,13 +36,15 @@ pub extern "C" fn pz_optimize_path_from_array(
 ) -> u32
     ensures { ListedCommands (optimize_call kinds.now nums.now tolerance use_fit_arcs (length out_kinds.old) (length out_nums.old)) out_kinds.old out_kinds.new out_nums.old out_nums.new count.old count.new result }
 {
-    let a = course::course::optimize_path_from_array(
-        kinds,
-        nums,
-        tolerance,
-        use_fit_arcs,
-        out_kinds,
-        out_nums,
-    );
-    hand_on(a, count)
+    hand_on(
+        course::course::optimize_path_from_array(
+            kinds,
+            nums,
+            tolerance,
+            use_fit_arcs,
+            out_kinds,
+            out_nums,
+        ),
+        count,
+    )
 }

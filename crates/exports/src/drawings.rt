@@ -10,6 +10,5 @@ use crate::counts::hand_on;
 pub extern "C" fn pz_read_course(text: &[u8], out: &mut [u8], count: &mut usize) -> u32
     ensures { Listed (λ (bytes : List ℕ). bytes) (read_course text.now (length out.old)) out.old out.new count.old count.new result }
 {
-    let a = svg::reading::read_course(text, out);
-    hand_on(a, count)
+    hand_on(svg::reading::read_course(text, out), count)
 }

@@ -6,11 +6,9 @@ ghost use Rattle.fitting.specs.Calls.{fit_call, worst_call, primitives_call, pri
 ghost use Rattle.exports.specs.Plain.{plane_point, Told, ListedCommands};
 
 use crate::counts::hand_on;
-use deviations::deviations::{ArcDeviation, LineDeviation};
-use fitting::fitting::Primitives;
 use geo::types::Point;
 
-// The greatest distance of a plane_point from the line through the points at start and end, and the first plane_point that has it.
+// The greatest distance of a point from the line through the points at start and end, and the first point that has it.
 #[unsafe(no_mangle)]
 pub extern "C" fn pz_get_polyline_line_deviation(
     points: &[f64],
@@ -22,14 +20,13 @@ pub extern "C" fn pz_get_polyline_line_deviation(
     ensures dist { Told (λ w. w.dist) (line_call points.now start end) dist.old dist.new result }
     ensures index { Told (λ w. w.index) (line_call points.now start end) index.old index.new result }
 {
-    let a = deviations::deviations::get_polyline_line_deviation(points, start, end);
-    match a {
-        LineDeviation::Is(w) => {
+    match deviations::deviations::get_polyline_line_deviation(points, start, end) {
+        Ok(w) => {
             *dist = w.dist;
             *index = w.index;
             0
         }
-        LineDeviation::Refused(n) => n,
+        Err(cause) => u32::from(cause),
     }
 }
 
@@ -47,14 +44,13 @@ pub extern "C" fn pz_get_polyline_arc_deviation(
     ensures index { Told (λ w. w.index) (arc_call points.now (plane_point cx cy) radius) index.old index.new result }
 {
     let center = Point { x: cx, y: cy };
-    let a = deviations::deviations::get_polyline_arc_deviation(points, center, radius);
-    match a {
-        ArcDeviation::Is(worst) => {
+    match deviations::deviations::get_polyline_arc_deviation(points, center, radius) {
+        Ok(worst) => {
             *dist = worst.dist;
             *index = worst.index;
             0
         }
-        ArcDeviation::Refused(n) => n,
+        Err(cause) => u32::from(cause),
     }
 }
 
@@ -73,10 +69,10 @@ pub extern "C" fn pz_fit_points_recursive(
     ensures commands { ListedCommands (fit_call points.now tolerance start end (length kinds.old) (length nums.old) (length worst.old)) kinds.old kinds.new nums.old nums.new count.old count.new result }
     ensures worst { worst.new ≡ left (λ ws. ws) worst.old (worst_call points.now tolerance start end (length kinds.old) (length nums.old) (length worst.old)) }
 {
-    let a = fitting::fitting::fit_points_recursive(
-        points, tolerance, start, end, kinds, nums, worst,
-    );
-    hand_on(a, count)
+    hand_on(
+        fitting::fitting::fit_points_recursive(points, tolerance, start, end, kinds, nums, worst),
+        count,
+    )
 }
 
 // Fits all points, and tells how many ranges were examined; beside each command the worst step of an Arc, 0 for a Line.
@@ -94,16 +90,12 @@ pub extern "C" fn pz_fit_points_with_primitives(
     ensures ranges { Told (λ _. examined points.now tolerance) (primitives_call points.now tolerance (length kinds.old) (length nums.old) (length worst.old)) ranges.old ranges.new result }
     ensures worst { worst.new ≡ left (λ ws. ws) worst.old (primitives_worst points.now tolerance (length kinds.old) (length nums.old) (length worst.old)) }
 {
-    let a = fitting::fitting::fit_points_with_primitives(points, tolerance, kinds, nums, worst);
-    match a {
-        Primitives::Fitted {
-            count: n,
-            ranges: looked,
-        } => {
-            *count = n;
-            *ranges = looked;
+    match fitting::fitting::fit_points_with_primitives(points, tolerance, kinds, nums, worst) {
+        Ok(fit) => {
+            *count = fit.count;
+            *ranges = fit.ranges;
             0
         }
-        Primitives::Refused(n) => n,
+        Err(cause) => u32::from(cause),
     }
 }

@@ -22,6 +22,8 @@ pub extern "C" fn pz_flatten_arc(
     ensures { ListedCommands (flatten_call kind command.now (point3 x y z) tolerance (length kinds.old) (length nums.old)) kinds.old kinds.new nums.old nums.new count.old count.new result }
 {
     let start = Point3D { x, y, z };
-    let a = flatten::flatten::flatten_arc(kind, command, start, tolerance, kinds, nums);
-    hand_on(a, count)
+    hand_on(
+        flatten::flatten::flatten_arc(kind, command, start, tolerance, kinds, nums),
+        count,
+    )
 }

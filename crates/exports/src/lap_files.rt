@@ -16,8 +16,7 @@ pub extern "C" fn pz_fit_file(
 ) -> u32
     ensures { Listed (λ (bytes : List ℕ). bytes) (fit_file recorded.now tolerance (length out.old)) out.old out.new count.old count.new result }
 {
-    let a = lap_fit::fit::fit_file(recorded, tolerance, out);
-    hand_on(a, count)
+    hand_on(lap_fit::fit::fit_file(recorded, tolerance, out), count)
 }
 
 // Fits each lap of a recorded file for hills: straights alone, by the distance in x, y and z.
@@ -30,8 +29,7 @@ pub extern "C" fn pz_fit_hills(
 ) -> u32
     ensures { Listed (λ (bytes : List ℕ). bytes) (hill_file recorded.now tolerance (length out.old)) out.old out.new count.old count.new result }
 {
-    let a = lap_fit::fit::fit_hills(recorded, tolerance, out);
-    hand_on(a, count)
+    hand_on(lap_fit::fit::fit_hills(recorded, tolerance, out), count)
 }
 
 // Replaces one lap of a fitted file.
@@ -48,6 +46,8 @@ pub extern "C" fn pz_replace_lap(
 ) -> u32
     ensures { Listed (λ (bytes : List ℕ). bytes) (replace_lap recorded.now fitted.now lap kinds.now nums.now tolerance (length out.old)) out.old out.new count.old count.new result }
 {
-    let a = lap_replace::replace::replace_lap(recorded, fitted, lap, kinds, nums, tolerance, out);
-    hand_on(a, count)
+    hand_on(
+        lap_replace::replace::replace_lap(recorded, fitted, lap, kinds, nums, tolerance, out),
+        count,
+    )
 }

@@ -5,8 +5,7 @@ ghost use Rattle.geo.specs.Outcome.{left};
 ghost use Rattle.lap_session.specs.Session.{ask_lap, bytes_asked, commit_lap, bytes_stored};
 ghost use Rattle.exports.specs.SessionState.{lent_session, lent_ticket, TicketLent, CommitLent};
 
-use geo::types::Answer;
-use lap_session::session::{Asked, Session, Ticket};
+use lap_session::session::{Session, Ticket};
 
 // Fits the laps that a replacement would fit again to the front of the buffer, and writes the whole ticket.
 #[unsafe(no_mangle)]
@@ -29,11 +28,10 @@ pub extern "C" fn pz_ask_lap(
     ensures bytes { buffer.new ≡ left (λ (bytes : List ℕ). bytes) buffer.old (bytes_asked (ask_lap recorded.now fitted.now (lent_session edits) lap kinds.now nums.now tolerance (length buffer.old))) }
 {
     let session = Session { edits };
-    let a = lap_session::session::ask_lap(
+    match lap_session::session::ask_lap(
         recorded, fitted, session, lap, kinds, nums, tolerance, buffer,
-    );
-    match a {
-        Asked::Given(t) => {
+    ) {
+        Ok(t) => {
             *ticket_lap = t.lap;
             *ticket_tolerance = t.tolerance;
             *ticket_edit = t.edit;
@@ -41,7 +39,7 @@ pub extern "C" fn pz_ask_lap(
             *ticket_next = t.next;
             0
         }
-        Asked::Refused(n) => n,
+        Err(cause) => u32::from(cause),
     }
 }
 
@@ -70,16 +68,13 @@ pub extern "C" fn pz_commit_lap(
         count,
         next,
     };
-    let session = Session { edits: *edits };
-    let done = lap_session::session::commit_lap(ticket, session, recorded, fitted, part, out);
-    let after = done.session;
-    let a = done.answer;
-    match a {
-        Answer::Written(n) => {
-            *edits = after.edits;
+    let mut session = Session { edits: *edits };
+    match lap_session::session::commit_lap(ticket, &mut session, recorded, fitted, part, out) {
+        Ok(n) => {
+            *edits = session.edits;
             *written = n;
             0
         }
-        Answer::Refused(n) => n,
+        Err(cause) => u32::from(cause),
     }
 }

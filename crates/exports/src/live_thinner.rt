@@ -5,8 +5,7 @@ ghost use Rattle.live.specs.Calls.{feed, retune, close, live_call};
 ghost use Rattle.exports.specs.LiveState.{point_of, lent_state, start_call, Began, Kept, Retold, Ended, Shut};
 
 use geo::lent::{point_at, put_point};
-use geo::types::Answer;
-use live::live::{End, Live};
+use live::live::Live;
 
 // Starts a thinner: all of its state is written.
 #[unsafe(no_mangle)]
@@ -19,17 +18,17 @@ pub extern "C" fn pz_live_start(
 ) -> u32
     ensures { Began (start_call tolerance) kept.old kept.new points.old points.new count.old count.new closed.old closed.new result }
 {
-    let s = Live::start(tolerance);
-    if s.refused != 0 {
-        return s.refused;
+    match Live::start(tolerance) {
+        Ok(state) => {
+            let ps = state.points;
+            *kept = state.tolerance;
+            *points = ps;
+            *count = state.count;
+            *closed = 0;
+            0
+        }
+        Err(cause) => u32::from(cause),
     }
-    let state = s.state;
-    let ps = state.points;
-    *kept = state.tolerance;
-    *points = ps;
-    *count = state.count;
-    *closed = 0;
-    0
 }
 
 // Feeds a point: the end that it hands out, if there is one, goes to `end`, and how many there are to `handed`.
@@ -47,32 +46,29 @@ pub extern "C" fn pz_live_feed(
     ensures end { Ended (live_call (lent_state tolerance points.old count.old closed) (feed (point_of point.now))) end.old end.new handed.old handed.new result }
 {
     let ps = *points;
-    let state = Live {
+    let mut state = Live {
         tolerance,
         points: ps,
         count: *count,
         closed: closed != 0,
     };
-    let fed = state.feed(point_at(point, 0));
-    let next = fed.state;
-    let e = fed.end;
-    match e {
-        End::At(p) => {
+    match state.feed(point_at(point, 0)) {
+        Ok(Some(p)) => {
             put_point(end, 0, p);
             *handed = 1;
-            let qs = next.points;
+            let qs = state.points;
             *points = qs;
-            *count = next.count;
+            *count = state.count;
             0
         }
-        End::Nothing => {
+        Ok(None) => {
             *handed = 0;
-            let qs = next.points;
+            let qs = state.points;
             *points = qs;
-            *count = next.count;
+            *count = state.count;
             0
         }
-        End::Refused(n) => n,
+        Err(cause) => u32::from(cause),
     }
 }
 
@@ -90,27 +86,25 @@ pub extern "C" fn pz_live_close(
     ensures end { Ended (live_call (lent_state tolerance points.now count closed.old) close) end.old end.new handed.old handed.new result }
 {
     let ps = *points;
-    let state = Live {
+    let mut state = Live {
         tolerance,
         points: ps,
         count,
         closed: *closed != 0,
     };
-    let fed = state.close();
-    let e = fed.end;
-    match e {
-        End::At(p) => {
+    match state.close() {
+        Ok(Some(p)) => {
             put_point(end, 0, p);
             *handed = 1;
             *closed = 1;
             0
         }
-        End::Nothing => {
+        Ok(None) => {
             *handed = 0;
             *closed = 1;
             0
         }
-        End::Refused(n) => n,
+        Err(cause) => u32::from(cause),
     }
 }
 
@@ -129,24 +123,21 @@ pub extern "C" fn pz_live_retune(
     ensures ends { Retold (live_call (lent_state tolerance.old points.old count.old closed) (retune finer (length out.old))) tolerance.old tolerance.new out.old out.new handed.old handed.new result }
 {
     let ps = *points;
-    let state = Live {
+    let mut state = Live {
         tolerance: *tolerance,
         points: ps,
         count: *count,
         closed: closed != 0,
     };
-    let tuned = state.retune(finer, out);
-    let next = tuned.state;
-    let a = tuned.answer;
-    match a {
-        Answer::Written(n) => {
+    match state.retune(finer, out) {
+        Ok(n) => {
             *handed = n;
-            *tolerance = next.tolerance;
-            let qs = next.points;
+            *tolerance = state.tolerance;
+            let qs = state.points;
             *points = qs;
-            *count = next.count;
+            *count = state.count;
             0
         }
-        Answer::Refused(n) => n,
+        Err(cause) => u32::from(cause),
     }
 }

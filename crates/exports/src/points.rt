@@ -4,7 +4,6 @@ ghost use Rattle.geo.specs.Midpoint.{midpoint_call};
 ghost use Rattle.exports.specs.Plain.{point3, Gave};
 
 use geo::lent::put_point;
-use geo::point::Midpoint;
 use geo::types::Point3D;
 
 // The midpoint of two points.
@@ -30,12 +29,11 @@ pub extern "C" fn pz_get_midpoint_3d(
         y: by,
         z: bz,
     };
-    let m = geo::point::get_midpoint_3d(a, b);
-    match m {
-        Midpoint::At(p) => {
+    match geo::point::get_midpoint_3d(a, b) {
+        Ok(p) => {
             put_point(answer, 0, p);
             0
         }
-        Midpoint::Refused(n) => n,
+        Err(cause) => u32::from(cause),
     }
 }

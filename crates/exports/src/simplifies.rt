@@ -16,8 +16,10 @@ pub extern "C" fn pz_simplify_polyline(
 ) -> u32
     ensures { Listed (flat pair) (simplify_polyline points.now tolerance (length out.old)) out.old out.new count.old count.new result }
 {
-    let a = simplify::simplify::simplify_polyline(points, tolerance, out);
-    hand_on(a, count)
+    hand_on(
+        simplify::simplify::simplify_polyline(points, tolerance, out),
+        count,
+    )
 }
 
 // Thins points in space.
@@ -30,8 +32,10 @@ pub extern "C" fn pz_simplify_polyline_3d(
 ) -> u32
     ensures { Listed (flat triple) (simplify_polyline3d points.now tolerance (length out.old)) out.old out.new count.old count.new result }
 {
-    let a = simplify::simplify::simplify_polyline_3d(points, tolerance, out);
-    hand_on(a, count)
+    hand_on(
+        simplify::simplify::simplify_polyline_3d(points, tolerance, out),
+        count,
+    )
 }
 
 // Thins commands.
@@ -46,6 +50,8 @@ pub extern "C" fn pz_simplify_data(
 ) -> u32
     ensures { ListedCommands (simplify_data kinds.now nums.now tolerance (length out_kinds.old) (length out_nums.old)) out_kinds.old out_kinds.new out_nums.old out_nums.new count.old count.new result }
 {
-    let a = simplify::simplify::simplify_data(kinds, nums, tolerance, out_kinds, out_nums);
-    hand_on(a, count)
+    hand_on(
+        simplify::simplify::simplify_data(kinds, nums, tolerance, out_kinds, out_nums),
+        count,
+    )
 }

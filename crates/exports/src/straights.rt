@@ -6,8 +6,6 @@ ghost use Rattle.fewest.specs.Straights.{numbers_at};
 ghost use Rattle.fewest.specs.Calls.{straights_call, ends_given};
 ghost use Rattle.exports.specs.Plain.{Told};
 
-use fewest::fewest::Straights;
-
 // Finds the fewest Lines from the first point to the last, by a budget of tests, and tells how many they are, how many pairs
 // were tested, and a lower bound of the count.
 #[unsafe(no_mangle)]
@@ -25,18 +23,13 @@ pub extern "C" fn pz_fewest_straights(
     ensures bound { Told (λ b. b.bound) (straights_call points.now tolerance budget (length out.old)) bound.old bound.new result }
     ensures ends { out.new ≡ left (flat (numbers_at points.now)) out.old (ends_given (straights_call points.now tolerance budget (length out.old))) }
 {
-    let a = fewest::fewest::fewest_straights(points, tolerance, budget, out);
-    match a {
-        Straights::Are {
-            count: n,
-            tested: k,
-            bound: b,
-        } => {
-            *count = n;
-            *tested = k;
-            *bound = b;
+    match fewest::fewest::fewest_straights(points, tolerance, budget, out) {
+        Ok(counts) => {
+            *count = counts.count;
+            *tested = counts.tested;
+            *bound = counts.bound;
             0
         }
-        Straights::Refused(n) => n,
+        Err(cause) => u32::from(cause),
     }
 }

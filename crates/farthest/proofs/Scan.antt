@@ -1,25 +1,18 @@
 -- The search for the first farthest point, in the form in which a loop `for i in a..e` meets it: e - i points are left. Assumes nothing.
-use Prim.Native.Nat.{ℕ, suc, ◌+◌, ◌-◌, ◌*◌, ◌≤◌, ◌<◌}
+use Prim.Native.Nat.{ℕ, suc, ◌+◌, ◌-◌, ◌≤◌, ◌<◌}
 use mathlib.Core.Path.{◌≡◌, sym, ap, ◌∙◌, subst}
-use mathlib.Core.List.{List}
+use mathlib.Core.Bool.{false}
+use Rattle.floats.specs.Ops.{◌≺◌, +0}
+use Rattle.farthest.proofs.First.{farther_no}
 use native.Mathlib.Omega.{arith}
-use lib.Dec.{T}
-use lib.ListN.{get_or}
-use lib.Ieee.{Float, nan, binary64, fits}
+use lib.Ieee.{Float}
+use Rattle.std.specs.Prelude.{Option, None, Some}
 use Rattle.geo.specs.declared.types.Point3D.{Point3D}
-use Rattle.geo.specs.declared.types.Command.{Command}
-use Rattle.geo.specs.Lent.{end_of, point_at}
-use Rattle.segment.specs.declared.segment.Segment.{Segment}
-use Rattle.segment.specs.declared.space.Climb.{Climb}
-use Rattle.segment.specs.Saved.{segment_of, Laid, climb_of, LaidClimb}
 use Rattle.farthest.specs.declared.farthest.Chord.{Chord}
+use Rattle.farthest.specs.Ends.{to_end}
 use Rattle.farthest.specs.declared.farthest.Farthest.{Farthest}
-use Rattle.farthest.specs.declared.farthest.Search.{Search}
-use Rattle.farthest.specs.Measure.{Measure, chord_of, to_line, line_sq}
+use Rattle.farthest.specs.Measure.{Measure, chord_of, to_line}
 use Rattle.farthest.specs.Farthest.{on_chord, farther, farthest_of, farthest_in}
-use Rattle.farthest.specs.Search.{begun, Sound}
-use Rattle.farthest.specs.Ends.{to_command, command_sq}
-use Rattle.farthest.proofs.Search.{sound_start}
 
 -- w is where the whole search ends
 module _ (f : ℕ → Float) (e : ℕ) (w : Farthest) where
@@ -49,10 +42,6 @@ module _ (f : ℕ → Float) (e : ℕ) (w : Farthest) where
 abbrev pub Onward : {P : Type 0} → Measure P → (ℕ → P) → ℕ → ℕ → ℕ → Farthest → Type 0
 Onward m at lo hi i best = (lo < i) × (farthest_of (λ j. m (at lo) (at hi) (at j)) (hi - i) i best ≡ farthest_in m at lo hi)
 
--- and where the search saves divisions
-abbrev pub Searching : {P : Type 0} → Measure P → (ℕ → P) → Chord → ℕ → ℕ → ℕ → Search → Type 0
-Searching m at chord lo hi i s = Onward m at lo hi i s.best × Sound chord s
-
 -- before the first point
 pub scan_onward : {P : Type 0} (m : Measure P) (at : ℕ → P) (lo hi : ℕ) (best : Farthest) → best ≡ on_chord lo
     → farthest_of (λ j. m (at lo) (at hi) (at j)) (hi - (lo + 1)) (lo + 1) best ≡ farthest_in m at lo hi
@@ -69,31 +58,15 @@ module _ {P : Type 0} (m : Measure P) (at : ℕ → P) (lo hi : ℕ) where
   pub onward-done : (i : ℕ) (best : Farthest) → hi ≤ i → Onward m at lo hi i best → best ≡ farthest_in m at lo hi
   onward-done i best h r = scan_done (λ j. m (at lo) (at hi) (at j)) hi (farthest_in m at lo hi) i best h r.1
 
-  module _ (chord : Chord) where
-    pub searching_start : (s : Search) → s ≡ begun lo → Searching m at chord lo hi (lo + 1) s
-    searching_start s e = (onward-start s.best (rw e), sound_start chord lo s e)
+  -- an item that is no candidate counts as on the chord, and is passed over
+  pub onward_past : (i : ℕ) (best best' : Farthest) → i < hi → m (at lo) (at hi) (at i) ≡ +0 → (best.square ≺ +0) ≡ false → best' ≡ best → Onward m at lo hi i best → Onward m at lo hi (i + 1) best'
+  onward_past i best best' h z p e r =
+      onward_turn i +0 best best' h (sym z) (e ∙ sym (farther_no +0 i best p)) r
 
-    pub searching_turn : (i : ℕ) (d : Float) (s r : Search) → i < hi → d ≡ m (at lo) (at hi) (at i) → (r.best ≡ farther d i s.best) × Sound chord r
-        → Searching m at chord lo hi i s → Searching m at chord lo hi (i + 1) r
-    searching_turn i d s r h q p v = (onward_turn i d s.best r.best h q p.0 v.0, p.1)
+-- ---- r is an item's end where it is a candidate, and `measured` says that the distance to the chord of two ends is the measure
+module _ {P : Type 0} (m : Measure P) (end : P → Point3D) (candidate : P → Option Point3D) (measured : (a b x : P) → m a b x ≡ to_end (chord_of (end a) (end b)) (candidate x)) (a b x : P) where
+  pub by_end : {chord : Chord} → chord ≡ chord_of (end a) (end b) → (r : Option Point3D) → r ≡ candidate x → (p : Point3D) → r ≡ Some p → to_line chord p ≡ m a b x
+  by_end e r f p h = rw e (sym (measured a b x ∙ ap (to_end (chord_of (end a) (end b))) (sym f ∙ h)))
 
--- the segment of lent points is laid between them: what is lent are values of the format
-pub laid : (s : List Float) (i : ℕ) {a b b' : Point3D} {segment : Segment} → ((k : ℕ) → T (fits binary64 (get_or s k nan))) → segment ≡ segment_of a b → a ≡ point_at s i → b ≡ b'
-    → Laid (point_at s i) b' segment
-unfolding point_at
-laid s i held e ea eb = record { is = rw (sym ea, sym eb) e; held_x = held (3 * i); held-y = held (3 * i + 1) }
-
-pub laid_climb : (s : List Float) (i : ℕ) {a b b' : Point3D} {climb : Climb} → ((k : ℕ) → T (fits binary64 (get_or s k nan))) → climb ≡ climb_of a b → a ≡ point_at s i → b ≡ b'
-    → LaidClimb (point_at s i) b' climb
-unfolding point_at
-laid_climb s i held e ea eb = record { is = rw (sym ea, sym eb) e; held_x = held (3 * i); held-y = held (3 * i + 1); held_z = held (3 * i + 2) }
-
--- the distance to the chord of a and b is the measure, of a point and of a command
-pub measured : {a a' b b' p p' : Point3D} {chord : Chord} → chord ≡ chord_of a b → a ≡ a' → b ≡ b' → p ≡ p' → to_line chord p ≡ line_sq a' b' p'
-unfolding line_sq
-measured e ea eb ep = rw (e, ea, eb, ep)
-
-pub measured_command : (a b : Command) {x y : Command} {p q : Point3D} {chord : Chord} → chord ≡ chord_of p q → p ≡ end_of a → q ≡ end_of b → x ≡ y
-    → to_command chord x ≡ command_sq a b y
-unfolding command_sq
-measured_command a b e ea eb ex = rw (e, ea, eb, ex)
+  pub by_none : (r : Option Point3D) → r ≡ candidate x → r ≡ None → m a b x ≡ +0
+  by_none r f h = measured a b x ∙ ap (to_end (chord_of (end a) (end b))) (sym f ∙ h)

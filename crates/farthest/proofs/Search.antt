@@ -11,17 +11,13 @@ use Rattle.floats.specs.Ops.{◌⊖◌, ◌⊗◌, ◌⊘◌, ◌≺◌, +0, one
 use Rattle.floats.proofs.Order.{either, clash, lt_gap, lt_asym, lt_trans, lt_nan, lt_right}
 use Rattle.floats.proofs.Unsigned.{Unsigned, square-unsigned, sum_unsigned, not_above, quotient_not_above}
 use Rattle.geo.specs.declared.types.Point3D.{Point3D}
-use Rattle.geo.specs.declared.types.Command.{Command}
 use Rattle.geo.specs.Vector.{perp_dot}
-use Rattle.geo.specs.Lent.{end_of}
 use Rattle.segment.specs.Segment.{degenerate}
 use Rattle.farthest.specs.declared.farthest.Chord.{Chord}
 use Rattle.farthest.specs.declared.farthest.Farthest.{Farthest}
-use Rattle.farthest.specs.declared.farthest.Search.{Search}
 use Rattle.farthest.specs.Measure.{to_line}
-use Rattle.farthest.specs.Farthest.{farther}
-use Rattle.farthest.specs.Search.{spread_of, square_of_spread, begun, Sound}
-use Rattle.farthest.specs.Ends.{is_move, to_command}
+use Rattle.farthest.specs.Farthest.{on_chord, farther}
+use Rattle.farthest.specs.Search.{spread_of, square_of_spread, Sound}
 use Rattle.farthest.proofs.First.{farther_yes, farther_no}
 
 -- nothing is below itself
@@ -94,8 +90,8 @@ above_minus_one (fin true m e) p n = clash (sym p)
 above_minus_one (fin false m e) p n = lt-ltb 0 (1 * 1 * down e + m * up e * 1) (let h = down_pos e in omega (arith, h))
 
 module _ (c : Chord) where
-  pub sound_start : (start : ℕ) (s : Search) → s ≡ begun start → Sound c s
-  sound_start start s e =
+  pub sound_start : (best : Farthest) (start : ℕ) → best ≡ on_chord start → Sound c (neg one) best
+  sound_start best start e =
       rw e record {
         positive = below_itself +0;
         covers = λ p h.
@@ -103,35 +99,26 @@ module _ (c : Chord) where
             (λ n. clash (sym h ∙ above_minus_one (spread_of c p) (spread_unsigned c p) n)) (either (is_nan (spread_of c p)));
       }
 
-  module _ (s : Search) (v : Sound c s) (p : Point3D) (i : ℕ) where
+  module _ (top : Float) (best : Farthest) (v : Sound c top best) (p : Point3D) (i : ℕ) (w : Float) (e : w ≡ spread_of c p) where
     -- a point that is passed over
-    pub look_past : (w : Float) → w ≡ spread_of c p → (s.top ≺ w) ≡ false → (s.best ≡ farther (to_line c p) i s.best) × Sound c s
-    look_past w e h = (sym (farther_no (to_line c p) i s.best (v.covers p (rw e at h))), v)
+    pub look_past : (top ≺ w) ≡ false → best ≡ farther (to_line c p) i best
+    look_past h = sym (farther_no (to_line c p) i best (v.covers p (rw e at h)))
 
     -- one that is measured: d is its distance
-    pub look_at : (w d : Float) (best : Farthest) → w ≡ spread_of c p → (s.top ≺ w) ≡ true → d ≡ square_of_spread c w → best ≡ farther d i s.best
-        → (best ≡ farther (to_line c p) i s.best) × Sound c (record { top = w; best = best })
-    look_at w d best e h ed eb =
-        let g : d ≡ to_line c p = ed ∙ ap (square_of_spread c) e ∙ sym (scaled-is c p) in
-        let z = subst (λ (b : Farthest). (b.square ≺ +0) ≡ false) (sym eb) (still_positive d i s.best v.positive) in
-        let k = subst (λ (b : Farthest). (b.square ≺ d) ≡ false) (sym eb) (not_below_new d i s.best) in (
-          eb ∙ ap (λ (x : Float). farther x i s.best) g,
+    module _ (d : Float) (best' : Farthest) (h : (top ≺ w) ≡ true) (ed : d ≡ square_of_spread c w) (eb : best' ≡ farther d i best) where
+      pub look_at : best' ≡ farther (to_line c p) i best
+      look_at =
+          let g : d ≡ to_line c p = ed ∙ ap (square_of_spread c) e ∙ sym (scaled-is c p) in
+          eb ∙ ap (λ (x : Float). farther x i best) g
+
+      pub sound_at : Sound c w best'
+      sound_at =
+          let z = subst (λ (b : Farthest). (b.square ≺ +0) ≡ false) (sym eb) (still_positive d i best v.positive) in
+          let k = subst (λ (b : Farthest). (b.square ≺ d) ≡ false) (sym eb) (not_below_new d i best) in
           record {
             positive = z;
             covers = λ q u.
                 rw (scaled-is c q)
-                (scaled_not_above c best.square w (spread_of c q) (rw e (spread_unsigned c p)) (spread_unsigned c q) (lt_right s.top w h) u z
-                (subst (λ (x : Float). (best.square ≺ x) ≡ false) ed k));
-          },
-        )
-
--- a Move is passed over
-pub look_past_move : (c : Chord) (s : Search) → Sound c s → (x : Command) (i : ℕ) → is_move x ≡ true → (s.best ≡ farther (to_command c x) i s.best) × Sound c s
-unfolding to_command
-look_past_move c s v x i h = (sym (rw h (farther_no +0 i s.best v.positive)), v)
-
--- any other command is its end
-pub look_at_end : (c : Chord) (x : Command) (p : Point3D) (i : ℕ) (s r : Search) → is_move x ≡ false → p ≡ end_of x
-    → (r.best ≡ farther (to_line c p) i s.best) × Sound c r → (r.best ≡ farther (to_command c x) i s.best) × Sound c r
-unfolding to_command
-look_at_end c x p i s r h e w = (rw h (w.0 ∙ rw e), w.1)
+                (scaled_not_above c best'.square w (spread_of c q) (rw e (spread_unsigned c p)) (spread_unsigned c q) (lt_right top w h) u z
+                (subst (λ (x : Float). (best'.square ≺ x) ≡ false) ed k));
+          }

@@ -1,14 +1,12 @@
 -- The code's own way: how the search for the first farthest point saves divisions. What a reader has to believe stands in Farthest.antt. Definitions only.
-use Rattle.std.specs.Prelude.{ℕ, ◌≡◌, false, Float, if◌then◌else◌}
-use Rattle.std.specs.Float.Ieee.{neg}
-use Rattle.floats.specs.Ops.{◌⊖◌, ◌⊗◌, ◌⊘◌, ◌≺◌, +0, one}
+use Rattle.std.specs.Prelude.{◌≡◌, false, Float, if◌then◌else◌}
+use Rattle.floats.specs.Ops.{◌⊖◌, ◌⊗◌, ◌⊘◌, ◌≺◌, +0}
 use Rattle.geo.specs.declared.types.Point3D.{Point3D}
 use Rattle.geo.specs.Vector.{length_sq, perp_dot}
 use Rattle.segment.specs.Segment.{degenerate}
 use Rattle.farthest.specs.declared.farthest.Chord.{Chord}
-use Rattle.farthest.specs.declared.farthest.Search.{Search}
+use Rattle.farthest.specs.declared.farthest.Farthest.{Farthest}
 use Rattle.farthest.specs.Measure.{to_line}
-use Rattle.farthest.specs.Farthest.{on_chord}
 
 -- of an offset: what its distance to the chord grows with, the dividend of the squared distance, or the squared distance itself where the chord is degenerate
 abbrev pub dividend : Chord → Float → Float → Float
@@ -21,11 +19,7 @@ spread_of c p = dividend c (p.x ⊖ c.start.x) (p.y ⊖ c.start.y)
 unfoldable pub square_of_spread : Chord → Float → Float
 square_of_spread c v = if c.square ≺ degenerate then v else v ⊘ c.square
 
--- a search before its first point, at a range's start
-abbrev pub begun : ℕ → Search
-begun start = record { top = neg one; best = on_chord start }
-
--- a search may pass over a point whose spread is not above its top: no such point lies farther than its best
-pub record Sound (c : Chord) (s : Search) : Type 0 where
-  pub positive : (s.best.square ≺ +0) ≡ false
-  pub covers : (p : Point3D) → (s.top ≺ spread_of c p) ≡ false → (s.best.square ≺ to_line c p) ≡ false
+-- A search may pass over a point whose spread is not above its top: no such point lies farther than its best.
+pub record Sound (c : Chord) (top : Float) (best : Farthest) : Type 0 where
+  pub positive : (best.square ≺ +0) ≡ false
+  pub covers : (p : Point3D) → (top ≺ spread_of c p) ≡ false → (best.square ≺ to_line c p) ≡ false

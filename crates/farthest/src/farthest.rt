@@ -1,17 +1,16 @@
 // The search of src/geo/algo/simplify.rs. It divides only where a point could be farther than those before it.
-ghost use Rattle.std.specs.Prelude.{◌≡◌, ◌+◌, ◌*◌, ◌<◌, ◌≤◌, length};
+ghost use Rattle.std.specs.Prelude.{◌≡◌, ◌+◌, ◌*◌, ◌<◌, length};
 ghost use Rattle.floats.specs.Ops.{◌≺◌};
-ghost use Rattle.geo.specs.Lent.{pair_at, point_at, command_at, end_of};
-ghost use Rattle.segment.specs.Segment.{segment_sq, space_sq};
-ghost use Rattle.farthest.specs.Measure.{chord_of, to_line, line_sq, measure_of, plane_sq, raised};
+ghost use Rattle.geo.specs.Lent.{point_at};
+ghost use Rattle.farthest.specs.Measure.{chord_of, to_line, measure_of};
 ghost use Rattle.farthest.specs.Farthest.{on_chord, farther, farthest_in};
-ghost use Rattle.farthest.specs.Ends.{is_move, to_command, command_sq};
-ghost use Rattle.farthest.specs.Search.{spread_of, square_of_spread, begun, Sound};
+ghost use Rattle.farthest.specs.Search.{spread_of, square_of_spread, Sound};
 
-use geo::lent::{command_at, pair_at, point_at};
-use geo::types::{Command, Point3D};
+use crate::ends::Ends;
+use geo::lists::Stretch;
+use geo::types::{Point, Point3D};
+use segment::coordinates::Coordinates;
 use segment::segment::{DEGENERATE, Segment};
-use segment::space::Climb;
 
 // Which distance of a point counts: in x and y that to the endless line through the ends of its range, or that to the segment
 // between them; or in x, y and z that to the segment.
@@ -105,174 +104,117 @@ impl Farthest {
     }
 }
 
-// A search for the first farthest point. `top` is the greatest spread met: a point whose spread is not above it is no farther than
-// `best`, so that few points cost a division.
+// A search for the first farthest point off a chord. `top` is the greatest spread met: a point whose spread is not above it is no
+// farther than `best`, so that few points cost a division.
 #[derive(Clone, Copy)]
 struct Search {
+    chord: Chord,
     top: f64,
     best: Farthest,
+    ghost sound: { Sound chord top best },
 }
 
 impl Search {
     // Below every spread, which is a square or a sum of squares: the first point is measured.
     const BELOW_ALL: f64 = -1.0;
 
-    fn new(start: usize) -> Self
-        ensures { result ≡ begun start }
+    fn new(chord: Chord, start: usize) -> Self
+        ensures { (result.chord ≡ chord) × (result.best ≡ on_chord start) }
     {
-        let best = Farthest::new(start);
         Self {
+            chord,
             top: Search::BELOW_ALL,
-            best,
+            best: Farthest::new(start),
         }
     }
 
     // The search after a look at the point p at index i.
-    fn look(self, chord: Chord, p: Point3D, i: usize) -> Self
-        requires { Sound chord self }
-        ensures { (result.best ≡ farther (to_line chord p) i self.best) × Sound chord result }
+    fn look(self, p: Point3D, i: usize) -> Self
+        ensures { (result.chord ≡ self.chord) × (result.best ≡ farther (to_line self.chord p) i self.best) }
     {
+        let chord = self.chord;
         let spread = chord.spread(p);
         if spread > self.top {
             let best = self.best;
             let best = best.or(chord.distance_squared(spread), i);
-            return Self { top: spread, best };
+            return Self {
+                chord,
+                top: spread,
+                best,
+            };
         }
         self
     }
+}
 
-    // The same of a command, by its end; no Move is a candidate for a cut.
-    fn look_at_command(self, chord: Chord, c: Command, i: usize) -> Self
-        requires { Sound chord self }
-        ensures { (result.best ≡ farther (to_command chord c) i self.best) × Sound chord result }
-    {
-        if is_move(c) {
-            return self;
+// The first farthest of the items strictly between start and end from the endless line; z is not measured, and not each item is
+// a candidate.
+pub fn farthest_from_line<T: Ends>(track: T, start: usize, end: usize) -> Farthest
+    requires { (start < T.size track) × (end < T.size track) }
+    ensures { result ≡ farthest_in T.measure (T.item track) start end }
+{
+    let chord = Chord::new(track.end(start), track.end(end));
+    let mut search = Search::new(chord, start);
+    for i in start + 1..end {
+        if let Some(p) = track.candidate(i) {
+            search = search.look(p, i);
         }
-        self.look(chord, c.end_point(), i)
-    }
-}
-
-// The point at index i of lent pairs, at height 0.
-fn raised_at(points: &[f64], i: usize) -> Point3D
-    requires { 2 * i + 1 < length points.now }
-    ensures { result ≡ raised (pair_at points.now i) }
-{
-    let p = pair_at(points, i);
-    Point3D {
-        x: p.x,
-        y: p.y,
-        z: 0.0,
-    }
-}
-
-// The end of the command at index i.
-fn end_at(kinds: &[u8], nums: &[f64], i: usize) -> Point3D
-    requires { (i < length kinds.now) × (9 * i + 8 < length nums.now) }
-    ensures { result ≡ end_of (command_at kinds.now nums.now i) }
-{
-    command_at(kinds, nums, i).end_point()
-}
-
-pub fn is_move(c: Command) -> bool
-    ensures { result ≡ is_move c }
-{
-    match c {
-        Command::Move { end: _ } => true,
-        Command::Line { end: _ } => false,
-        Command::Arc {
-            end: _,
-            center_offset: _,
-            normal: _,
-        } => false,
-        Command::Bezier {
-            end: _,
-            control1: _,
-            control2: _,
-        } => false,
-    }
-}
-
-// The first farthest of the pairs strictly between start and end.
-pub fn farthest_pair(points: &[f64], start: usize, end: usize) -> Farthest
-    requires { (2 * start + 1 < length points.now) × (2 * end + 1 < length points.now) }
-    ensures { result ≡ farthest_in plane_sq (pair_at points.now) start end }
-{
-    let chord = Chord::new(raised_at(points, start), raised_at(points, end));
-    let mut search = Search::new(start);
-    for i in start + 1..end {
-        search = search.look(chord, raised_at(points, i), i);
     }
     search.best
 }
 
-// The first farthest of the triples strictly between start and end from the endless line; z is not measured.
-fn farthest_from_line(points: &[f64], start: usize, end: usize) -> Farthest
-    requires { (3 * start + 2 < length points.now) × (3 * end + 2 < length points.now) }
-    ensures { result ≡ farthest_in line_sq (point_at points.now) start end }
+// The first farthest of the points strictly inside a stretch from the segment between its ends, two points at a time, then the
+// last where one is left. The index is counted by hand: it goes by two, and tells at the end whether one is left.
+fn farthest_from_segment<V: Coordinates>(stretch: Stretch) -> Farthest
+    ensures { result ≡ farthest_in V.squared (point_at stretch.entry.points.now) stretch.entry.start stretch.entry.end }
 {
-    let chord = Chord::new(point_at(points, start), point_at(points, end));
-    let mut search = Search::new(start);
-    for i in start + 1..end {
-        search = search.look(chord, point_at(points, i), i);
-    }
-    search.best
-}
-
-// From the segment between start and end, two points at a time, then the last where one is left.
-fn farthest_from_segment(points: &[f64], start: usize, end: usize) -> Farthest
-    requires { (3 * start + 2 < length points.now) × (3 * end + 2 < length points.now) }
-    ensures { result ≡ farthest_in segment_sq (point_at points.now) start end }
-{
-    let segment = Segment::new(point_at(points, start), point_at(points, end));
-    let mut best = Farthest::new(start);
-    let mut i = start + 1;
-    while i + 1 < end {
-        let two = segment.both(point_at(points, i), point_at(points, i + 1));
-        best = best.or(two.first, i);
-        best = best.or(two.second, i + 1);
+    let segment = Segment::<V>::new(stretch.first(), stretch.last());
+    let mut best = Farthest::new(stretch.start);
+    let mut i = stretch.start + 1;
+    while i + 1 < stretch.end {
+        let (one, next) = segment.both(stretch.at(i), stretch.at(i + 1));
+        best = best.or(one, i);
+        best = best.or(next, i + 1);
         i += 2;
     }
-    if i < end {
-        return best.or(segment.distance_squared(point_at(points, i)), i);
+    if i < stretch.end {
+        return best.or(segment.distance_squared(stretch.at(i)), i);
     }
     best
 }
 
-// From the segment in x, y and z.
-fn farthest_in_space(points: &[f64], start: usize, end: usize) -> Farthest
-    requires { (3 * start + 2 < length points.now) × (3 * end + 2 < length points.now) }
-    ensures { result ≡ farthest_in space_sq (point_at points.now) start end }
+// The same by any coordinates, point by point: in space two at a time take longer.
+fn farthest_from_each<V: Coordinates>(stretch: Stretch) -> Farthest
+    ensures { result ≡ farthest_in V.squared (point_at stretch.entry.points.now) stretch.entry.start stretch.entry.end }
 {
-    let climb = Climb::new(point_at(points, start), point_at(points, end));
-    let mut best = Farthest::new(start);
-    for i in start + 1..end {
-        best = best.or(climb.distance_squared(point_at(points, i)), i);
+    let segment = Segment::<V>::new(stretch.first(), stretch.last());
+    let mut best = Farthest::new(stretch.start);
+    for i in stretch.start + 1..stretch.end {
+        best = best.or(segment.distance_squared(stretch.at(i)), i);
     }
     best
 }
 
-// The same by any distance, which is looked up once for the range and not for each point.
-pub fn farthest_between(ruler: Ruler, points: &[f64], start: usize, end: usize) -> Farthest
+// By any distance, which is looked up once for the stretch and not for each point. A `match` stays: a ruler is what a rule of a
+// fit carries, and a `dyn` in its place would be no plainer, and a call that no compiler sees through.
+pub fn farthest_between(ruler: Ruler, stretch: Stretch) -> Farthest
+    ensures { result ≡ farthest_in (measure_of ruler) (point_at stretch.entry.points.now) stretch.entry.start stretch.entry.end }
+{
+    match ruler {
+        Ruler::Line => farthest_from_line(stretch, stretch.start, stretch.end),
+        Ruler::Segment => farthest_from_segment::<Point>(stretch),
+        Ruler::Space => farthest_from_each::<Point3D>(stretch),
+    }
+}
+
+// The same between any two indices of a list, in either order: nothing lies between where the second stands before the first.
+pub fn farthest_of(ruler: Ruler, points: &[f64], start: usize, end: usize) -> Farthest
     requires { (3 * start + 2 < length points.now) × (3 * end + 2 < length points.now) }
     ensures { result ≡ farthest_in (measure_of ruler) (point_at points.now) start end }
 {
-    match ruler {
-        Ruler::Line => farthest_from_line(points, start, end),
-        Ruler::Segment => farthest_from_segment(points, start, end),
-        Ruler::Space => farthest_in_space(points, start, end),
+    if end < start {
+        return Farthest::new(start);
     }
-}
-
-// The first farthest of the commands strictly between start and end, by their ends.
-pub fn farthest_command(kinds: &[u8], nums: &[f64], start: usize, end: usize) -> Farthest
-    requires { (start < length kinds.now) × (end < length kinds.now) × (9 * length kinds.now ≤ length nums.now) }
-    ensures { result ≡ farthest_in command_sq (command_at kinds.now nums.now) start end }
-{
-    let chord = Chord::new(end_at(kinds, nums, start), end_at(kinds, nums, end));
-    let mut search = Search::new(start);
-    for i in start + 1..end {
-        search = search.look_at_command(chord, command_at(kinds, nums, i), i);
-    }
-    search.best
+    let stretch = Stretch { points, start, end };
+    farthest_between(ruler, stretch)
 }

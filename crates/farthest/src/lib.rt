@@ -2,4 +2,5 @@
 // Thinning and the fit cut a range there.
 #![tactic(auto)]
 
+pub mod ends;
 pub mod farthest;

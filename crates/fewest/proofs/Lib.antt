@@ -3,3 +3,4 @@ pub mod Stray
 pub mod Trace
 pub mod Whole
 pub mod Straights
+pub mod Search

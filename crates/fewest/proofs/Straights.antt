@@ -1,6 +1,6 @@
 -- What §10 says of the answer holds, whatever the points, the tolerance and the budget. Assumes nothing.
 use Prim.Native.Nat.{ℕ, ◌+◌, ◌/◌, ◌≤◌}
-use mathlib.Core.Path.{◌≡◌, refl, subst}
+use mathlib.Core.Path.{◌≡◌, subst}
 use mathlib.Core.Bool.{true}
 use mathlib.Core.List.{List}
 use native.Mathlib.Omega.{arith}
@@ -51,5 +51,5 @@ pub straights_promised : (s : List Float) (t : Float) (budget room : ℕ) (b : B
 unfolding straights_call
 straights_promised s t budget room b e =
     let g = unless-given (refusal (straights_rows s t room)) (fewest_of s t budget) b e in
-    let a = accepted s t budget room 0 g.0 refl in
+    let a = accepted s t budget room g.0 in
     subst (λ (x : Best). Promised s t budget x) g.1 (promised s t a.positive a.two a.few budget)

@@ -10,8 +10,12 @@ use lib.Seq.{sets}
 use lib.Ieee.{Float}
 use Rattle.floats.specs.Ops.{◌≺◌, +0}
 use Rattle.geo.specs.Lent.{flat}
-use Rattle.geo.specs.Outcome.{refusal, left, Placed}
-use Rattle.geo.proofs.Rows.{row_passed, unless-refused, unless-gives}
+use Rattle.geo.specs.Outcome.{refusal, gives, left, Placed}
+use Rattle.std.specs.Prelude.{Result, Err}
+use Rattle.geo.specs.Refusal.{number, outcome}
+use Rattle.geo.specs.declared.refusal.Refusal.{Refusal}
+use Rattle.geo.proofs.Wrote.{refused-is}
+use Rattle.geo.proofs.Rows.{row_passed, unless-gives}
 use Rattle.geo.proofs.Flat.{flat_length}
 use Rattle.geo.proofs.Stores.{sets_front}
 use Rattle.geo.proofs.Tolerance.{tolerance-positive}
@@ -19,10 +23,10 @@ use Rattle.ways.specs.Layers.{State, arrived, back, found, best_of, searched, fe
 use Rattle.ways.proofs.Walk.{searched-held}
 use Rattle.ways.proofs.Laws.{finished-below, back_length, answer-most}
 use Rattle.fewest.specs.declared.fewest.Counts.{Counts}
-use Rattle.fewest.specs.declared.fewest.Straights.TheVariants.{Are, Refused}
 use Rattle.fewest.specs.Straights.{last_of, passing, cut_ends, fewest_of, numbers_at}
 use Rattle.fewest.specs.Calls.{straights_rows, straights_call, straights_answer, ends_given}
-use Rattle.fewest.specs.Lent.{Within, Gave}
+use Rattle.fewest.specs.Lent.{Gave}
+use Rattle.fewest.specs.Search.{Within}
 use Rattle.fewest.proofs.Cut.{passing-neighbours, cut-way}
 
 module _ (s : List Float) (t : Float) (budget : ℕ) (pos : (+0 ≺ t) ≡ true) (two : 2 ≤ length s / 3) (few : length s / 3 ≤ 256) where
@@ -54,18 +58,18 @@ module _ (s : List Float) (t : Float) (budget : ℕ) (pos : (+0 ≺ t) ≡ true)
           → Gave s (fewest_of s t budget) out out' record { count = n; tested = e.tested; bound = e.finished + 1 }
       gave_cut n g p = rw as_best (rw g record { count = p.count; tested = refl; bound = refl; ends = p.stored })
 
--- ---- the public call: r is what its check found
-module _ (s : List Float) (t : Float) (budget room r : ℕ) (e : r ≡ refusal (straights_rows s t room)) where
+-- ---- the public call, which no row refuses
+module _ (s : List Float) (t : Float) (budget room : ℕ) (e : 0 ≡ refusal (straights_rows s t room)) where
   pub record Accepted : Type 0 where
     pub two : 2 ≤ length s / 3
     pub few : length s / 3 ≤ 256
     pub room_for : 3 * last_of s ≤ room
     pub positive : (+0 ≺ t) ≡ true
 
-  pub accepted : r ≡ 0 → Accepted
+  pub accepted : Accepted
   unfolding straights_rows
-  accepted z =
-      let a = row_passed 0 _ _ (sym z ∙ e) in
+  accepted =
+      let a = row_passed 0 _ _ e in
       let b = row_passed 0 _ _ a.1 in
       let c = row_passed 1 _ _ b.1 in
       let d = row_passed 1 _ _ c.1 in
@@ -80,17 +84,17 @@ module _ (s : List Float) (t : Float) (budget room r : ℕ) (e : r ≡ refusal (
         positive = tolerance-positive t (not-false _ g.0);
       }
 
-  module _ (out : List Float) where
-    pub call_refused : (r ≡ 0 → ⊥) → (Refused r ≡ straights_answer (straights_call s t budget room)) × (out ≡ left (flat (numbers_at s)) out (ends_given (straights_call s t budget room)))
-    unfolding straights_call straights_answer ends_given left
-    call_refused h = rw (unless-refused (refusal (straights_rows s t room)) (fewest_of s t budget) (omega (arith, e, h))) (rw e, refl)
+  pub call_given : (out out' : List Float) (c : Counts) → length out ≡ room → Gave s (fewest_of s t budget) out out' c
+      → (gives c ≡ straights_answer (straights_call s t budget room)) × (out' ≡ left (flat (numbers_at s)) out (ends_given (straights_call s t budget room)))
+  unfolding straights_call straights_answer ends_given left
+  call_given out out' c l g =
+      let m = ends-most s t budget accepted.positive accepted.two accepted.few in
+      let n = flat_length (numbers_at s) 3 (λ k. refl) (fewest_of s t budget).ends in
+      rw (unless-gives (refusal (straights_rows s t room)) (fewest_of s t budget) (sym e))
+      (rw (g.count, g.tested, g.bound), g.ends ∙ sets_front (flat (numbers_at s) (fewest_of s t budget).ends) out (omega (arith, l, m, n, accepted.room_for)))
 
-    pub call_given : (out' : List Float) (c : Counts) → length out ≡ room → r ≡ 0 → Gave s (fewest_of s t budget) out out' c
-        → (Are c.count c.tested c.bound ≡ straights_answer (straights_call s t budget room)) × (out' ≡ left (flat (numbers_at s)) out (ends_given (straights_call s t budget room)))
-    unfolding straights_call straights_answer ends_given left
-    call_given out' c l z g =
-        let a = accepted z in
-        let m = ends-most s t budget a.positive a.two a.few in
-        let n = flat_length (numbers_at s) 3 (λ k. refl) (fewest_of s t budget).ends in
-        rw (unless-gives (refusal (straights_rows s t room)) (fewest_of s t budget) (sym e ∙ z))
-        (rw (g.count, g.tested, g.bound), g.ends ∙ sets_front (flat (numbers_at s) (fewest_of s t budget).ends) out (omega (arith, l, m, n, a.room_for)))
+-- a call that is refused for this cause; r is what it answers
+pub call_refused : (s : List Float) (t : Float) (budget room : ℕ) (cause : Refusal) → number cause ≡ refusal (straights_rows s t room) → (out : List Float) (r : Result Counts Refusal) → r ≡ Err cause
+    → (outcome r ≡ straights_answer (straights_call s t budget room)) × (out ≡ left (flat (numbers_at s)) out (ends_given (straights_call s t budget room)))
+unfolding straights_call straights_answer ends_given left
+call_refused s t budget room cause e out r h = rw (h, ← refused-is _ cause e (fewest_of s t budget)) (refl, refl)

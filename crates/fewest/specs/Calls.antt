@@ -3,8 +3,7 @@ use Rattle.std.specs.Prelude.{ℕ, ◌/◌, not, List, [], ◌∷◌, length, lt
 use Rattle.geo.specs.Domain.{coordinate, numbers_in, tolerance, whole}
 use Rattle.geo.specs.Outcome.{Row, row, refusal, Outcome, refused, gives, unless}
 use Rattle.ways.specs.Layers.{Best}
-use Rattle.fewest.specs.declared.fewest.Straights.{Straights}
-use Rattle.fewest.specs.declared.fewest.Straights.TheVariants.{Are, Refused}
+use Rattle.fewest.specs.declared.fewest.Counts.{Counts}
 use Rattle.fewest.specs.Straights.{least_points, most_points, last_of, fewest_of}
 
 -- of the numbers s of the points, the tolerance, and an output of `room` numbers; any budget is accepted. "its most is points − 1"
@@ -23,9 +22,9 @@ unfoldable pub straights_call : List Float → Float → ℕ → ℕ → Outcome
 straights_call s t budget room = unless (refusal (straights_rows s t room)) (fewest_of s t budget)
 
 -- the count of Lines, the pairs tested and the lower bound
-unfoldable pub straights_answer : Outcome Best → Straights
-straights_answer (refused n) = Refused n
-straights_answer (gives b) = Are (length b.ends) b.tested b.bound
+unfoldable pub straights_answer : Outcome Best → Outcome Counts
+straights_answer (refused n) = refused n
+straights_answer (gives b) = gives record { count = length b.ends; tested = b.tested; bound = b.bound }
 
 -- the ends that are written
 unfoldable pub ends_given : Outcome Best → Outcome (List ℕ)

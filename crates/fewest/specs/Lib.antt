@@ -2,3 +2,4 @@ pub mod Straights
 pub mod Calls
 pub mod Laws
 pub mod Lent
+pub mod Search

@@ -44,8 +44,8 @@ module _ (s : List ℕ) (at a b : ℕ) (e : a ≡ half_at s at) (f : b ≡ half_
       same zero = refl
       same (suc n) = ne_eqb (suc n) 0 (λ z. omega arith) ∙ sym (ne_eqb (0 + suc n * 0x1_0000_0000) 0 (λ w. omega arith))
 
-  pub low_half : (a ≡ 0 → ⊥) → false ≡ is_plus_zero (number_at s at)
-  low_half z = sym (ne_eqb (a + b * 0x1_0000_0000) 0 (λ w. z (omega arith))) ∙ by_word
+  pub low_half : (a ≡ 0 → ⊥) → eqb a 0 ≡ is_plus_zero (number_at s at)
+  low_half z = ne_eqb a 0 z ∙ sym (ne_eqb (a + b * 0x1_0000_0000) 0 (λ w. z (omega arith))) ∙ by_word
 
 -- ---- commands
 -- a Move and a Line have no number but their end's

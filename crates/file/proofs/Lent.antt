@@ -13,7 +13,7 @@ use Rattle.geo.specs.declared.types.Command.TheVariants.{Move, Line, Arc, Bezier
 use Rattle.geo.specs.Lent.{flat, kind_of, numbers_of, point_at, command_of, command_at, commands_from}
 use Rattle.geo.specs.Walk.{list_from}
 use Rattle.file.specs.Command.{laid, enc, lent_bytes, lent_lap}
-use Rattle.geo.proofs.Outcomes.{nine}
+use Rattle.geo.proofs.Wrote.{nine}
 use Rattle.geo.proofs.Flat.{flat_length}
 use Rattle.geo.proofs.Stores.{sets_front}
 
@@ -56,16 +56,7 @@ back_from (c ∷ cs) ks ns i r q e f =
     let m : drop (9 * (i + 1)) ns ≡ flat numbers_of cs ++ q = ap (λ (n : ℕ). drop n ns) w ∙ sym (drop-drop 9 (9 * i) ns) ∙ ap (drop 9) h ∙ drop_at (numbers_of c) (flat numbers_of cs ++ q) 9 (nine c) in
     rw (one-back c ks ns i (map kind_of cs ++ r) (flat numbers_of cs ++ q) e h, back_from cs ks ns (i + 1) r q k m)
 
--- lent as they are written at the front of two outputs
-pub back-front : (cs : List Command) (ks ks' : List ℕ) (ns ns' : List Float) → length cs ≤ length ks → 9 * length cs ≤ length ns
-    → ks' ≡ sets ks 0 (map kind_of cs) → ns' ≡ sets ns 0 (flat numbers_of cs) → commands_from ks' ns' (length cs) 0 ≡ cs
-back-front cs ks ks' ns ns' h k e f =
-    let a = length-map cs kind_of in
-    let b = flat_length numbers_of 9 nine cs in
-    back_from cs ks' ns' 0 (drop (length (map kind_of cs)) ks) (drop (length (flat numbers_of cs)) ns)
-    (e ∙ sets_front (map kind_of cs) ks (omega arith)) (f ∙ sets_front (flat numbers_of cs) ns (omega arith))
-
--- and as the parts of these outputs that hold them
+-- lent as the parts that hold them of two outputs, at whose front they are written
 pub back_part : (cs : List Command) (n : ℕ) (ks ks' : List ℕ) (ns ns' : List Float) → n ≡ length cs → n ≤ length ks → 9 * n ≤ length ns
     → ks' ≡ sets ks 0 (map kind_of cs) → ns' ≡ sets ns 0 (flat numbers_of cs) → commands_from (take n ks') (take (9 * n) ns') (length (take n ks')) 0 ≡ cs
 back_part cs n ks ks' ns ns' l h k e f =

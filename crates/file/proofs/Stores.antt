@@ -43,6 +43,19 @@ length_enc (Bezier p q r) = refl
 pub behind : {A : Type 0} (xs ys l l₁ l₂ : List A) (b n : ℕ) → length xs ≡ n → l₁ ≡ sets l b xs → l₂ ≡ sets l₁ (b + n) ys → l₂ ≡ sets l b (xs ++ ys)
 behind xs ys l l₁ l₂ b n h e₁ e₂ = e₂ ∙ rw (e₁, ← h) (sym (sets_append xs ys l b))
 
+-- the digits of the four low bytes of n
+pub digit-0 : (n : ℕ) → n % 4294967296 % 256 ≡ n % 256
+digit-0 n = omega arith
+
+pub digit-1 : (n : ℕ) → n % 4294967296 / 256 % 256 ≡ n / 256 % 256
+digit-1 n = omega arith
+
+pub digit-2 : (n : ℕ) → n % 4294967296 / 65536 % 256 ≡ n / 65536 % 256
+digit-2 n = omega arith
+
+pub digit-3 : (n : ℕ) → n % 4294967296 / 16777216 % 256 ≡ n / 16777216 % 256
+digit-3 n = omega arith
+
 pub four : (l : List ℕ) (b n w x y z : ℕ) → w ≡ n % 256 → x ≡ n / 256 % 256 → y ≡ n / 65536 % 256 → z ≡ n / 16777216 % 256
     → set (set (set (set l b w) (b + 1) x) (b + 2) y) (b + 3) z ≡ sets l b (u32_bytes n)
 unfolding u32_bytes

@@ -8,7 +8,7 @@ use lib.Seq.{sets, length-sets}
 use lib.Ieee.{Float}
 use Rattle.geo.specs.declared.types.Command.{Command}
 use Rattle.geo.specs.Lent.{flat, kind_of, numbers_of, command_at, commands_from}
-use Rattle.geo.proofs.Outcomes.{nine}
+use Rattle.geo.proofs.Wrote.{nine}
 use Rattle.file.specs.Command.{decoded, enc, commands_at}
 use Rattle.file.proofs.Stores.{behind, length_enc}
 

@@ -1,5 +1,5 @@
 // The 73 bytes of a command: its kind, and its nine numbers.
-ghost use Rattle.std.specs.Prelude.{◌≡◌, map, ◌+◌, ◌*◌, ◌<◌, ◌≤◌, length, get_or, set};
+ghost use Rattle.std.specs.Prelude.{◌≡◌, map, ◌+◌, ◌*◌, ◌<◌, ◌≤◌, length, get_or, set, take, drop};
 ghost use Rattle.std.proofs.lemmas.List.Edits.{sets};
 ghost use Rattle.geo.specs.Domain.{zero3};
 ghost use Rattle.geo.specs.Lent.{flat, triple, command_of, kind_of, numbers_of, commands_from};
@@ -7,13 +7,49 @@ ghost use Rattle.file.specs.Bytes.{f64_bytes};
 ghost use Rattle.file.specs.Command.{point_from, decoded, well_formed, laid, enc, commands_at};
 
 use crate::words::{is_plus_zero_at, number_at, put_f64};
-use geo::lent::{command_at, make_command, put_command};
+use geo::lent::{make_command, put_command};
+use geo::lists::Commands;
 use geo::types::{Command, Point3D};
 
 // "A command has 73 bytes: kind, nine numbers".
 pub const COMMAND_BYTES: usize = 73;
 
+// Commands as they stand among bytes: so many from a place on.
+#[derive(Clone, Copy)]
+pub struct Body<'a> {
+    pub bytes: &'a [u8],
+    pub at: usize,
+    pub count: usize,
+    ghost inside: { at + 73 * count ≤ length bytes.now },
+}
+
+impl<'a> Body<'a> {
+    // The bytes of the command at an index.
+    pub fn command(self, i: usize) -> &'a [u8]
+        requires { i < self.count }
+        ensures bytes { result.now ≡ take 73 (drop (self.entry.at + 73 * i) self.entry.bytes.now) }
+        ensures whole { length result.now ≡ 73 }
+    {
+        let b = self.at + COMMAND_BYTES * i;
+        let e = b + COMMAND_BYTES;
+        &self.bytes[b..e]
+    }
+
+    // The first n of the commands.
+    pub fn front(self, n: usize) -> Body<'a>
+        requires { n ≤ self.count }
+        ensures { (result.bytes.now ≡ self.entry.bytes.now) × (result.at ≡ self.entry.at) × (result.count ≡ n) }
+    {
+        Body {
+            bytes: self.bytes,
+            at: self.at,
+            count: n,
+        }
+    }
+}
+
 // The point whose three numbers stand from `at` on.
+#[tactic(auto, unfolding(crate::specs::Command::point_from))]
 pub fn point_from(s: &[u8], at: usize) -> Point3D
     requires { at + 24 ≤ length s.now }
     ensures { result ≡ point_from s.now at }
@@ -49,28 +85,22 @@ pub fn read_command(s: &[u8]) -> Command
 }
 
 // Whether the three numbers from `at` on are +0, told by their bytes.
+#[tactic(auto, unfolding(geo::specs::Domain::zero3, crate::specs::Command::point_from))]
 fn is_zero_from(s: &[u8], at: usize) -> bool
     requires { at + 24 ≤ length s.now }
     ensures { result ≡ zero3 (point_from s.now at) }
 {
-    if is_plus_zero_at(s, at) {
-        if is_plus_zero_at(s, at + 8) {
-            return is_plus_zero_at(s, at + 16);
-        }
-    }
-    false
+    is_plus_zero_at(s, at) && is_plus_zero_at(s, at + 8) && is_plus_zero_at(s, at + 16)
 }
 
 // Whether 73 bytes have a known kind, and the numbers that it does not use are +0.
+#[tactic(auto, unfolding(geo::specs::Domain::formed, crate::specs::Command::well_formed))]
 pub fn is_well_formed(s: &[u8]) -> bool
     requires { 73 ≤ length s.now }
     ensures { result ≡ well_formed s.now }
 {
     if s[0] < 2 {
-        if is_zero_from(s, 25) {
-            return is_zero_from(s, 49);
-        }
-        return false;
+        return is_zero_from(s, 25) && is_zero_from(s, 49);
     }
     s[0] < 4
 }
@@ -85,7 +115,7 @@ fn put_point(out: &mut [u8], at: usize, p: Point3D)
     put_f64(out, at + 16, p.z);
 }
 
-// Writes a kind and three points from `at` on.
+// Writes a kind, a byte in the file too, and three points from `at` on.
 fn put_points(out: &mut [u8], at: usize, kind: u8, p: Point3D, q: Point3D, r: Point3D)
     requires { at + 73 ≤ length out.old }
     ensures { out.new ≡ sets out.old at (laid kind p q r) }
@@ -146,28 +176,28 @@ fn read_to(s: &[u8], kinds: &mut [u8], nums: &mut [f64], i: usize)
     }
 }
 
-// Reads the n commands from `at` on, to the front of kinds and numbers.
-pub fn read_commands(s: &[u8], at: usize, n: usize, kinds: &mut [u8], nums: &mut [f64])
-    requires { (at + 73 * n ≤ length s.now) × (n ≤ length kinds.old) × (9 * n ≤ length nums.old) }
-    ensures kinds { kinds.new ≡ sets kinds.old 0 (map kind_of (map decoded (commands_at s.now at n))) }
-    ensures numbers { nums.new ≡ sets nums.old 0 (flat numbers_of (map decoded (commands_at s.now at n))) }
+// Reads the commands of a body to the front of kinds and numbers.
+pub fn read_commands(body: Body, kinds: &mut [u8], nums: &mut [f64])
+    requires { (body.count ≤ length kinds.old) × (9 * body.count ≤ length nums.old) }
+    ensures kinds { kinds.new ≡ sets kinds.old 0 (map kind_of (map decoded (commands_at body.entry.bytes.now body.entry.at body.entry.count))) }
+    ensures numbers { nums.new ≡ sets nums.old 0 (flat numbers_of (map decoded (commands_at body.entry.bytes.now body.entry.at body.entry.count))) }
 {
-    let mut b = at;
-    for i in 0..n {
+    let mut b = body.at;
+    for i in 0..body.count {
         let e = b + COMMAND_BYTES;
-        read_to(&s[b..e], kinds, nums, i);
+        read_to(&body.bytes[b..e], kinds, nums, i);
         b = e;
     }
 }
 
-// Writes the first n lent commands from `to` on.
-pub fn write_commands(kinds: &[u8], nums: &[f64], n: usize, out: &mut [u8], to: usize)
-    requires { (n ≤ length kinds.now) × (9 * n ≤ length nums.now) × (to + 73 * n ≤ length out.old) }
-    ensures { out.new ≡ sets out.old to (flat enc (commands_from kinds.now nums.now n 0)) }
+// Writes lent commands from `to` on.
+pub fn write_commands(commands: Commands, out: &mut [u8], to: usize)
+    requires { to + 73 * length commands.kinds.now ≤ length out.old }
+    ensures { out.new ≡ sets out.old to (flat enc (commands_from commands.entry.kinds.now commands.entry.nums.now (length commands.entry.kinds.now) 0)) }
 {
     let mut t = to;
-    for i in 0..n {
-        write_command(out, t, command_at(kinds, nums, i));
+    for i in 0..commands.kinds.len() {
+        write_command(out, t, commands.at(i));
         t += COMMAND_BYTES;
     }
 }

@@ -6,21 +6,12 @@ ghost use Rattle.std.specs.Float.Ieee.{nan_bits, of_bits, to_bits};
 ghost use Rattle.geo.specs.Domain.{is_plus_zero};
 ghost use Rattle.file.specs.Bytes.{half_at, word_at, u32_bytes, f64_bytes, number_at};
 
-fn wide(b: u8) -> u64
-    ensures { (result ≡ b) × (result < 256) }
-{
-    b as u64
-}
-
 // The number in the four bytes of s from `at` on.
 pub fn half_at(s: &[u8], at: usize) -> u64
     requires { at + 4 ≤ length s.now }
     ensures { (result ≡ half_at s.now at) × (result < 0x1_0000_0000) }
 {
-    wide(s[at])
-        + wide(s[at + 1]) * 0x100
-        + wide(s[at + 2]) * 0x1_0000
-        + wide(s[at + 3]) * 0x100_0000
+    u64::from(u32::from_le_bytes([s[at], s[at + 1], s[at + 2], s[at + 3]]))
 }
 
 // The word in the eight bytes of s from `at` on.
@@ -63,17 +54,7 @@ pub fn is_plus_zero_at(s: &[u8], at: usize) -> bool
 {
     let low = half_at(s, at);
     let high = half_at(s, at + 4);
-    if low == 0 {
-        return high == 0;
-    }
-    false
-}
-
-// The lowest byte of n.
-fn low(n: u64) -> u8
-    ensures { result ≡ n % 256 }
-{
-    (n % 256) as u8
+    low == 0 && high == 0
 }
 
 // Writes the four low bytes of n from `at` on.
@@ -81,10 +62,11 @@ pub fn put_u32(out: &mut [u8], at: usize, n: u64)
     requires { at + 4 ≤ length out.old }
     ensures { out.new ≡ sets out.old at (u32_bytes n) }
 {
-    out[at] = low(n);
-    out[at + 1] = low(n / 256);
-    out[at + 2] = low(n / 65536);
-    out[at + 3] = low(n / 16777216);
+    let [a, b, c, d] = ((n % 0x1_0000_0000) as u32).to_le_bytes();
+    out[at] = a;
+    out[at + 1] = b;
+    out[at + 2] = c;
+    out[at + 3] = d;
 }
 
 // The pattern of x. A NaN has many, and one stands for all.

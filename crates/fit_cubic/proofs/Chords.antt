@@ -10,11 +10,12 @@ use borrow.Author.Tests.{lt-ltb, le-ltb, eq-eqb, ne_eqb}
 use lib.ListN.{length, get_or, set, length-set}
 use lib.Seq.{get_or-set_same, get_or-set_other}
 use lib.Ieee.{Float, nan, lt}
-use Rattle.floats.specs.Ops.{◌⊕◌, +0}
+use Rattle.floats.specs.Ops.{◌⊕◌, ◌⊘◌, +0}
 use Rattle.geo.specs.declared.types.Point.{Point}
 use Rattle.geo.specs.Vector.{distance}
-use Rattle.fit_cubic.specs.declared.fit_cubic.FittedCubic.TheVariants.{Curve, None}
-use Rattle.fit_cubic.specs.FitCubic.{no_length, chord_sum, Chords, cubic_sums, cubic_solved, straight, cubic_fitted}
+use Rattle.std.specs.Prelude.{Some, None}
+use Rattle.fit_cubic.specs.declared.fit_cubic.Sums.{Sums}
+use Rattle.fit_cubic.specs.FitCubic.{no_length, chord_sum, Chords, no_cubic_sums, add_point, cubic_sums, cubic_solved, straight, cubic_fitted}
 
 -- the lengths before index i are filled in, and `last` is the length up to the point before it
 pub record Filling (at : ℕ → Point) (n : ℕ) (l : List Float) (last : Float) (i : ℕ) : Type 0 where
@@ -60,25 +61,36 @@ module _ (at : ℕ → Point) (n : ℕ) where
       below : (j i : ℕ) → j < i + 1 → j ≤ i
       below j i q = omega arith
 
+-- sums of nothing
+pub zero_sums : (s : Sums) → s.a11 ≡ +0 → s.a12 ≡ +0 → s.a22 ≡ +0 → s.b1x ≡ +0 → s.b1y ≡ +0 → s.b2x ≡ +0 → s.b2y ≡ +0 → s ≡ no_cubic_sums
+zero_sums s a b c d e f g = go s.a11 s.a12 s.a22 s.b1x s.b1y s.b2x s.b2y a b c d e f g
+  where
+    go : (x1 x2 x3 x4 x5 x6 x7 : Float) → x1 ≡ +0 → x2 ≡ +0 → x3 ≡ +0 → x4 ≡ +0 → x5 ≡ +0 → x6 ≡ +0 → x7 ≡ +0 → ◌≡◌ {A = Sums} (record { a11 = x1; a12 = x2; a22 = x3; b1x = x4; b1y = x5; b2x = x6; b2y = x7 }) no_cubic_sums
+    go x1 x2 x3 x4 x5 x6 x7 a b c d e f g = rw (a, b, c, d, e, f, g)
+
+-- what a turn of the loop over the points does to the sums
+abbrev pub turn : (ℕ → Point) → ℕ → ℕ → Sums → Sums
+turn at n k = add_point (at 0) (at (n - 1)) (chord_sum at k ⊘ chord_sum at (n - 1)) (at k)
+
 -- ---- the curve of n points
 module _ (at : ℕ → Point) (n : ℕ) where
   pub fitted_none : n < 2 → None ≡ cubic_fitted at n
   unfolding cubic_fitted
   fitted_none h = rw (lt-ltb _ _ h)
 
-  pub fitted-two : 2 ≤ n → n ≡ 2 → Curve (straight (at 0) (at (n - 1))) ≡ cubic_fitted at n
+  pub fitted-two : 2 ≤ n → n ≡ 2 → Some (straight (at 0) (at (n - 1))) ≡ cubic_fitted at n
   unfolding cubic_fitted
   fitted-two h g = rw (le-ltb _ _ h, eq-eqb _ _ g)
 
   -- three points or more, of this length in all
   module _ (h : 2 ≤ n) (g : n ≡ 2 → ⊥) (total : Float) (e : total ≡ chord_sum at (n - 1)) where
-    pub fitted_short : lt total no_length ≡ true → Curve (straight (at 0) (at (n - 1))) ≡ cubic_fitted at n
+    pub fitted_short : lt total no_length ≡ true → Some (straight (at 0) (at (n - 1))) ≡ cubic_fitted at n
     unfolding cubic_fitted
     fitted_short t =
         let u : lt (chord_sum at (n - 1)) no_length ≡ true = ap (λ (x : Float). lt x no_length) (sym e) ∙ t in
         rw (le-ltb _ _ h, ne_eqb _ _ g, u)
 
-    pub fitted-solved : lt total no_length ≡ false → Curve (cubic_solved (at 0) (at (n - 1)) (cubic_sums at n)) ≡ cubic_fitted at n
+    pub fitted-solved : lt total no_length ≡ false → Some (cubic_solved (at 0) (at (n - 1)) (cubic_sums at n)) ≡ cubic_fitted at n
     unfolding cubic_fitted
     fitted-solved t =
         let u : lt (chord_sum at (n - 1)) no_length ≡ false = ap (λ (x : Float). lt x no_length) (sym e) ∙ t in

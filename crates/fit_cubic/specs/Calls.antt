@@ -1,10 +1,10 @@
--- The public call: which row of document 01's table refuses it, else what it gives; and the answer that says so. Definitions only.
-use Rattle.std.specs.Prelude.{◌/◌, not, List, [], ◌∷◌, length, ltb, Float}
-use Rattle.geo.specs.Outcome.{Row, row, refusal, Outcome, refused, gives, unless}
+-- The public call: which row of document 01's table refuses it, else what it gives. Definitions only.
+use Rattle.std.specs.Prelude.{◌/◌, not, List, [], ◌∷◌, length, ltb, Float, Option}
+use Rattle.geo.specs.declared.types.Point.{Point}
+use Rattle.geo.specs.declared.types.CubicBezier.{CubicBezier}
+use Rattle.geo.specs.Outcome.{Row, row, refusal, Outcome, unless}
 use Rattle.geo.specs.Lent.{pair_at}
 use Rattle.geo.specs.Domain.{most_points, coordinate, numbers_in, whole}
-use Rattle.fit_cubic.specs.declared.fit_cubic.FittedCubic.{FittedCubic}
-use Rattle.fit_cubic.specs.declared.fit_cubic.FittedCubic.TheVariants as Fit·
 use Rattle.fit_cubic.specs.FitCubic.{cubic_fitted}
 
 -- ---- fit_cubic_bezier: at most 2,048 points, a pair of numbers each
@@ -15,10 +15,6 @@ cubic_rows s =
     ∷ row 5 (not (numbers_in coordinate s))
     ∷ []
 
-unfoldable pub cubic_call : List Float → Outcome FittedCubic
+unfoldable pub cubic_call : List Float → Outcome (Option (CubicBezier Point))
 unfolding refusal unless cubic_rows cubic_fitted
 cubic_call s = unless (refusal (cubic_rows s)) (cubic_fitted (pair_at s) (length s / 2))
-
-unfoldable pub cubic_answer : Outcome FittedCubic → FittedCubic
-cubic_answer (refused n) = Fit·.Refused n
-cubic_answer (gives c) = c

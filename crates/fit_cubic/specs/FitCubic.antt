@@ -1,5 +1,5 @@
 -- The cubic curve fitted to points: the ends are fixed, the two controls are least squares over parameters by chord length. Definitions only.
-use Rattle.std.specs.Prelude.{ℕ, zero, suc, ◌-◌, ◌<◌, ◌≡◌, List, ltb, eqb, get_or, Float, if◌then◌else◌}
+use Rattle.std.specs.Prelude.{ℕ, zero, suc, ◌-◌, ◌<◌, ◌≡◌, List, ltb, eqb, get_or, Float, Option, Some, None, if◌then◌else◌}
 use Rattle.std.specs.Float.{nan}
 use Rattle.floats.specs.Ops.{◌⊕◌, ◌⊖◌, ◌⊗◌, ◌⊘◌, ◌≺◌, +0, one, two, three}
 use Rattle.floats.specs.Limits.{pico, atto}
@@ -9,8 +9,6 @@ use Rattle.geo.specs.declared.types.CubicBezier.{CubicBezier}
 use Rattle.geo.specs.Vector.{cubic, distance, lerp}
 use Rattle.geo.specs.Walk.{fold}
 use Rattle.fit_cubic.specs.declared.fit_cubic.Sums.{Sums}
-use Rattle.fit_cubic.specs.declared.fit_cubic.FittedCubic.{FittedCubic}
-use Rattle.fit_cubic.specs.declared.fit_cubic.FittedCubic.TheVariants.{Curve, None}
 use Rattle.bezier.specs.Curve.{cube}
 
 -- a total length below 1e-12, and a determinant below 1e-18, give no system to solve
@@ -57,7 +55,7 @@ unfolding fold add_point chord_sum
 cubic_sums at n = fold (λ j. add_point (at 0) (at (n - 1)) (chord_sum at j ⊘ chord_sum at (n - 1)) (at j)) n 0 no_cubic_sums
 
 -- the controls that solve the equations; evenly along the chord where the determinant is too small
-unfoldable pub cubic_solved : Point → Point → Sums → CubicBezier
+unfoldable pub cubic_solved : Point → Point → Sums → CubicBezier Point
 unfolding lerp abs_of
 cubic_solved p0 p3 s =
     let det = s.a11 ⊗ s.a22 ⊖ s.a12 ⊗ s.a12 in
@@ -71,14 +69,14 @@ cubic_solved p0 p3 s =
     p3
 
 -- a curve along the chord
-abbrev pub straight : Point → Point → CubicBezier
+abbrev pub straight : Point → Point → CubicBezier Point
 straight p0 p3 = cubic p0 p0 p3 p3
 
 -- the curve of n points; none below 2
-unfoldable pub cubic_fitted : (ℕ → Point) → ℕ → FittedCubic
+unfoldable pub cubic_fitted : (ℕ → Point) → ℕ → Option (CubicBezier Point)
 unfolding cubic_sums cubic_solved chord_sum
 cubic_fitted at n =
     if ltb n 2 then None
-    else if eqb n 2 then Curve (straight (at 0) (at (n - 1)))
-    else if chord_sum at (n - 1) ≺ no_length then Curve (straight (at 0) (at (n - 1)))
-    else Curve (cubic_solved (at 0) (at (n - 1)) (cubic_sums at n))
+    else if eqb n 2 then Some (straight (at 0) (at (n - 1)))
+    else if chord_sum at (n - 1) ≺ no_length then Some (straight (at 0) (at (n - 1)))
+    else Some (cubic_solved (at 0) (at (n - 1)) (cubic_sums at n))

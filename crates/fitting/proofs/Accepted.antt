@@ -1,27 +1,26 @@
 -- The rows of the public calls behind those of their points, and what an accepted call answers and leaves. Assumes nothing.
+use Rattle.std.specs.Prelude.{Result, Ok}
 use Prim.Native.Nat.{ℕ, ◌-◌, ◌/◌, ◌≤◌, ◌<◌}
 use mathlib.Core.Path.{◌≡◌, refl, sym, ap, ◌∙◌, subst}
-use mathlib.Core.Logic.{⊎_elim}
 use mathlib.Core.Bool.{Bool, true, false, not, ◌&&◌}
 use mathlib.Core.List.{List, []}
 use native.Mathlib.Omega.{arith}
-use borrow.Author.Tests.{ltb-true, ltb-false, lt-ltb, le-ltb, le-leb, lt-leb, not-false}
+use borrow.Author.Tests.{ltb-true, ltb-false, lt-ltb, not-false}
 use lib.ListN.{length}
-use lib.Dec.{ltb, leb}
+use lib.Dec.{ltb}
 use lib.Seq.{sets}
 use lib.Ieee.{Float}
 use Rattle.floats.specs.Ops.{◌≺◌, +0}
-use Rattle.floats.proofs.Order.{lt_or_ge}
 use Rattle.geo.specs.declared.types.Command.{Command}
-use Rattle.geo.specs.declared.types.Answer.{Answer}
-use Rattle.geo.specs.declared.types.Answer.TheVariants.{Written}
-use Rattle.geo.specs.Commands.{WroteCommands}
+use Rattle.geo.specs.declared.refusal.Refusal.{Refusal}
+use Rattle.geo.specs.Wrote.{Wrote, WroteCommands}
 use Rattle.geo.specs.Domain.{most_points}
 use Rattle.geo.specs.Lent.{point_at, flat, numbers_of}
-use Rattle.geo.specs.Outcome.{refusal, unless, left, Wrote}
+use Rattle.geo.specs.Outcome.{refusal, unless, left}
 use Rattle.geo.proofs.Tolerance.{tolerance-positive}
 use Rattle.geo.proofs.Rows.{row_passed}
-use Rattle.geo.proofs.Outcomes.{wrote-given, commands-given, nine}
+use Rattle.geo.proofs.Wrote.{wrote-given, commands-given}
+use Rattle.geo.proofs.Wrote.{nine}
 use Rattle.geo.proofs.Flat.{flat_length}
 use Rattle.circle.specs.Calls.{points_rows}
 use Rattle.pieces.specs.declared.pieces.Rule.{Rule}
@@ -36,7 +35,7 @@ use Rattle.fitting.specs.Calls.{fit_rows, fit_call, worst_call}
 inside-points : (lo hi n : ℕ) → (ltb lo hi && not (ltb hi n)) ≡ false → lo < hi → hi < n
 inside-points lo hi n h l = ltb-true hi n (not-false _ (subst (λ (b : Bool). (b && not (ltb hi n)) ≡ false) (lt-ltb lo hi l) h))
 
-module _ (s : List Float) (tol : Float) (lo hi kinds numbers places r : ℕ) (q : r ≡ refusal (fit_rows s tol lo hi kinds numbers places)) (z : r ≡ 0) where
+module _ (s : List Float) (tol : Float) (lo hi kinds numbers places : ℕ) (q : 0 ≡ refusal (fit_rows s tol lo hi kinds numbers places)) where
   pub record Accepted : Type 0 where
     pub few : length s / 3 ≤ most_points
     pub above_zero : (+0 ≺ tol) ≡ true
@@ -48,7 +47,7 @@ module _ (s : List Float) (tol : Float) (lo hi kinds numbers places r : ℕ) (q 
   pub fit-accepted : Accepted
   unfolding fit_rows points_rows
   fit-accepted =
-      let w = row_passed 0 _ _ (sym z ∙ q) in
+      let w = row_passed 0 _ _ q in
       let a = row_passed 0 _ _ w.1 in
       let b = row_passed 1 _ _ a.1 in
       let c = row_passed 4 _ _ b.1 in
@@ -67,16 +66,16 @@ module _ (s : List Float) (tol : Float) (lo hi kinds numbers places r : ℕ) (q 
       }
 
 -- ---- what an accepted fit answers and leaves
-module _ (s : List Float) (tol : Float) (lo hi : ℕ) (ks ks' : List ℕ) (ns ns' : List Float) (ws ws' : List ℕ) (r k : ℕ)
-    (q : r ≡ refusal (fit_rows s tol lo hi (length ks) (length ns) (length ws))) (z : r ≡ 0) where
+module _ (s : List Float) (tol : Float) (lo hi : ℕ) (ks ks' : List ℕ) (ns ns' : List Float) (ws ws' : List ℕ) (k : ℕ)
+    (q : 0 ≡ refusal (fit_rows s tol lo hi (length ks) (length ns) (length ws))) where
   abbrev rule : Rule
   rule = points_rule tol
 
   -- its commands and their worst steps
   abbrev pub WroteFit : Type 0
   WroteFit =
-      WroteCommands (fit_call s tol lo hi (length ks) (length ns) (length ws)) ks ks' ns ns' (Written k)
-      × Wrote (λ ns. ns) (worst_call s tol lo hi (length ks) (length ns) (length ws)) ws ws' (Written k)
+      WroteCommands (fit_call s tol lo hi (length ks) (length ns) (length ws)) ks ks' ns ns' (Ok k)
+      × Wrote (λ ns. ns) (worst_call s tol lo hi (length ks) (length ns) (length ws)) ws ws' (Ok k)
 
   pub wrote-fit : lo < hi → NotedPlaced (noted_in rule (point_at s) lo hi) 0 k ks ks' ns ns' ws ws' → WroteFit
   unfolding fit_call worst_call
@@ -84,14 +83,14 @@ module _ (s : List Float) (tol : Float) (lo hi : ℕ) (ks ks' : List ℕ) (ns ns
       let xs = fit_in rule (point_at s) lo hi in
       let vs = worst_in rule (point_at s) lo hi in
       let c = commands-placed (noted_in rule (point_at s) lo hi) xs 0 k ks ks' ns ns' ws ws' (noted-fit rule (point_at s) lo hi) p in
-      let a = fit-accepted s tol lo hi (length ks) (length ns) (length ws) r q z in
+      let a = fit-accepted s tol lo hi (length ks) (length ns) (length ws) q in
       let l = fit_length rule a.above_zero (point_at s) lo hi some in
       let v = worst_length rule a.above_zero (point_at s) lo hi some in
       let rk = a.room-kinds in
       let rn = a.room-numbers in
       let rw' = a.room-places in (
-        commands-given _ r q xs ks ks' ns ns' k z c.count (omega arith) (omega (arith, flat_length numbers_of 9 nine xs)) c.kinds c.numbers,
-        wrote-given _ r q (λ ns. ns) vs ws ws' k z (c.count ∙ worst-count rule (point_at s) lo hi) (omega arith)
+        commands-given _ q xs ks ks' ns ns' k c.count (omega arith) (omega (arith, flat_length numbers_of 9 nine xs)) c.kinds c.numbers,
+        wrote-given _ q (λ ns. ns) vs ws ws' k (c.count ∙ worst-count rule (point_at s) lo hi) (omega arith)
             (p.notes ∙ ap (sets ws 0) (noted-worst rule refl (point_at s) lo hi)),
       )
 
@@ -102,28 +101,17 @@ module _ (s : List Float) (tol : Float) (lo hi : ℕ) (ks ks' : List ℕ) (ns ns
       let d : hi - lo ≡ 0 = omega arith in
       let e : fit_in rule (point_at s) lo hi ≡ [] = rw d in
       let f : worst_in rule (point_at s) lo hi ≡ [] = rw d in (
-        subst (λ (xs : List Command). WroteCommands (unless (refusal (fit_rows s tol lo hi (length ks) (length ns) (length ws))) xs) ks ks' ns ns' (Written k)) (sym e)
-            (commands-given _ r q [] ks ks' ns ns' k z g (omega arith) (omega (arith, flat_length numbers_of 9 nine [])) p o),
-        subst (λ (xs : List ℕ). Wrote (λ ns. ns) (unless (refusal (fit_rows s tol lo hi (length ks) (length ns) (length ws))) xs) ws ws' (Written k)) (sym f)
-            (wrote-given _ r q (λ ns. ns) [] ws ws' k z g (omega arith) v),
+        subst (λ (xs : List Command). WroteCommands (unless (refusal (fit_rows s tol lo hi (length ks) (length ns) (length ws))) xs) ks ks' ns ns' (Ok k)) (sym e)
+            (commands-given _ q [] ks ks' ns ns' k g (omega arith) (omega (arith, flat_length numbers_of 9 nine [])) p o),
+        subst (λ (xs : List ℕ). Wrote (λ ns. ns) (unless (refusal (fit_rows s tol lo hi (length ks) (length ns) (length ws))) xs) ws ws' (Ok k)) (sym f)
+            (wrote-given _ q (λ ns. ns) [] ws ws' k g (omega arith) v),
       )
 
 -- to the index that the code worked out
-module _ (s : List Float) (tol : Float) (k hi kinds numbers places : ℕ) (r : Answer) (e : k ≡ hi) where
+module _ (s : List Float) (tol : Float) (k hi kinds numbers places : ℕ) (r : Result ℕ Refusal) (e : k ≡ hi) where
   pub wrote-to : (ks ks' : List ℕ) (ns ns' : List Float)
       → WroteCommands (fit_call s tol 0 k kinds numbers places) ks ks' ns ns' r → WroteCommands (fit_call s tol 0 hi kinds numbers places) ks ks' ns ns' r
   wrote-to ks ks' ns ns' w = subst (λ (i : ℕ). WroteCommands (fit_call s tol 0 i kinds numbers places) ks ks' ns ns' r) e w
 
   pub left-to : (ws ws' : List ℕ) → Wrote (λ ns. ns) (worst_call s tol 0 k kinds numbers places) ws ws' r → ws' ≡ left (λ ns. ns) ws (worst_call s tol 0 hi kinds numbers places)
   left-to ws ws' w = subst (λ (i : ℕ). ws' ≡ left (λ ns. ns) ws (worst_call s tol 0 i kinds numbers places)) e w.leaves
-
--- ---- the tests of a fit, as its rows have them
-pub not_below : (a b : ℕ) → leb a b ≡ not (ltb b a)
-not_below a b = ⊎_elim (λ h. rw (lt-leb a b h, lt-ltb b a h)) (λ h. rw (le-leb a b h, le-ltb b a h)) (lt_or_ge b a)
-
--- k is the most that the code worked out
-pub most_fails : (room k most : ℕ) → k ≡ most → room < k → ltb room most ≡ true
-most_fails room k most e h = lt-ltb room most (omega arith)
-
-pub most-passes : (room k most : ℕ) → k ≡ most → k ≤ room → ltb room most ≡ false
-most-passes room k most e h = le-ltb room most (omega arith)

@@ -1,4 +1,5 @@
 -- The ranges that a fit of all points examines, by its pieces. Assumes nothing.
+use Rattle.std.specs.Prelude.{Result, Err}
 use Prim.Native.Nat.{ℕ, ◌-◌, ◌*◌, ◌/◌, ◌≤◌, ◌<◌}
 use mathlib.Core.Path.{◌≡◌, refl, sym, ap, ◌∙◌}
 use mathlib.Core.Logic.{⊎_elim}
@@ -10,17 +11,18 @@ use lib.Ieee.{Float}
 use Rattle.floats.specs.Ops.{◌≺◌, +0}
 use Rattle.floats.proofs.Order.{lt_or_ge}
 use Rattle.geo.specs.declared.types.Command.{Command}
-use Rattle.geo.specs.declared.types.Answer.{Answer}
-use Rattle.geo.specs.declared.types.Answer.TheVariants as counted
+use Rattle.geo.specs.declared.refusal.Refusal.{Refusal}
 use Rattle.geo.specs.Domain.{most_points}
 use Rattle.geo.specs.Lent.{point_at}
-use Rattle.geo.specs.Outcome.{Outcome, refused, gives, refusal, answer}
+use Rattle.geo.specs.Outcome.{Outcome, refused, gives, refusal}
+use Rattle.geo.specs.Refusal.{number, outcome}
+use Rattle.geo.specs.Wrote.{answer}
 use Rattle.geo.proofs.Rows.{unless-given}
 use Rattle.pieces.specs.Pieces.{points_rule, pieces_by, pieces_in, ranges_by}
 use Rattle.pieces.specs.Commands.{piece_command, fit_in}
 use Rattle.pieces.proofs.Recursion.{pieces_length}
 use Rattle.pieces.proofs.Laws.{ranges_examined}
-use Rattle.fitting.specs.declared.fitting.Primitives.TheVariants.{Fitted, Refused}
+use Rattle.fitting.specs.declared.fitting.Primitives.{Primitives}
 use Rattle.fitting.specs.Calls.{fit_rows, fit_call, primitives_call, examined, primitives_answer}
 use Rattle.fitting.specs.Examined.{pieces_of, RangesExamined}
 use Rattle.fitting.proofs.Accepted.{fit-accepted}
@@ -47,7 +49,7 @@ pub ranges_of_the_call : RangesExamined
 unfolding fit_call
 ranges_of_the_call s tol kinds numbers places xs e =
     let g = unless-given (refusal (fit_rows s tol 0 (length s / 3 - 1) kinds numbers places)) _ xs e in
-    let pos = (fit-accepted s tol 0 (length s / 3 - 1) kinds numbers places 0 g.0 refl).above_zero in
+    let pos = (fit-accepted s tol 0 (length s / 3 - 1) kinds numbers places g.0).above_zero in
     record {
       none = no_ranges s tol;
       some = some_ranges s tol pos;
@@ -63,43 +65,45 @@ module _ (s : List Float) (tol : Float) (kinds numbers places : ℕ) where
       let p = w.pieces in
       ⊎_elim (λ h. let a = w.none h in let b = no_pieces s tol h in omega arith) (λ h. let a = w.some h in omega arith) (lt_or_ge (length s / 3) 2)
 
-  pub answer-fitted : (a : Answer) (n ranges : ℕ) → a ≡ answer (primitives_call s tol kinds numbers places) → a ≡ counted.Written n → ranges ≡ 2 * n - 1
-      → Fitted n ranges ≡ primitives_answer (primitives_call s tol kinds numbers places) (examined s tol)
+  pub answer-fitted : (n ranges : ℕ) → gives n ≡ answer (primitives_call s tol kinds numbers places) → ranges ≡ 2 * n - 1
+      → gives (record { count = n; ranges = ranges }) ≡ primitives_answer (primitives_call s tol kinds numbers places) (examined s tol)
   unfolding answer primitives_answer
-  answer-fitted a n ranges e q r = go (primitives_call s tol kinds numbers places) refl
+  answer-fitted n ranges e r = go (primitives_call s tol kinds numbers places) refl
     where
-      go : (o : Outcome (List Command)) → primitives_call s tol kinds numbers places ≡ o → Fitted n ranges ≡ primitives_answer (primitives_call s tol kinds numbers places) (examined s tol)
-      go (refused k) h = let d : counted.Written n ≡ counted.Refused k = sym q ∙ e ∙ ap answer h in let z : ◌≡◌ {A = ℕ} 0 1 = cc in absurd (omega arith)
+      go : (o : Outcome (List Command)) → primitives_call s tol kinds numbers places ≡ o
+          → gives (record { count = n; ranges = ranges }) ≡ primitives_answer (primitives_call s tol kinds numbers places) (examined s tol)
+      go (refused k) h = let d : gives n ≡ refused k = e ∙ ap answer h in let z : ◌≡◌ {A = ℕ} 0 1 = cc in absurd (omega arith)
       go (gives xs) h =
-          let d : counted.Written n ≡ counted.Written (length xs) = sym q ∙ e ∙ ap answer h in
+          let d : gives n ≡ gives (length xs) = e ∙ ap answer h in
           let z : n ≡ length xs = cc in
           let t = twice-written xs h in
           let k : ranges ≡ examined s tol = omega arith in
-          ap (λ (m : ℕ). Fitted m ranges) z ∙ ap (λ (m : ℕ). Fitted (length xs) m) k ∙ sym (ap (λ (o : Outcome (List Command)). primitives_answer o (examined s tol)) h)
+          rw (h, z, k)
 
-  pub answer-refused : (a : Answer) (n : ℕ) → a ≡ answer (primitives_call s tol kinds numbers places) → a ≡ counted.Refused n
-      → Refused n ≡ primitives_answer (primitives_call s tol kinds numbers places) (examined s tol)
+  pub answer-refused : (cause : Refusal) → refused (number cause) ≡ answer (primitives_call s tol kinds numbers places) → (r : Result Primitives Refusal) → r ≡ Err cause
+      → outcome r ≡ primitives_answer (primitives_call s tol kinds numbers places) (examined s tol)
   unfolding answer primitives_answer
-  answer-refused a n e q = go (primitives_call s tol kinds numbers places) refl
+  answer-refused cause e r q = rw q (go (primitives_call s tol kinds numbers places) refl)
     where
-      go : (o : Outcome (List Command)) → primitives_call s tol kinds numbers places ≡ o → Refused n ≡ primitives_answer (primitives_call s tol kinds numbers places) (examined s tol)
+      go : (o : Outcome (List Command)) → primitives_call s tol kinds numbers places ≡ o
+          → refused (number cause) ≡ primitives_answer (primitives_call s tol kinds numbers places) (examined s tol)
       go (refused k) h =
-          let d : counted.Refused n ≡ counted.Refused k = sym q ∙ e ∙ ap answer h in
-          let z : n ≡ k = cc in ap Refused z ∙ sym (ap (λ (o : Outcome (List Command)). primitives_answer o (examined s tol)) h)
-      go (gives xs) h = let d : counted.Refused n ≡ counted.Written (length xs) = sym q ∙ e ∙ ap answer h in let z : ◌≡◌ {A = ℕ} 0 1 = cc in absurd (omega arith)
+          let d : ◌≡◌ {A = Outcome ℕ} (refused (number cause)) (refused k) = e ∙ ap answer h in
+          let z : number cause ≡ k = cc in rw (h, z)
+      go (gives xs) h = let d : refused (number cause) ≡ gives (length xs) = e ∙ ap answer h in let z : ◌≡◌ {A = ℕ} 0 1 = cc in absurd (omega arith)
 
   -- an accepted call has at most 2,047 pieces
-  pub answer-few : (a : Answer) (n : ℕ) → a ≡ answer (primitives_call s tol kinds numbers places) → a ≡ counted.Written n → n ≤ most_points
+  pub answer-few : (n : ℕ) → gives n ≡ answer (primitives_call s tol kinds numbers places) → n ≤ most_points
   unfolding answer fit_call
-  answer-few a n e q = go (primitives_call s tol kinds numbers places) refl
+  answer-few n e = go (primitives_call s tol kinds numbers places) refl
     where
       go : (o : Outcome (List Command)) → primitives_call s tol kinds numbers places ≡ o → n ≤ most_points
-      go (refused k) h = let d : counted.Written n ≡ counted.Refused k = sym q ∙ e ∙ ap answer h in let z : ◌≡◌ {A = ℕ} 0 1 = cc in absurd (omega arith)
+      go (refused k) h = let d : gives n ≡ refused k = e ∙ ap answer h in let z : ◌≡◌ {A = ℕ} 0 1 = cc in absurd (omega arith)
       go (gives xs) h =
-          let d : counted.Written n ≡ counted.Written (length xs) = sym q ∙ e ∙ ap answer h in
+          let d : gives n ≡ gives (length xs) = e ∙ ap answer h in
           let z : n ≡ length xs = cc in
           let g = unless-given (refusal (fit_rows s tol 0 (length s / 3 - 1) kinds numbers places)) _ xs h in
-          let acc = fit-accepted s tol 0 (length s / 3 - 1) kinds numbers places 0 g.0 refl in
+          let acc = fit-accepted s tol 0 (length s / 3 - 1) kinds numbers places g.0 in
           let w = ranges_of_the_call s tol kinds numbers places xs h in
           let p = w.pieces in
           let f = acc.few in

@@ -46,7 +46,7 @@ worst_of_the_fit s tol lo hi kinds numbers places xs ns e g =
     let ps = pieces_in (points_rule tol) at lo hi in
     let x = unless-given n _ xs e in
     let y = unless-given n _ ns g in
-    let pos = (fit-accepted s tol lo hi kinds numbers places 0 x.0 refl).above_zero in
+    let pos = (fit-accepted s tol lo hi kinds numbers places x.0).above_zero in
     subst (λ (zs : List command.Command). AllBeside at ps zs ns) x.1 (subst (AllBeside at ps (map (piece_command at) ps)) y.1
     (⊎_elim (λ h. all_beside at lo hi ps (pieces_cover (points_rule tol) pos at lo hi h)) (λ h. none at tol lo hi h) (lt_or_ge lo hi)))
   where

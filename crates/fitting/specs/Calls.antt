@@ -7,7 +7,7 @@ use Rattle.geo.specs.Outcome.{Row, row, refusal, Outcome, refused, gives, unless
 use Rattle.circle.specs.Calls.{points_rows}
 use Rattle.pieces.specs.Pieces.{points_rule, ranges_in}
 use Rattle.pieces.specs.Commands.{fit_in, worst_in}
-use Rattle.fitting.specs.declared.fitting.Primitives as primitives
+use Rattle.fitting.specs.declared.fitting.Primitives.{Primitives}
 
 -- ---- fit_points_recursive: of the points s from lo to hi, to outputs of `kinds` kinds, `numbers` numbers and `places` worst steps. Its most is hi - lo, 0 where lo is not
 -- below hi
@@ -41,6 +41,6 @@ abbrev pub examined : List Float → Float → ℕ
 examined s tol = ranges_in (points_rule tol) (point_at s) 0 (length s / 3 - 1)
 
 -- beside the count of commands.
-unfoldable pub primitives_answer : Outcome (List Command) → ℕ → primitives.Primitives
-primitives_answer (refused n) ranges = primitives.TheVariants.Refused n
-primitives_answer (gives xs) ranges = primitives.TheVariants.Fitted (length xs) ranges
+unfoldable pub primitives_answer : Outcome (List Command) → ℕ → Outcome Primitives
+primitives_answer (refused n) ranges = refused n
+primitives_answer (gives xs) ranges = gives record { count = length xs; ranges = ranges }

@@ -14,7 +14,7 @@ use Rattle.geo.specs.declared.types.Command.{Command}
 use Rattle.geo.specs.declared.types.Command.TheVariants.{Line}
 use Rattle.geo.specs.Lent.{triple, flat, kind_of, numbers_of}
 use Rattle.geo.proofs.Stores.{sets_append}
-use Rattle.geo.proofs.Outcomes.{nine}
+use Rattle.geo.proofs.Wrote.{nine}
 use Rattle.pieces.specs.Written.{FitPlaced}
 use Rattle.flatten.specs.Parts.{ArcPart}
 use Rattle.flatten.specs.Lines.{height_after, end_after, line_after, numbered, lines_of}
@@ -55,9 +55,6 @@ module _ (h : ℕ → Float) (k : ℕ) (l₀ : List Float) where
   pub record Raising (l : List Float) (i : ℕ) : Type 0 where
     pub long : length l ≡ length l₀
     pub rest : heightened h (k - i) i l ≡ heightened h k 0 l₀
-
-  pub raising_start : Raising l₀ 0
-  raising_start = let e : k - 0 ≡ k = omega arith in record { long = refl; rest = rw e }
 
   pub raising_step : (l l' : List Float) (i : ℕ) → Raising l i → i < k → l' ≡ set l (9 * i + 2) (h (i + 1)) → Raising l' (i + 1)
   unfolding heightened

@@ -1,26 +1,24 @@
 -- The whole call: what both passes leave of an Arc, the rows by the tests that the code makes, and what an accepted call answers. Assumes nothing.
 use Prim.Native.Nat.{ℕ, ◌-◌, ◌*◌, ◌/◌, ◌≤◌}
-use mathlib.Core.Path.{◌≡◌, sym, ◌∙◌, subst}
-use mathlib.Core.Bool.{Bool, true, false, not}
+use mathlib.Core.Path.{◌≡◌, subst}
+use mathlib.Core.Bool.{Bool}
 use mathlib.Core.List.{List}
 use native.Mathlib.Omega.{arith}
-use borrow.Author.Tests.{eq-eqb, ne_eqb, eqb-true, ltb-false, not-false}
+use borrow.Author.Tests.{eqb-true, ltb-false, not-false}
 use lib.ListN.{length}
-use lib.Dec.{eqb}
 use lib.Seq.{sets}
 use lib.Ieee.{Float}
 use Rattle.floats.specs.Ops.{◌≺◌, ◌⊗◌, +0}
 use Rattle.geo.specs.declared.types.Point.{Point}
 use Rattle.geo.specs.declared.types.Point3D.{Point3D}
-use Rattle.geo.specs.declared.types.Command.{Command}
-use Rattle.geo.specs.declared.types.Answer.TheVariants.{Written}
-use Rattle.geo.specs.Lent.{point_at, triple, numbers_of, command_of}
-use Rattle.geo.specs.Domain.{formed, command_in}
+use Rattle.std.specs.Prelude.{Ok}
+use Rattle.geo.specs.Lent.{point_at, triple, numbers_of}
 use Rattle.geo.specs.Outcome.{refusal}
-use Rattle.geo.specs.Commands.{WroteCommands}
+use Rattle.geo.specs.Wrote.{WroteCommands}
 use Rattle.geo.proofs.Rows.{row_passed}
 use Rattle.geo.proofs.Flat.{flat_length}
-use Rattle.geo.proofs.Outcomes.{commands-given, nine}
+use Rattle.geo.proofs.Wrote.{commands-given}
+use Rattle.geo.proofs.Wrote.{nine}
 use Rattle.trial.specs.Traversal.{offset_of}
 use Rattle.pieces.specs.Written.{FitPlaced}
 use Rattle.flatten.specs.Parts.{centre_of, turns_before, ArcPart, quartered, parts_between, parts_of}
@@ -28,7 +26,7 @@ use Rattle.flatten.specs.Lines.{height_after, line_after, lines_of, drawn}
 use Rattle.floats.specs.Limits.{quarter}
 use Rattle.flatten.specs.declared.flatten.Ray.{Ray}
 use Rattle.flatten.specs.Written.{ray_of, low_lines, heightened}
-use Rattle.flatten.specs.Calls.{drawable, flatten_rows, flatten_call}
+use Rattle.flatten.specs.Calls.{flatten_rows, flatten_call}
 use Rattle.flatten.proofs.Parts.{quartered-some, parts-few}
 use Rattle.flatten.proofs.Lines.{numbered_length}
 use Rattle.flatten.proofs.Raising.{passes-placed}
@@ -49,26 +47,8 @@ module _ (a b o : Point3D) (clockwise : Bool) (tol : Float) (m : Point) (u w : R
       (subst (λ (qs : List ArcPart). FitPlaced (lines_of m a b qs) 0 n ks ks' ns ns₃) parts_are
       (passes-placed m a b ps n ks ks' ns ns₁ ns₂ ns₃ (quartered-some u.len (tol ⊗ quarter) clockwise k u.to w.to) f e g))
 
--- ---- the rows
-pub nine_fails : (n : ℕ) → (n ≡ 9 → ⊥) → not (eqb n 9) ≡ true
-nine_fails n h = rw (ne_eqb n 9 h)
-
-pub nine-passes : (n : ℕ) → n ≡ 9 → not (eqb n 9) ≡ false
-nine-passes n h = rw (eq-eqb n 9 h)
-
--- b, o and d are the points that the code read
-module _ (kind : ℕ) (s : List Float) (a b o d : Point3D) (tol : Float) (eb : b ≡ point_at s 0) (eo : o ≡ point_at s 1) (ed : d ≡ point_at s 2) where
-  pub formed_as : (r : Bool) → r ≡ formed kind o d → r ≡ formed kind (point_at s 1) (point_at s 2)
-  formed_as r e = e ∙ rw (eo, ed)
-
-  pub command_as : (r : Bool) (x : Command) → r ≡ command_in x → x ≡ command_of kind b o d → r ≡ command_in (command_of kind (point_at s 0) (point_at s 1) (point_at s 2))
-  command_as r x e q = e ∙ rw (q, eb, eo, ed)
-
-  pub drawable_as : (r : Bool) → r ≡ drawable kind a b o d tol → r ≡ drawable kind a (point_at s 0) (point_at s 1) (point_at s 2) tol
-  drawable_as r e = e ∙ rw (eb, eo, ed)
-
 -- ---- an accepted call
-module _ (kind : ℕ) (s : List Float) (a : Point3D) (tol : Float) (kinds numbers r : ℕ) (q : r ≡ refusal (flatten_rows kind s a tol kinds numbers)) (z : r ≡ 0) where
+module _ (kind : ℕ) (s : List Float) (a : Point3D) (tol : Float) (kinds numbers : ℕ) (z : 0 ≡ refusal (flatten_rows kind s a tol kinds numbers)) where
   pub record Accepted : Type 0 where
     pub nine-numbers : length s ≡ 9
     pub room-kinds : 4096 ≤ kinds
@@ -77,7 +57,7 @@ module _ (kind : ℕ) (s : List Float) (a : Point3D) (tol : Float) (kinds number
   pub arc-accepted : Accepted
   unfolding flatten_rows
   arc-accepted =
-      let r₁ = row_passed 0 _ _ (sym z ∙ q) in
+      let r₁ = row_passed 0 _ _ z in
       let r₂ = row_passed 0 _ _ r₁.1 in
       let r₃ = row_passed 3 _ _ r₂.1 in
       let r₄ = row_passed 4 _ _ r₃.1 in
@@ -103,18 +83,18 @@ drawn-few a b o d tol =
     let l = numbered_length (line_after m a b (length ps)) 1 ps in omega arith
 
 -- what it answers and leaves
-pub wrote-arc : (kind : ℕ) (s : List Float) (a b o d : Point3D) (tol : Float) (ks ks' : List ℕ) (ns ns' : List Float) (r k : ℕ)
-    → r ≡ refusal (flatten_rows kind s a tol (length ks) (length ns)) → r ≡ 0 → b ≡ point_at s 0 → o ≡ point_at s 1 → d ≡ point_at s 2
+pub wrote-arc : (kind : ℕ) (s : List Float) (a b o d : Point3D) (tol : Float) (ks ks' : List ℕ) (ns ns' : List Float) (k : ℕ)
+    → 0 ≡ refusal (flatten_rows kind s a tol (length ks) (length ns)) → b ≡ point_at s 0 → o ≡ point_at s 1 → d ≡ point_at s 2
     → FitPlaced (lines_of (centre_of a o) a b (parts_of (d.z ≺ +0) tol (centre_of a o) a b)) 0 k ks ks' ns ns'
-    → WroteCommands (flatten_call kind s a tol (length ks) (length ns)) ks ks' ns ns' (Written k)
+    → WroteCommands (flatten_call kind s a tol (length ks) (length ns)) ks ks' ns ns' (Ok k)
 unfolding flatten_call drawn
-wrote-arc kind s a b o d tol ks ks' ns ns' r k q z eb eo ed p =
+wrote-arc kind s a b o d tol ks ks' ns ns' k z eb eo ed p =
     let xs = drawn a (point_at s 0) (point_at s 1) (point_at s 2) tol in
-    let v = arc-accepted kind s a tol (length ks) (length ns) r q z in
+    let v = arc-accepted kind s a tol (length ks) (length ns) z in
     let f : length xs ≤ 4096 = drawn-few a (point_at s 0) (point_at s 1) (point_at s 2) tol in
     let rk = v.room-kinds in
     let rn = v.room-numbers in
     let w : FitPlaced xs 0 k ks ks' ns ns' = subst (λ (x : Point3D). FitPlaced (drawn a x (point_at s 1) (point_at s 2) tol) 0 k ks ks' ns ns') eb
     (subst (λ (x : Point3D). FitPlaced (drawn a b x (point_at s 2) tol) 0 k ks ks' ns ns') eo
     (subst (λ (x : Point3D). FitPlaced (drawn a b o x tol) 0 k ks ks' ns ns') ed p)) in
-    commands-given _ r q xs ks ks' ns ns' k z w.count (omega arith) (omega (arith, flat_length numbers_of 9 nine xs)) w.kinds w.numbers
+    commands-given _ z xs ks ks' ns ns' k w.count (omega arith) (omega (arith, flat_length numbers_of 9 nine xs)) w.kinds w.numbers

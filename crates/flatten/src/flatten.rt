@@ -2,7 +2,8 @@
 // quarter turns, and halves each part until it is flat enough. Vectors lie in the plane, seen from the arc's centre.
 ghost use Rattle.std.specs.Prelude.{◌≡◌, [], ◌∷◌, ◌+◌, ◌-◌, ◌*◌, ◌^◌, ◌≤◌, ◌<◌, length};
 ghost use Rattle.geo.specs.Outcome.{refusal};
-ghost use Rattle.geo.specs.Commands.{WroteCommands};
+ghost use Rattle.geo.specs.Refusal.{refused_by};
+ghost use Rattle.geo.specs.Wrote.{WroteCommands};
 ghost use Rattle.trial.specs.Traversal.{offset_of, cross2, dot2};
 ghost use Rattle.pieces.specs.Written.{FitPlaced};
 ghost use Rattle.flatten.specs.Parts.{centre_of, quarter_turn, turns_by, turns_before, stretched, middle, halved, quartered, parts_of};
@@ -15,7 +16,8 @@ use floats::root::sqrt;
 use geo::domain::{command_in, is_formed, is_tolerance, point3_in};
 use geo::lent::{make_command, point_at, put_command, put_point};
 use geo::point::get_length;
-use geo::types::{Answer, Command, Point, Point3D};
+use geo::refusal::Refusal;
+use geo::types::{Command, Point, Point3D};
 
 // A vector and its length, which is rooted once.
 #[derive(Clone, Copy)]
@@ -28,6 +30,7 @@ impl Ray {
     // Neither radius may be below this.
     const SHORTEST: f64 = 1e-9;
 
+    #[tactic(auto, unfolding(crate::specs::Written::ray_of, crate::specs::Parts::length_by))]
     fn new(to: Point) -> Self
         ensures { result ≡ ray_of to }
     {
@@ -58,6 +61,7 @@ impl Round {
 }
 
 // The centre of the Arc from a: its offset is given from there.
+#[tactic(auto, unfolding(crate::specs::Parts::centre_of))]
 fn center(a: Point3D, o: Point3D) -> Point
     ensures { result ≡ centre_of a o }
 {
@@ -68,6 +72,7 @@ fn center(a: Point3D, o: Point3D) -> Point
 }
 
 // A point less the centre.
+#[tactic(auto, unfolding(trial::specs::Traversal::offset_of))]
 fn vector(m: Point, p: Point3D) -> Ray
     ensures { result ≡ ray_of (offset_of m p) }
 {
@@ -77,12 +82,14 @@ fn vector(m: Point, p: Point3D) -> Ray
     })
 }
 
+#[tactic(auto, unfolding(trial::specs::Traversal::cross2))]
 fn cross(u: Point, w: Point) -> f64
     ensures { result ≡ cross2 u w }
 {
     u.x * w.y - u.y * w.x
 }
 
+#[tactic(auto, unfolding(trial::specs::Traversal::dot2))]
 fn dot(u: Point, w: Point) -> f64
     ensures { result ≡ dot2 u w }
 {
@@ -90,6 +97,7 @@ fn dot(u: Point, w: Point) -> f64
 }
 
 // An exact quarter turn: the numbers exchanged, and one sign.
+#[tactic(auto, unfolding(crate::specs::Parts::quarter_turn))]
 fn quarter_turn(clockwise: bool, u: Point) -> Point
     ensures { result ≡ quarter_turn clockwise u }
 {
@@ -107,6 +115,7 @@ fn turn(clockwise: bool, u: Point) -> Ray
 
 // How many quarter turns fall strictly before the end, by the signs of the cross of the first and the last vector, seen
 // in the arc's direction, and of their dot.
+#[tactic(auto, unfolding(crate::specs::Parts::turns_by))]
 fn turns_by(c: f64, d: f64) -> usize
     ensures { result ≡ turns_by c d }
 {
@@ -141,6 +150,7 @@ fn turns_before(clockwise: bool, u: Point, w: Point) -> usize
 }
 
 // How far the arc of radius r bulges beyond the step from u to w. The cosine is taken as it comes out, above 1 too.
+#[tactic(auto, unfolding(crate::specs::Written::bulge_of))]
 fn bulge_of(r: f64, u: Ray, w: Ray) -> f64
     ensures { result ≡ bulge_of r u w }
 {
@@ -149,6 +159,7 @@ fn bulge_of(r: f64, u: Ray, w: Ray) -> f64
 }
 
 // The vector s divided by its length, and then multiplied by r.
+#[tactic(auto, unfolding(crate::specs::Parts::stretched, crate::specs::Parts::length_by))]
 fn stretch(r: f64, s: Point) -> Point
     ensures { result ≡ stretched r s }
 {
@@ -160,6 +171,7 @@ fn stretch(r: f64, s: Point) -> Point
 }
 
 // The vector that halves the part from u to w.
+#[tactic(auto, unfolding(crate::specs::Parts::middle))]
 fn halfway(r: f64, u: Point, w: Point) -> Ray
     ensures { result ≡ ray_of (middle r u w) }
 {
@@ -170,7 +182,8 @@ fn halfway(r: f64, u: Point, w: Point) -> Ray
     Ray::new(stretch(r, s))
 }
 
-// Writes the Line to the centre plus v at place `at`; its height is set later.
+// Writes the Line to the centre plus v at place `at`; its height is set later. The outputs and the place stay parameters here and below: a
+// struct proves too, but each method would promise of both references that they are those that they were, and the place is handed on.
 fn put_line(m: Point, v: Point, kinds: &mut [u8], nums: &mut [f64], at: usize)
     requires { (at < length kinds.old) × (9 * at + 8 < length nums.old) }
     ensures { FitPlaced (low_line m v ∷ []) at 1 kinds.old kinds.new nums.old nums.new }
@@ -236,6 +249,7 @@ fn draw_quarters(
 }
 
 // The height after part i of n.
+#[tactic(auto, unfolding(crate::specs::Lines::height_after))]
 fn height_after(a: Point3D, b: Point3D, n: usize, i: usize) -> f64
     requires { (n ≤ 4096) × (i ≤ 4096) }
     ensures { result ≡ height_after a b n i }
@@ -282,31 +296,23 @@ fn draw_arc(
 }
 
 // Whether the normal is (0, 0, 1) or (0, 0, -1).
+#[tactic(auto, unfolding(crate::specs::Calls::upright))]
 fn is_upright(d: Point3D) -> bool
     ensures { result ≡ upright d }
 {
-    if d.x == 0.0 {
-        if d.y == 0.0 {
-            return abs(d.z) == 1.0;
-        }
-    }
-    false
+    d.x == 0.0 && d.y == 0.0 && abs(d.z) == 1.0
 }
 
 // Whether neither radius is below 1e-9, and they are less than the tolerance apart.
+#[tactic(auto, unfolding(crate::specs::Calls::near_radii))]
 fn are_radii_near(tolerance: f64, r: f64, s: f64) -> bool
     ensures { result ≡ near_radii tolerance r s }
 {
-    if r < Ray::SHORTEST {
-        return false;
-    }
-    if s < Ray::SHORTEST {
-        return false;
-    }
-    abs(s - r) < tolerance
+    !(r < Ray::SHORTEST) && !(s < Ray::SHORTEST) && abs(s - r) < tolerance
 }
 
 // Whether start and end lie on one circle round the centre, by the tolerance.
+#[tactic(auto, unfolding(crate::specs::Calls::round_by, crate::specs::Written::ray_of))]
 fn is_round(tolerance: f64, m: Point, a: Point3D, b: Point3D) -> bool
     ensures { result ≡ round_by tolerance m a b }
 {
@@ -315,24 +321,16 @@ fn is_round(tolerance: f64, m: Point, a: Point3D, b: Point3D) -> bool
     are_radii_near(tolerance, first.len, last.len)
 }
 
-// Row 11: whether the command is an Arc that can be drawn.
+// Row 11: whether the command, of which C lends the kind as a byte, is an Arc that can be drawn.
+#[tactic(auto, unfolding(crate::specs::Calls::drawable))]
 fn is_drawable(kind: u8, a: Point3D, b: Point3D, o: Point3D, d: Point3D, tolerance: f64) -> bool
     ensures { result ≡ drawable kind a b o d tolerance }
 {
-    if kind != 2 {
-        return false;
-    }
-    if !is_upright(d) {
-        return false;
-    }
-    if !point3_in(o) {
-        return false;
-    }
-    let m = center(a, o);
-    is_round(tolerance, m, a, b)
+    kind == 2 && is_upright(d) && point3_in(o) && is_round(tolerance, center(a, o), a, b)
 }
 
-// The number of the first row that a call falls under, or 0.
+// The first row that a call falls under, if there is one.
+#[tactic(auto, unfolding(crate::specs::Calls::flatten_rows, geo::specs::Outcome::refusal, geo::specs::Domain::whole))]
 fn check_arc(
     kind: u8,
     command: &[f64],
@@ -340,40 +338,40 @@ fn check_arc(
     tolerance: f64,
     kinds: usize,
     nums: usize,
-) -> u32
-    ensures { result ≡ refusal (flatten_rows kind command.now start tolerance kinds nums) }
+) -> Result<(), Refusal>
+    ensures { refused_by result ≡ refusal (flatten_rows kind command.now start tolerance kinds nums) }
 {
     if command.len() != 9 {
-        return 1;
+        return Err(Refusal::NotWhole);
     }
     if nums % 9 != 0 {
-        return 1;
+        return Err(Refusal::NotWhole);
     }
     let b = point_at(command, 0);
     let o = point_at(command, 1);
     let d = point_at(command, 2);
     if !is_formed(kind, o, d) {
-        return 4;
+        return Err(Refusal::BadCommand);
     }
     if !command_in(make_command(kind, b, o, d)) {
-        return 5;
+        return Err(Refusal::BadNumber);
     }
     if !point3_in(start) {
-        return 5;
+        return Err(Refusal::BadNumber);
     }
     if !is_tolerance(tolerance) {
-        return 6;
+        return Err(Refusal::BadTolerance);
     }
     if !is_drawable(kind, start, b, o, d, tolerance) {
-        return 11;
+        return Err(Refusal::NotDrawable);
     }
     if kinds < Round::MOST_LINES {
-        return 9;
+        return Err(Refusal::NoRoom);
     }
     if nums / 9 < Round::MOST_LINES {
-        return 9;
+        return Err(Refusal::NoRoom);
     }
-    0
+    Ok(())
 }
 
 // Draws one Arc command, lent as its kind and its nine numbers, from its start on by Lines, and writes them to the front
@@ -385,16 +383,13 @@ pub fn flatten_arc(
     tolerance: f64,
     kinds: &mut [u8],
     nums: &mut [f64],
-) -> Answer
+) -> Result<usize, Refusal>
     ensures { WroteCommands (flatten_call kind command.now start tolerance (length kinds.old) (length nums.old)) kinds.old kinds.new nums.old nums.new result }
 {
-    let refused = check_arc(kind, command, start, tolerance, kinds.len(), nums.len());
-    if refused != 0 {
-        return Answer::Refused(refused);
-    }
+    check_arc(kind, command, start, tolerance, kinds.len(), nums.len())?;
     let b = point_at(command, 0);
     let o = point_at(command, 1);
     let d = point_at(command, 2);
     let clockwise = d.z < 0.0;
-    Answer::Written(draw_arc(start, b, o, clockwise, tolerance, kinds, nums))
+    Ok(draw_arc(start, b, o, clockwise, tolerance, kinds, nums))
 }

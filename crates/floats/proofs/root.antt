@@ -1,5 +1,4 @@
 -- The laws behind the square root.
-pub mod Whole
 pub mod Floor
 pub mod Rooted
 pub mod Read
@@ -9,3 +8,4 @@ pub mod Nearest
 pub mod Monotone
 pub mod Compared
 pub mod Reaches
+pub mod Operation

@@ -2,4 +2,3 @@ pub mod Ops
 pub mod Limits
 pub mod Float
 pub mod Root
-pub mod Wide

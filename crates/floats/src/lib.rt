@@ -3,5 +3,4 @@
 #![tactic(auto)]
 
 pub mod float;
-mod guess;
 pub mod root;

@@ -9,7 +9,7 @@ pub mod Input
 pub mod Placed
 pub mod Rows
 pub mod Sides
-pub mod Outcomes
+pub mod Wrote
 pub mod Tolerance
 pub mod Walk
 pub mod Zero

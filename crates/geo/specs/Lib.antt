@@ -4,5 +4,7 @@ pub mod Lent
 pub mod Vector
 pub mod Domain
 pub mod Outcome
+pub mod Refusal
+pub mod Wrote
 pub mod Midpoint
 pub mod Commands

@@ -2,8 +2,6 @@
 use Rattle.std.specs.Prelude.{ℕ, zero, suc, ◌*◌, Bool, List, [], ◌∷◌, ◌++◌, ◌≡◌, length, drop, if◌then◌else◌}
 use Rattle.std.proofs.lemmas.List.Edits.{sets}
 use Rattle.geo.specs.Lent.{flat}
-use Rattle.geo.specs.declared.types.Answer.{Answer}
-use Rattle.geo.specs.declared.types.Answer.TheVariants.{Written, Refused}
 
 -- one row of the table: its number, and whether the call's arguments fall under it
 pub data Row : Type 0 where
@@ -24,21 +22,10 @@ unless zero a = gives a
 unless (suc n) a = refused (suc n)
 
 -- ---- a call that writes items to a lent output: `lay` lays them out as numbers
-
--- its answer
-unfoldable pub answer : {A : Type 0} → Outcome (List A) → Answer
-answer (refused n) = Refused n
-answer (gives xs) = Written (length xs)
-
 -- the output afterwards: the items, and then what stood there; all as it was where the call is refused
 unfoldable pub left : {A B : Type 0} → (List A → List B) → List B → Outcome (List A) → List B
 left lay out (refused n) = out
 left lay out (gives xs) = lay xs ++ drop (length (lay xs)) out
-
--- both together
-pub record Wrote {A B : Type 0} (lay : List A → List B) (o : Outcome (List A)) (out out' : List B) (r : Answer) : Type 0 where
-  pub says : r ≡ answer o
-  pub leaves : out' ≡ left lay out o
 
 -- n items written from place `at` on, `width` numbers each
 pub record Placed {A B : Type 0} (item : A → List B) (width : ℕ) (xs : List A) (at n : ℕ) (out out' : List B) : Type 0 where

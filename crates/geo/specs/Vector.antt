@@ -11,7 +11,7 @@ abbrev pub flatten : Point3D → Point
 flatten p = record { x = p.x; y = p.y }
 
 -- a curve from p0 to p1, with its controls
-abbrev pub cubic : Point → Point → Point → Point → CubicBezier
+abbrev pub cubic : {P : Type 0} → P → P → P → P → CubicBezier P
 cubic p0 c1 c2 p1 = record { 0 = p0; 1 = c1; 2 = c2; 3 = p1 }
 
 -- ---- in the plane: a direction by its two numbers

@@ -1,10 +1,12 @@
 // Document 01's domain: its limits, each once, and its tests, each false of a NaN.
 ghost use Rattle.std.specs.Prelude.{◌≡◌, ◌*◌, ◌≤◌, length};
 ghost use Rattle.geo.specs.Outcome.{refusal};
+ghost use Rattle.geo.specs.Refusal.{refused_by};
 ghost use Rattle.geo.specs.Commands.{input_rows};
 ghost use Rattle.geo.specs.Domain.{coordinate, is_finite, centre, within, radius, parameter, tolerance, tolerance_sq, is_plus_zero, point_in, point3_in, numbers_in, zero3, finite3, formed, commands_formed, command_in, commands_in};
 
-use crate::lent::{command_at, point_at};
+use crate::lists::Commands;
+use crate::refusal::Refusal;
 use crate::types::{Command, Point, Point3D};
 use floats::float::abs;
 
@@ -49,13 +51,11 @@ pub fn is_centre(x: f64) -> bool
 }
 
 // Whether x lies from least to most.
+#[tactic(auto, unfolding(crate::specs::Domain::within))]
 pub fn is_within(least: f64, most: f64, x: f64) -> bool
     ensures { result ≡ within least most x }
 {
-    if least <= x {
-        return x <= most;
-    }
-    false
+    least <= x && x <= most
 }
 
 // Whether r may be a radius.
@@ -90,53 +90,36 @@ pub fn is_tolerance_squared(t: f64) -> bool
 fn is_plus_zero(x: f64) -> bool
     ensures { result ≡ is_plus_zero x }
 {
-    if x == 0.0 {
-        return f64::to_bits(x) == 0;
-    }
-    false
+    x == 0.0 && f64::to_bits(x) == 0
 }
 
+#[tactic(auto, unfolding(crate::specs::Domain::point_in))]
 pub fn point_in(p: Point) -> bool
     ensures { result ≡ point_in p }
 {
-    if is_coordinate(p.x) {
-        return is_coordinate(p.y);
-    }
-    false
+    is_coordinate(p.x) && is_coordinate(p.y)
 }
 
+#[tactic(auto, unfolding(crate::specs::Domain::point3_in))]
 pub fn point3_in(p: Point3D) -> bool
     ensures { result ≡ point3_in p }
 {
-    if is_coordinate(p.x) {
-        if is_coordinate(p.y) {
-            return is_coordinate(p.z);
-        }
-    }
-    false
+    is_coordinate(p.x) && is_coordinate(p.y) && is_coordinate(p.z)
 }
 
+#[tactic(auto, unfolding(crate::specs::Domain::zero3))]
 fn is_zero3(p: Point3D) -> bool
     ensures { result ≡ zero3 p }
 {
-    if is_plus_zero(p.x) {
-        if is_plus_zero(p.y) {
-            return is_plus_zero(p.z);
-        }
-    }
-    false
+    is_plus_zero(p.x) && is_plus_zero(p.y) && is_plus_zero(p.z)
 }
 
 // Whether the three numbers of a point, offset or normal are finite.
+#[tactic(auto, unfolding(crate::specs::Domain::finite3))]
 pub fn is_finite3(p: Point3D) -> bool
     ensures { result ≡ finite3 p }
 {
-    if is_finite(p.x) {
-        if is_finite(p.y) {
-            return is_finite(p.z);
-        }
-    }
-    false
+    is_finite(p.x) && is_finite(p.y) && is_finite(p.z)
 }
 
 // Whether each lent number may be a coordinate. It goes to the end whatever it meets, so that the machine can test
@@ -153,35 +136,19 @@ pub fn all_coordinates(nums: &[f64]) -> bool
     all
 }
 
-// Whether the kind is known, and the numbers that it does not use are +0.
+// Whether the kind, a byte as it is lent, is known, and the numbers that it does not use are +0.
+#[tactic(auto, unfolding(crate::specs::Domain::formed))]
 pub fn is_formed(kind: u8, q: Point3D, r: Point3D) -> bool
     ensures { result ≡ formed kind q r }
 {
     if kind < 2 {
-        if is_zero3(q) {
-            return is_zero3(r);
-        }
-        return false;
+        return is_zero3(q) && is_zero3(r);
     }
     kind < 4
 }
 
-// Row 4 of lent commands, wherever a Move may stand.
-pub fn commands_formed(kinds: &[u8], nums: &[f64]) -> bool
-    requires { 9 * length kinds.now ≤ length nums.now }
-    ensures { result ≡ commands_formed kinds.now nums.now }
-{
-    for i in 0..kinds.len() {
-        let q = point_at(nums, 3 * i + 1);
-        let r = point_at(nums, 3 * i + 2);
-        if !is_formed(kinds[i], q, r) {
-            return false;
-        }
-    }
-    true
-}
-
 // Whether the numbers of a command are in the domain.
+#[tactic(auto, unfolding(crate::specs::Domain::command_in))]
 pub fn command_in(c: Command) -> bool
     ensures { result ≡ command_in c }
 {
@@ -192,79 +159,41 @@ pub fn command_in(c: Command) -> bool
             end,
             center_offset,
             normal,
-        } => {
-            if point3_in(end) {
-                if is_finite3(center_offset) {
-                    return is_finite3(normal);
-                }
-            }
-            false
-        }
+        } => { point3_in(end) && is_finite3(center_offset) && is_finite3(normal) }
         Command::Bezier {
             end,
             control1,
             control2,
-        } => {
-            if point3_in(end) {
-                if point3_in(control1) {
-                    return point3_in(control2);
-                }
-            }
-            false
-        }
+        } => { point3_in(end) && point3_in(control1) && point3_in(control2) }
     }
 }
 
-// Row 5 of each lent command.
-fn each_in(kinds: &[u8], nums: &[f64]) -> bool
-    requires { 9 * length kinds.now ≤ length nums.now }
-    ensures { result ≡ commands_in kinds.now nums.now }
+// The first of the rows 1 to 6 that lent commands, a tolerance and an output of so many numbers fall under.
+#[tactic(auto, unfolding(crate::specs::Outcome::refusal, crate::specs::Domain::whole))]
+pub fn check_input(
+    kinds: &[u8],
+    nums: &[f64],
+    tolerance: f64,
+    out_nums: usize,
+) -> Result<(), Refusal>
+    ensures { refused_by result ≡ refusal (input_rows kinds.now nums.now tolerance out_nums) }
 {
-    for i in 0..kinds.len() {
-        if !command_in(command_at(kinds, nums, i)) {
-            return false;
-        }
-    }
-    true
-}
-
-// Row 5 of lent commands. Where each number may be a coordinate, so are those that count, and no kind needs to be looked at.
-pub fn commands_in(kinds: &[u8], nums: &[f64]) -> bool
-    requires { 9 * length kinds.now ≤ length nums.now }
-    ensures { result ≡ commands_in kinds.now nums.now }
-{
-    if all_coordinates(nums) {
-        return true;
-    }
-    each_in(kinds, nums)
-}
-
-// Why lent commands, a tolerance and an output of so many numbers are refused, or 0: rows 1 to 6.
-pub fn check_input(kinds: &[u8], nums: &[f64], tolerance: f64, out_nums: usize) -> u32
-    ensures { result ≡ refusal (input_rows kinds.now nums.now tolerance out_nums) }
-{
-    let n = kinds.len();
     let size = nums.len();
-    if size % 9 != 0 {
-        return 1;
+    if size % 9 != 0 || size / 9 != kinds.len() || out_nums % 9 != 0 {
+        return Err(Refusal::NotWhole);
     }
-    if size / 9 != n {
-        return 1;
+    if kinds.len() > MOST_COMMANDS {
+        return Err(Refusal::TooMany);
     }
-    if out_nums % 9 != 0 {
-        return 1;
+    let commands = Commands { kinds, nums };
+    if !commands.are_formed() {
+        return Err(Refusal::BadCommand);
     }
-    if n > MOST_COMMANDS {
-        return 2;
-    }
-    if !commands_formed(kinds, nums) {
-        return 4;
-    }
-    if !commands_in(kinds, nums) {
-        return 5;
+    if !commands.are_in() {
+        return Err(Refusal::BadNumber);
     }
     if !is_tolerance(tolerance) {
-        return 6;
+        return Err(Refusal::BadTolerance);
     }
-    0
+    Ok(())
 }

@@ -49,7 +49,8 @@ pub fn put_point(out: &mut [f64], at: usize, p: Point3D)
     out[at + 2] = p.z;
 }
 
-// The command of a kind and three points.
+// The command of a kind and three points. A kind is a number, since C lends it as a byte and a lap file holds it as one; where it
+// is read it becomes a command.
 pub fn make_command(kind: u8, p: Point3D, q: Point3D, r: Point3D) -> Command
     ensures { result ≡ command_of kind p q r }
 {

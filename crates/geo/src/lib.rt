@@ -4,5 +4,7 @@
 pub mod constants;
 pub mod domain;
 pub mod lent;
+pub mod lists;
 pub mod point;
+pub mod refusal;
 pub mod types;

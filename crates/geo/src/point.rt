@@ -1,9 +1,11 @@
 // src/geo/shape/point.rs: the midpoint; and glam's operations on points that the ported functions use.
 ghost use Rattle.std.specs.Prelude.{◌≡◌};
 ghost use Rattle.geo.specs.Vector.{distance, distance_sq, distance3, length_of, lerp, midpoint};
-ghost use Rattle.geo.specs.Midpoint.{midpoint_call, midpoint_answer};
+ghost use Rattle.geo.specs.Midpoint.{midpoint_call};
+ghost use Rattle.geo.specs.Refusal.{outcome};
 
 use crate::domain::point3_in;
+use crate::refusal::Refusal;
 use crate::types::{Point, Point3D};
 use floats::root::sqrt;
 
@@ -59,21 +61,13 @@ pub fn midpoint_3d(a: Point3D, b: Point3D) -> Point3D
     }
 }
 
-#[derive(Clone, Copy)]
-pub enum Midpoint {
-    At(Point3D),
-    Refused(u32),
-}
-
 // The midpoint of two points of the domain.
-pub fn get_midpoint_3d(a: Point3D, b: Point3D) -> Midpoint
-    ensures { result ≡ midpoint_answer (midpoint_call a b) }
+#[tactic(auto, unfolding(crate::specs::Midpoint::midpoint_call))]
+pub fn get_midpoint_3d(a: Point3D, b: Point3D) -> Result<Point3D, Refusal>
+    ensures { outcome result ≡ midpoint_call a b }
 {
-    if !point3_in(a) {
-        return Midpoint::Refused(5);
+    if !(point3_in(a) && point3_in(b)) {
+        return Err(Refusal::BadNumber);
     }
-    if !point3_in(b) {
-        return Midpoint::Refused(5);
-    }
-    Midpoint::At(midpoint_3d(a, b))
+    Ok(midpoint_3d(a, b))
 }

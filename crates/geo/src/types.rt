@@ -1,7 +1,7 @@
 // src/geo/types.rs: points, the cubic curve and the command, with the part of each that is carried over.
 ghost use Rattle.std.specs.Prelude.{◌≡◌};
 ghost use Rattle.geo.specs.Lent.{end_of};
-ghost use Rattle.geo.specs.Vector.{flatten, cubic};
+ghost use Rattle.geo.specs.Vector.{flatten};
 
 // A position in the plane.
 #[derive(Clone, Copy)]
@@ -37,26 +37,18 @@ impl Point3D {
     }
 }
 
-// A cubic Bezier curve: start, two controls, end.
+// A cubic Bezier curve, in the plane or in space: start, two controls, end.
 #[derive(Clone, Copy)]
-pub struct CubicBezier(pub Point, pub Point, pub Point, pub Point);
+pub struct CubicBezier<P>(pub P, pub P, pub P, pub P);
 
-impl CubicBezier {
-    // How often a part may be halved: "Subdivision depth: at most 10".
-    pub const MOST_DEPTH: usize = 10;
+// How often a part of a curve may be halved: "Subdivision depth: at most 10".
+pub const MOST_DEPTH: usize = 10;
 
-    // How many steps may be asked for: "step count: 1 to 2,048".
-    pub const MOST_ASKED: usize = 2048;
+// How many steps of a curve may be asked for: "step count: 1 to 2,048".
+pub const MOST_ASKED: usize = 2048;
 
-    // How many steps may follow from a resolution, as a float: row 8, "above 800".
-    pub const MOST_STEPS: f64 = 800.0;
-
-    pub fn new(p0: Point, c1: Point, c2: Point, p1: Point) -> Self
-        ensures { result ≡ cubic p0 c1 c2 p1 }
-    {
-        Self(p0, c1, c2, p1)
-    }
-}
+// How many steps may follow from a resolution, as a float: row 8, "above 800".
+pub const MOST_STEPS: f64 = 800.0;
 
 // One step of a course. The kinds are numbered 0 to 3 in this order.
 #[derive(Clone, Copy)]
@@ -99,11 +91,4 @@ impl Command {
             } => end,
         }
     }
-}
-
-// What a call that writes to a lent output answers: how many items it wrote, or why it wrote none.
-#[derive(Clone, Copy)]
-pub enum Answer {
-    Written(usize),
-    Refused(u32),
 }

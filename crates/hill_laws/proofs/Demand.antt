@@ -16,7 +16,8 @@ use Rattle.geo.specs.Lent.{origin, end_of, command_of}
 use Rattle.geo.specs.Outcome.{refused, gives, unless, refusal}
 use Rattle.file.specs.Bytes.{number_at}
 use Rattle.file.specs.Command.{decoded, enc, point_from, HeldPoint}
-use Rattle.trial.specs.declared.trial.Trial.TheVariants.{Arc, None}
+use Rattle.std.specs.Prelude.{None}
+use Rattle.trial.specs.Trial.{Arc}
 use Rattle.pieces.specs.Pieces.{hills_rule, Piece, pieces_in}
 use Rattle.pieces.specs.Commands.{fit_in}
 use Rattle.pieces.specs.Laws.{LinePasses, WrittenAs, as_line, as_first, as_second, AllWritten}

@@ -51,8 +51,8 @@ module _ (s : List ℕ) (formed near : Bool) where
     not_near h n = sym (file_passed h ∙ rw n)
 
   -- behind both rows, where none refuses
-  pub behind_forms : (ts : List Row) (r : ℕ) → r ≡ refusal (row 4 (row4 s formed) ∷ row 5 (row5 s near) ∷ []) → r ≡ 0 → refusal (row 4 (row4 s formed) ∷ row 5 (row5 s near) ∷ ts) ≡ refusal ts
-  behind_forms ts r e z =
-      let a = row_passed 3 (row4 s formed) _ (sym z ∙ e) in
+  pub behind_forms : (ts : List Row) → 0 ≡ refusal (row 4 (row4 s formed) ∷ row 5 (row5 s near) ∷ []) → refusal (row 4 (row4 s formed) ∷ row 5 (row5 s near) ∷ ts) ≡ refusal ts
+  behind_forms ts e =
+      let a = row_passed 3 (row4 s formed) _ e in
       let b = row_passed 4 (row5 s near) _ a.1 in
       row-passes 4 (row4 s formed) _ a.0 ∙ row-passes 5 (row5 s near) _ b.0

@@ -1,6 +1,6 @@
 -- The rows of the replacement of a lap: what each test of the code tells of a row, and what a call has that passes them. Assumes nothing.
 use Prim.Native.Nat.{ℕ, ◌+◌, ◌*◌, ◌≤◌}
-use mathlib.Core.Path.{◌≡◌, refl, sym, ap, ◌∙◌}
+use mathlib.Core.Path.{◌≡◌, sym, ap, ◌∙◌}
 use mathlib.Core.Bool.{Bool, true, false, not, ◌||◌}
 use mathlib.Core.List.{List, [], ◌++◌}
 use mathlib.Core.Logic.{⊎_elim}
@@ -10,7 +10,9 @@ use lib.Dec.{eqb}
 use lib.ListN.{length}
 use lib.Ieee.{Float}
 use Rattle.floats.proofs.Order.{lt_or_ge, or_false}
+use Rattle.geo.specs.declared.refusal.Refusal.{Refusal}
 use Rattle.geo.specs.Outcome.{Row, refusal}
+use Rattle.geo.specs.Refusal.{number}
 use Rattle.geo.specs.Domain.{tolerance}
 use Rattle.geo.proofs.Rows.{row_fails, row-passes, row_passed}
 use Rattle.chain.specs.Chains.{cap}
@@ -80,9 +82,9 @@ module _ (s f : List ℕ) (k : ℕ) (new : NewLap) (tol : Float) where
       let i = row_passed 6 (row7 k s) _ h.1 in
       (record { p1 = a.0; p2 = b.0; p3 = c.0; counted = not-false _ n.0; p4 = d.0; p5 = g.0; p6 = not-false _ h.0; p7 = i.0 }, i.1)
 
-  pub new_passed : (r : ℕ) → r ≡ refusal (new_rows s f k new tol) → r ≡ 0 → NewPassed s f k new tol
+  pub new_passed : 0 ≡ refusal (new_rows s f k new tol) → NewPassed s f k new tol
   unfolding new_rows table_rows later_rows
-  new_passed r e z = (new_passed_with [] (sym z ∙ e)).0
+  new_passed e = (new_passed_with [] e).0
 
   pub behind_new : (ts : List Row) → NewPassed s f k new tol → refusal (new_rows s f k new tol ++ ts) ≡ refusal ts
   unfolding new_rows table_rows later_rows
@@ -91,9 +93,9 @@ module _ (s f : List ℕ) (k : ℕ) (new : NewLap) (tol : Float) where
       ∙ row-passes 4 (row4 s new.formed) _ p.p4
       ∙ row-passes 5 (row5 s new.near) _ p.p5 ∙ row-passes 6 (not (tolerance tol)) _ (ap not p.p6) ∙ row-passes 7 (row7 k s) _ p.p7
 
-  pub new_refused : (room r : ℕ) → r ≡ refusal (new_rows s f k new tol) → (r ≡ 0 → ⊥) → r ≡ refusal (replace_rows s f k new tol room)
+  pub new_refused : (room : ℕ) (cause : Refusal) → number cause ≡ refusal (new_rows s f k new tol) → number cause ≡ refusal (replace_rows s f k new tol room)
   unfolding replace_rows
-  new_refused room r e h = refused-front (new_rows s f k new tol) _ r e h
+  new_refused room cause e = refused-front (new_rows s f k new tol) _ cause e
 
   pub new_sizes : (room : ℕ) → NewPassed s f k new tol → refusal (replace_rows s f k new tol room) ≡ refusal (size_rows (lap_count f) (most_with new k s f) room)
   unfolding replace_rows
@@ -122,10 +124,10 @@ pub laps_of_lem : (s : List ℕ) (k : ℕ) (a A b B : Bool) (tol : Float) (r : �
 laps_of_lem s k a A b B tol r e g h = e ∙ ap (λ (c : Bool). refusal (later_rows s k c b tol)) g ∙ ap (λ (c : Bool). refusal (later_rows s k A c tol)) h
 
 module _ (s f : List ℕ) (whole few : Bool) where
-  pub tables_passed : (r : ℕ) → r ≡ refusal (table_rows s f whole few) → r ≡ 0 → (row1 s f whole ≡ false) × (row2 s f few ≡ false) × (row3 s f ≡ false)
+  pub tables_passed : 0 ≡ refusal (table_rows s f whole few) → (row1 s f whole ≡ false) × (row2 s f few ≡ false) × (row3 s f ≡ false)
   unfolding table_rows
-  tables_passed r e z =
-      let a = row_passed 0 (row1 s f whole) _ (sym z ∙ e) in
+  tables_passed e =
+      let a = row_passed 0 (row1 s f whole) _ e in
       let b = row_passed 1 (row2 s f few) _ a.1 in
       let c = row_passed 2 (row3 s f) _ b.1 in
       (a.0, b.0, c.0)
@@ -134,32 +136,16 @@ module _ (s f : List ℕ) (whole few : Bool) where
   unfolding table_rows
   behind_tables ts p = row-passes 1 (row1 s f whole) _ p.0 ∙ row-passes 2 (row2 s f few) _ p.1 ∙ row-passes 3 (row3 s f) _ p.2
 
-module _ (s f : List ℕ) (k : ℕ) (new : NewLap) (tol : Float) (r : ℕ) (e : r ≡ refusal (table_rows s f new.whole new.few)) where
-  pub tables_refused : (r ≡ 0 → ⊥) → r ≡ refusal (new_rows s f k new tol)
+module _ (s f : List ℕ) (k : ℕ) (new : NewLap) (tol : Float) where
+  pub tables_refused : (cause : Refusal) → number cause ≡ refusal (table_rows s f new.whole new.few) → number cause ≡ refusal (new_rows s f k new tol)
   unfolding new_rows
-  tables_refused h = refused-front (table_rows s f new.whole new.few) _ r e h
+  tables_refused cause e = refused-front (table_rows s f new.whole new.few) _ cause e
 
-  pub counts-refused : r ≡ 0 → new.counted ≡ false → 3 ≡ refusal (new_rows s f k new tol)
-  unfolding new_rows
-  counts-refused h g = sym (behind_tables s f new.whole new.few _ (tables_passed s f new.whole new.few r e h) ∙ row_fails 3 (not new.counted) _ (ap not g))
+  module _ (e : 0 ≡ refusal (table_rows s f new.whole new.few)) where
+    pub counts-refused : new.counted ≡ false → 3 ≡ refusal (new_rows s f k new tol)
+    unfolding new_rows
+    counts-refused g = sym (behind_tables s f new.whole new.few _ (tables_passed s f new.whole new.few e) ∙ row_fails 3 (not new.counted) _ (ap not g))
 
-  pub laps_decide : r ≡ 0 → new.counted ≡ true → (t : ℕ) → t ≡ refusal (later_rows s k new.formed new.near tol) → t ≡ refusal (new_rows s f k new tol)
-  unfolding new_rows
-  laps_decide h g t w = w ∙ sym (behind_tables s f new.whole new.few _ (tables_passed s f new.whole new.few r e h) ∙ row-passes 3 (not new.counted) _ (ap not g))
-
--- ---- the rows 1 to 3, each of three tests, by what the code found of them
-any_of : (r a A b B c C : Bool) → r ≡ (a || b || c) → a ≡ A → b ≡ B → c ≡ C → r ≡ (A || B || C)
-any_of r a A b B c C e p q w = rw (← p, ← q, ← w) e
-
-module _ (s f : List ℕ) where
-  pub found_1 : (whole r a b : Bool) → r ≡ (a || b || not whole) → a ≡ short s → b ≡ short f → r ≡ row1 s f whole
-  unfolding row1
-  found_1 whole r a b e p q = any_of r a (short s) b (short f) (not whole) (not whole) e p q refl
-
-  pub found_2 : (few r a b : Bool) → r ≡ (a || b || not few) → a ≡ big s → b ≡ big f → r ≡ row2 s f few
-  unfolding row2
-  found_2 few r a b e p q = any_of r a (big s) b (big f) (not few) (not few) e p q refl
-
-  pub found_3 : (r a b : Bool) (l m : ℕ) → r ≡ (not a || not b || not (eqb l m)) → a ≡ table_ok s → b ≡ table_ok f → l ≡ lap_count s → m ≡ lap_count f → r ≡ row3 s f
-  unfolding row3
-  found_3 r a b l m e p q x y = rw (← p, ← q, ← x, ← y) e
+    pub laps_decide : new.counted ≡ true → (t : ℕ) → t ≡ refusal (later_rows s k new.formed new.near tol) → t ≡ refusal (new_rows s f k new tol)
+    unfolding new_rows
+    laps_decide g t w = w ∙ sym (behind_tables s f new.whole new.few _ (tables_passed s f new.whole new.few e) ∙ row-passes 3 (not new.counted) _ (ap not g))

@@ -1,45 +1,75 @@
 // Whether a lap may be replaced: the rows that a replacement, its asking and its commit share.
-ghost use Rattle.std.specs.Prelude.{◌≡◌, true, ◌&&◌, ◌||◌, [], ◌∷◌, ◌+◌, ◌*◌, ◌≤◌, eqb, length, get_or};
+ghost use Rattle.std.specs.Prelude.{◌≡◌, ◌&&◌, [], ◌∷◌, ◌+◌, ◌≤◌, length, IfOk};
 ghost use Rattle.geo.specs.Outcome.{row, refusal};
+ghost use Rattle.geo.specs.Refusal.{refused_by};
 ghost use Rattle.course.specs.Course.{lent_course};
 ghost use Rattle.chain.specs.Chains.{cap};
-ghost use Rattle.laps.specs.File.{laps_of, table_ok, command_count};
+ghost use Rattle.laps.specs.File.{lap_count, laps_of, command_count};
 ghost use Rattle.lap_swap.specs.Swap.{swap_both, next_lacks, most_both};
-ghost use Rattle.lap_checks.specs.Checks.{lent_whole, move_placed, lent_formed, lent_new, row4, row5, row7, table_rows, later_rows, new_rows};
+ghost use Rattle.lap_checks.specs.Checks.{lent_whole, move_placed, lent_formed, lent_new, row1, row2, row3, row4, row5, row7, table_rows, later_rows, new_rows};
 
-use geo::domain::{commands_formed, commands_in, is_tolerance};
+use geo::domain::is_tolerance;
+use geo::lists::Commands;
+use geo::refusal::Refusal;
 use lap_swap::swap::{most_new, with_others};
 use laps::lap_file::{
-    MOST_COMMANDS, check_commands, has_table, is_placed, lap_count, too_big, too_short,
+    LapFile, MOST_COMMANDS, check_commands, has_table, is_placed, lap_count, too_big, too_short,
 };
 
-// Whether one of three holds.
-fn any(a: bool, b: bool, c: bool) -> bool
-    ensures { result ≡ (a || b || c) }
-{
-    if a {
-        return true;
-    }
-    if b {
-        return true;
-    }
-    c
+// A recorded file and its fitted file, both with a right table.
+#[derive(Clone, Copy)]
+pub struct Files<'a> {
+    pub recorded: LapFile<'a>,
+    pub fitted: LapFile<'a>,
 }
 
-// The first of the rows 1 to 3 that two files and a new lap, whole commands and few or not, fall under, or 0.
-pub fn check_tables(s: &[u8], f: &[u8], whole: bool, few: bool) -> u32
-    ensures { result ≡ refusal (table_rows s.now f.now whole few) }
+// Rows 1 to 3 of two files, and of a new lap, whole commands and few or not.
+#[tactic(auto, unfolding(crate::specs::Checks::row1))]
+fn fails_1(s: &[u8], f: &[u8], whole: bool) -> bool
+    ensures { result ≡ row1 s.now f.now whole }
 {
-    if any(too_short(s), too_short(f), !whole) {
-        return 1;
+    too_short(s) || too_short(f) || !whole
+}
+
+#[tactic(auto, unfolding(crate::specs::Checks::row2))]
+fn fails_2(s: &[u8], f: &[u8], few: bool) -> bool
+    requires { (8 ≤ length s.now) × (8 ≤ length f.now) }
+    ensures { result ≡ row2 s.now f.now few }
+{
+    too_big(s) || too_big(f) || !few
+}
+
+#[tactic(auto, unfolding(crate::specs::Checks::row3))]
+fn fails_3(s: &[u8], f: &[u8]) -> bool
+    requires { (8 ≤ length s.now) × (8 ≤ length f.now) × (lap_count s.now ≤ 64) × (lap_count f.now ≤ 64) }
+    ensures { result ≡ row3 s.now f.now }
+{
+    !has_table(s) || !has_table(f) || lap_count(s) != lap_count(f)
+}
+
+// The first of these rows that they fall under, or the files.
+pub fn check_tables<'a>(
+    s: &'a [u8],
+    f: &'a [u8],
+    whole: bool,
+    few: bool,
+) -> Result<Files<'a>, Refusal>
+    ensures row { refused_by result ≡ refusal (table_rows s.now f.now whole few) }
+    ensures same { IfOk result (λ files. (files.recorded.bytes.now ≡ s.now) × (files.fitted.bytes.now ≡ f.now)) }
+{
+    if fails_1(s, f, whole) {
+        return Err(Refusal::NotWhole);
     }
-    if any(too_big(s), too_big(f), !few) {
-        return 2;
+    if fails_2(s, f, few) {
+        return Err(Refusal::TooMany);
     }
-    if any(!has_table(s), !has_table(f), lap_count(s) != lap_count(f)) {
-        return 3;
+    if fails_3(s, f) {
+        return Err(Refusal::BadFile);
     }
-    0
+    Ok(Files {
+        recorded: LapFile { bytes: s },
+        fitted: LapFile { bytes: f },
+    })
 }
 
 // Whether there are nine numbers for each lent command.
@@ -47,31 +77,7 @@ fn is_whole(kinds: &[u8], nums: &[f64]) -> bool
     ensures { result ≡ lent_whole kinds.now nums.now }
 {
     let size = nums.len();
-    if size % 9 != 0 {
-        return false;
-    }
-    size / 9 == kinds.len()
-}
-
-// Whether the first kind is to be a Move: where it must be, or is.
-fn opens(must: bool, kinds: &[u8]) -> bool
-    requires { 1 ≤ length kinds.now }
-    ensures { result ≡ (must || eqb (get_or kinds.now 0 0) 0) }
-{
-    if must {
-        return true;
-    }
-    kinds[0] == 0
-}
-
-// Whether a Move is to stand at index i.
-fn is_move_at(i: usize, moved: bool) -> bool
-    ensures { result ≡ (eqb i 0 && moved) }
-{
-    if i == 0 {
-        return moved;
-    }
-    false
+    size % 9 == 0 && size / 9 == kinds.len()
 }
 
 // Whether the kinds have one Move, the first; or none, where they need not have one.
@@ -79,9 +85,10 @@ fn moves_placed(must: bool, kinds: &[u8]) -> bool
     requires { 1 ≤ length kinds.now }
     ensures { result ≡ move_placed must kinds.now }
 {
-    let moved = opens(must, kinds);
+    let moved = must || kinds[0] == 0;
     for i in 0..kinds.len() {
-        if !is_placed(is_move_at(i, moved), kinds[i]) {
+        let first = i == 0 && moved;
+        if !is_placed(first, kinds[i]) {
             return false;
         }
     }
@@ -89,106 +96,90 @@ fn moves_placed(must: bool, kinds: &[u8]) -> bool
 }
 
 // Whether lent commands are a lap, which must have its Move or may lack it.
-fn is_lap(must: bool, kinds: &[u8], nums: &[f64]) -> bool
-    requires { 9 * length kinds.now ≤ length nums.now }
-    ensures { result ≡ lent_formed must kinds.now nums.now }
+#[tactic(auto, unfolding(crate::specs::Checks::lent_formed))]
+fn is_lap(must: bool, commands: Commands) -> bool
+    ensures { result ≡ lent_formed must commands.entry.kinds.now commands.entry.nums.now }
 {
-    if kinds.len() == 0 {
-        return false;
-    }
-    if !moves_placed(must, kinds) {
-        return false;
-    }
-    commands_formed(kinds, nums)
+    commands.kinds.len() != 0 && moves_placed(must, commands.kinds) && commands.are_formed()
 }
 
-// The first of the rows 4 and 5 that the recorded file and a new lap, formed and in the domain or not, fall under, or 0. The file is read once
-// where it passes both, as nearly every one does.
-fn check_forms(s: &[u8], formed: bool, near: bool) -> u32
-    requires { (8 ≤ length s.now) × (table_ok s.now ≡ true) }
-    ensures { result ≡ refusal (row 4 (row4 s.now formed) ∷ row 5 (row5 s.now near) ∷ []) }
+// The first of the rows 4 and 5 that the recorded file and a new lap, formed and in the domain or not, fall under. The file is read once where
+// it passes both, as nearly every one does.
+fn check_forms(file: LapFile, formed: bool, near: bool) -> Result<(), Refusal>
+    ensures { refused_by result ≡ refusal (row 4 (row4 file.entry.bytes.now formed) ∷ row 5 (row5 file.entry.bytes.now near) ∷ []) }
 {
     if !formed {
-        return 4;
+        return Err(Refusal::BadCommand);
     }
-    let refused = check_commands(s);
-    if refused != 0 {
-        return refused;
+    check_commands(file)?;
+    if near {
+        Ok(())
+    } else {
+        Err(Refusal::BadNumber)
     }
-    if near { 0 } else { 5 }
 }
 
 // Row 7: the number of the lap.
-fn fails_7(k: usize, s: &[u8]) -> bool
-    requires { 8 ≤ length s.now }
-    ensures { result ≡ row7 k s.now }
+#[tactic(auto, unfolding(crate::specs::Checks::row7))]
+fn fails_7(k: usize, file: LapFile) -> bool
+    ensures { result ≡ row7 k file.entry.bytes.now }
 {
-    if k == 0 {
-        return true;
-    }
-    lap_count(s) < k
+    k == 0 || file.lap_count() < k
 }
 
-// The first of the rows 4 to 7 that they fall under, or 0.
-pub fn check_laps(s: &[u8], k: usize, formed: bool, near: bool, tolerance: f64) -> u32
-    requires { (8 ≤ length s.now) × (table_ok s.now ≡ true) }
-    ensures { result ≡ refusal (later_rows s.now k formed near tolerance) }
+// The first of the rows 4 to 7 that they fall under.
+pub fn check_laps(
+    file: LapFile,
+    k: usize,
+    formed: bool,
+    near: bool,
+    tolerance: f64,
+) -> Result<(), Refusal>
+    ensures { refused_by result ≡ refusal (later_rows file.entry.bytes.now k formed near tolerance) }
 {
-    let refused = check_forms(s, formed, near);
-    if refused != 0 {
-        return refused;
-    }
+    check_forms(file, formed, near)?;
     if !is_tolerance(tolerance) {
-        return 6;
+        return Err(Refusal::BadTolerance);
     }
-    if fails_7(k, s) {
-        return 7;
+    if fails_7(k, file) {
+        return Err(Refusal::NoSuch);
     }
-    0
+    Ok(())
 }
 
-// The first of the rows 1 to 7 that a replacement, or its asking, falls under, or 0.
-fn check_new(s: &[u8], f: &[u8], k: usize, kinds: &[u8], nums: &[f64], tolerance: f64) -> u32
-    ensures { result ≡ refusal (new_rows s.now f.now k (lent_new tolerance (laps_of s.now) k kinds.now nums.now) tolerance) }
-{
-    let refused = check_tables(s, f, is_whole(kinds, nums), kinds.len() <= MOST_COMMANDS);
-    if refused != 0 {
-        return refused;
-    }
-    let formed = is_lap(k <= 1, kinds, nums);
-    check_laps(s, k, formed, commands_in(kinds, nums), tolerance)
-}
-
-// What is found of a replacement or of its asking: the first of the rows 1 to 7 that it falls under, or 0; and where that is 0, what the laps
-// that are fitted again could become at most, 801 for all above 800, and with them the commands in all other laps.
+// What is found of a replacement, or of its asking, that passes the rows 1 to 7: what the laps that are fitted again could become at most, 801
+// for all above 800, and with them the commands in all other laps.
 #[derive(Clone, Copy)]
-pub struct Found {
-    pub refused: u32,
+pub struct Found<'a> {
+    pub files: Files<'a>,
+    pub commands: Commands<'a>,
     pub own: usize,
     pub all: usize,
 }
 
 // Looks at new commands for lap k: at every row but those of sizes, and at the counts that these ask for.
-pub fn look_at_new(
-    s: &[u8],
-    f: &[u8],
+pub fn look_at_new<'a>(
+    s: &'a [u8],
+    f: &'a [u8],
     k: usize,
-    kinds: &[u8],
-    nums: &[f64],
+    kinds: &'a [u8],
+    nums: &'a [f64],
     tolerance: f64,
-) -> Found
-    ensures row { result.refused ≡ refusal (new_rows s.now f.now k (lent_new tolerance (laps_of s.now) k kinds.now nums.now) tolerance) }
-    ensures counts { result.refused ≡ 0 → (result.own ≡ cap (most_both tolerance (laps_of s.now) k (lent_course kinds.now nums.now))) × (result.all ≡ result.own + command_count (swap_both (next_lacks k (laps_of s.now)) k [] [] (laps_of f.now))) }
+) -> Result<Found<'a>, Refusal>
+    ensures row { refused_by result ≡ refusal (new_rows s.now f.now k (lent_new tolerance (laps_of s.now) k kinds.now nums.now) tolerance) }
+    ensures counts { IfOk result (λ found. (found.own ≡ cap (most_both tolerance (laps_of s.now) k (lent_course kinds.now nums.now))) × (found.all ≡ found.own + command_count (swap_both (next_lacks k (laps_of s.now)) k [] [] (laps_of f.now)))) }
+    ensures same { IfOk result (λ found. (found.files.recorded.bytes.now ≡ s.now) × (found.files.fitted.bytes.now ≡ f.now) × (found.commands.kinds.now ≡ kinds.now) × (found.commands.nums.now ≡ nums.now)) }
 {
-    let refused = check_new(s, f, k, kinds, nums, tolerance);
-    if refused != 0 {
-        return Found {
-            refused,
-            own: 0,
-            all: 0,
-        };
-    }
-    let own = most_new(s, k, kinds, nums, tolerance);
-    let all = with_others(s, f, k, own);
-    Found { refused, own, all }
+    let files = check_tables(s, f, is_whole(kinds, nums), kinds.len() <= MOST_COMMANDS)?;
+    let commands = Commands { kinds, nums };
+    let formed = is_lap(k <= 1, commands);
+    check_laps(files.recorded, k, formed, commands.are_in(), tolerance)?;
+    let own = most_new(files.recorded, k, commands, tolerance);
+    let all = with_others(files.recorded, files.fitted, k, own);
+    Ok(Found {
+        files,
+        commands,
+        own,
+        all,
+    })
 }

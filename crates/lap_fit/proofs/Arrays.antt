@@ -12,7 +12,7 @@ use Rattle.geo.specs.declared.types.Point3D.{Point3D}
 use Rattle.geo.specs.declared.types.Command.{Command}
 use Rattle.geo.specs.Lent.{flat, kind_of, numbers_of, commands_from}
 use Rattle.file.specs.Command.{commands_at, decoded, enc}
-use Rattle.file.proofs.Lent.{back_part, back-front}
+use Rattle.file.proofs.Lent.{back_part}
 use Rattle.pieces.specs.Written.{FitPlaced}
 use Rattle.pieces.specs.declared.pieces.Rule.{Rule}
 use Rattle.course.specs.Course.{fit_on, most_on, lent_course}
@@ -50,26 +50,19 @@ body-enc (c ∷ cs) = ap (λ (l : List ℕ). enc c ++ l) (body-enc cs)
 
 module _ (r : Rule) (pos : (+0 ≺ r.tolerance) ≡ true) (start : Point3D) (ks : List ℕ) (ns : List Float) (few : most_on r.tolerance start (lent_course ks ns) ≤ 800) (n : ℕ) (fk₀ fk : List ℕ) (fn₀ fn : List Float)
     (p : FitPlaced (fit_on r start (lent_course ks ns)) 0 n fk₀ fk fn₀ fn) (h : 800 ≤ length fk₀) (k : 7200 ≤ length fn₀) where
-  counted : n ≤ 800
+  pub counted : n ≤ 800
   counted = let a = course_few r pos start (lent_course ks ns) in let b = p.count in omega arith
-
-  pub fits-kinds : n ≤ length fk
-  fits-kinds = let a = counted in let l = ap length p.kinds ∙ length-sets fk₀ 0 (map kind_of (fit_on r start (lent_course ks ns))) in omega arith
-
-  pub fits-numbers : 9 * n ≤ length fn
-  fits-numbers = let a = counted in let l = ap length p.numbers ∙ length-sets fn₀ 0 (flat numbers_of (fit_on r start (lent_course ks ns))) in omega arith
 
   pub counted_new : length (fit_new r start ks ns) ≡ n
   unfolding fit_new
   counted_new = length-map (fit_on r start (lent_course ks ns)) enc ∙ sym p.count
 
-  pub put_fit : (out out' : List ℕ) (to : ℕ) → out' ≡ sets out to (flat enc (commands_from fk fn n 0)) → PutLap (fit_new r start ks ns) out out' to n
+  pub put_fit : (out out' : List ℕ) (to : ℕ) → out' ≡ sets out to (flat enc (commands_from (take n fk) (take (9 * n) fn) (length (take n fk)) 0)) → PutLap (fit_new r start ks ns) out out' to n
   unfolding fit_new
   put_fit out out' to o =
       let cs : List Command = fit_on r start (lent_course ks ns) in
       let a = counted in
-      let b : n ≡ length cs = p.count in
-      let c : commands_from fk fn n 0 ≡ cs = ap (λ (m : ℕ). commands_from fk fn m 0) b ∙ back-front cs fk₀ fk fn₀ fn (omega arith) (omega arith) p.kinds p.numbers in
+      let c : commands_from (take n fk) (take (9 * n) fn) (length (take n fk)) 0 ≡ cs = back_part cs n fk₀ fk fn₀ fn p.count (omega arith) (omega arith) p.kinds p.numbers in
       record { count = sym counted_new; bytes = o ∙ ap (sets out to) (ap (flat enc) c ∙ sym (body-enc cs)) }
 
 -- the same lap by another name

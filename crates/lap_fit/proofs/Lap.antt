@@ -6,7 +6,6 @@ use mathlib.Core.List.{List, [], ◌∷◌, map}
 use native.Mathlib.Nat.{zero-add, add-zero, mul-zero, sub-zero}
 use native.Mathlib.Omega.{arith}
 use lib.ListN.{length, take, drop, get_or, length-map}
-use lib.Seq.{get_or-take, get_or-drop}
 use lib.Ieee.{Float}
 use Rattle.floats.specs.Ops.{◌≺◌, +0}
 use Rattle.geo.specs.declared.types.Point3D.{Point3D}
@@ -21,8 +20,8 @@ use Rattle.course.specs.Course.{fit_on, most_on, end_on, lent_course}
 use Rattle.course.proofs.Accepted.{course_few}
 use Rattle.course.proofs.Some.{some-fitted}
 use Rattle.course.proofs.Most.{most_of_commands}
-use Rattle.laps.specs.File.{Lap, laps_at, count_at, AllFull, EachFull}
-use Rattle.laps.proofs.Turns.{laps_cons, laps_nil}
+use Rattle.laps.specs.File.{Lap, AllFull, EachFull}
+use Rattle.laps.proofs.Turns.{laps_next, laps_over}
 use Rattle.laps.proofs.Whole.{whole_enc}
 use Rattle.lap_fit.specs.Fit.{lap_end, fit_lap, fit_laps, most_lap, laps_most, fit_new}
 
@@ -58,14 +57,14 @@ unfolding fit_new
 whole_new r p ks ns = whole_enc (fit_on r p (lent_course ks ns))
 
 -- ---- the laps of a file, one by one
-pub mosts_step : (tol : Float) (p q : Point3D) (s : List ℕ) (j at l n : ℕ) → j < l → n ≡ count_at s j → q ≡ lap_end p (commands_at s at n)
-    → laps_most tol p (laps_at s j at (l - j)) ≡ most_lap tol p (commands_at s at n) + laps_most tol q (laps_at s (j + 1) (at + 73 * n) (l - (j + 1)))
+pub mosts_step : (tol : Float) (p q : Point3D) (ls : List Lap) (j : ℕ) (l : Lap) → j < length ls → l ≡ get_or ls j [] → q ≡ lap_end p l
+    → laps_most tol p (drop j ls) ≡ most_lap tol p l + laps_most tol q (drop (j + 1) ls)
 unfolding laps_most
-mosts_step tol p q s j at l n h e f = rw (laps_cons s j at l n h e, f)
+mosts_step tol p q ls j l h e f = rw (laps_next ls j h, f, e)
 
-pub mosts_end : (tol : Float) (p : Point3D) (s : List ℕ) (j at l : ℕ) → l ≤ j → laps_most tol p (laps_at s j at (l - j)) ≡ 0
+pub mosts_end : (tol : Float) (p : Point3D) (ls : List Lap) (j : ℕ) → length ls ≤ j → laps_most tol p (drop j ls) ≡ 0
 unfolding laps_most
-mosts_end tol p s j at l h = rw (laps_nil s j at l h)
+mosts_end tol p ls j h = rw (laps_over ls j h)
 
 -- ---- where a lap ends
 pub end_none : (s : List ℕ) (p : Point3D) (at n : ℕ) → n ≡ 0 → p ≡ lap_end p (commands_at s at n)
@@ -77,14 +76,13 @@ unfolding lap_end end_on commands_at
 last_end s p at zero = let z : at + 73 * 0 ≡ at = omega arith in rw z
 last_end s p at (suc n) = let z : at + 73 * suc n ≡ at + 73 + 73 * n = omega arith in rw z (last_end s (end_of (decoded (take 73 (drop at s)))) (at + 73) n)
 
--- with the command c whose bytes end where the lap's do
-pub end_read : (s : List ℕ) (p q : Point3D) (at n b e : ℕ) (c : Command) → (n ≡ 0 → ⊥) → e ≡ at + 73 * n → b ≡ e - 73 → c ≡ decoded (take (e - b) (drop b s)) → q ≡ end_of c
+-- with the last command c
+pub end_read : (s : List ℕ) (p q : Point3D) (at n : ℕ) (c : Command) → (n ≡ 0 → ⊥) → c ≡ decoded (take 73 (drop (at + 73 * (n - 1)) s)) → q ≡ end_of c
     → q ≡ lap_end p (commands_at s at n)
-end_read s p q at zero b e c h i j k f = absurd (h refl)
-end_read s p q at (suc n) b e c h i j k f =
-    let x : e - b ≡ 73 = omega arith in
-    let y : b ≡ at + 73 * n = omega arith in
-    let g : c ≡ decoded (take 73 (drop (at + 73 * n) s)) = rw (x, y) at k in
+end_read s p q at zero c h k f = absurd (h refl)
+end_read s p q at (suc n) c h k f =
+    let y : suc n - 1 ≡ n = omega arith in
+    let g : c ≡ decoded (take 73 (drop (at + 73 * n) s)) = rw y at k in
     f ∙ ap end_of g ∙ sym (last_end s p at n)
 
 -- ---- the commands of a lap, one by one
@@ -117,17 +115,15 @@ module _ (tol : Float) where
       rw (z, w, v, last_end s p at i)
 
   -- any command but a Bezier counts once
-  pub once : (s : List ℕ) (last : Point3D) (b : ℕ) → get_or s b 0 < 3 → 1 ≡ cap (weight_of (joined tol last (decoded (take 73 (drop b s)))))
+  pub once : (s c : List ℕ) (last : Point3D) (b : ℕ) → c ≡ take 73 (drop b s) → get_or c 0 0 < 3 → 1 ≡ cap (weight_of (joined tol last (decoded (take 73 (drop b s)))))
   unfolding decoded
-  once s last b h =
-      let k : get_or (take 73 (drop b s)) 0 0 ≡ get_or s b 0 = get_or-take 73 (drop b s) 0 0 (omega arith) ∙ get_or-drop b s 0 0 ∙ ap (λ (n : ℕ). get_or s n 0) (omega arith) in
-      rw k (once_by last (get_or s b 0) _ _ _ h)
+  once s c last b e h = rw (← e) (once_by last (get_or c 0 0) _ _ _ h)
 
-  -- the command c of index i, behind the point `last`
-  pub weighed : (s : List ℕ) (p last : Point3D) (at i : ℕ) (c : Command) (r : ℕ) → last ≡ lap_end p (commands_at s at i)
-      → c ≡ decoded (take (at + 73 * i + 73 - (at + 73 * i)) (drop (at + 73 * i) s)) → r ≡ cap (weight_of (joined tol last c))
+  -- the command c of index i, whose bytes are b, behind the point `last`, where the commands before it end
+  pub weighed : (s b fs : List ℕ) (p last : Point3D) (at i fa fi : ℕ) (c : Command) (r : ℕ) → (fs ≡ s) × (fa ≡ at) × (fi ≡ i) → last ≡ lap_end p (commands_at fs fa fi)
+      → b ≡ take 73 (drop (at + 73 * i) s) → c ≡ decoded b → r ≡ cap (weight_of (joined tol last c))
       → r ≡ cap (weight_of (joined tol (lap_end p (commands_at s at i)) (decoded (take 73 (drop (at + 73 * i) s)))))
-  weighed s p last at i c r e f q = let w : at + 73 * i + 73 - (at + 73 * i) ≡ 73 = omega arith in rw (e, f, w) at q
+  weighed s b fs p last at i fa fi c r f e k d q = let e' : last ≡ lap_end p (commands_at s at i) = rw (f.0, f.1, f.2) at e in rw (← k, ← d, ← e') q
 
   pub weights_end : (s : List ℕ) (last : Point3D) (b n i : ℕ) → n ≤ i → weights s last b (n - i) ≡ 0
   unfolding weights_from commands_at

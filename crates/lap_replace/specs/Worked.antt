@@ -1,5 +1,5 @@
 -- Document 01's worked laps that carry its mark: one table, and behind them three rows of ours; and its out-and-back as a lap. Definitions only; proofs/Worked.antt shows that they hold.
-use Rattle.std.specs.Prelude.{ℕ, ◌≡◌, true, false, List, [], ◌∷◌, map, length, Float}
+use Rattle.std.specs.Prelude.{ℕ, ◌≡◌, true, false, List, [], ◌∷◌, map, length, Float, Option, Some, None}
 use Rattle.std.specs.Float.{nan}
 use Rattle.std.specs.Float.Ieee.{neg}
 use Rattle.floats.specs.Ops.{◌≺◌, +0, one}
@@ -10,7 +10,7 @@ use Rattle.geo.specs.declared.types.Command.TheVariants.{Move, Line, Arc}
 use Rattle.floats.specs.Limits.{fraction, thousandth}
 use Rattle.geo.specs.Lent.{point_at, flat, kind_of, numbers_of}
 use Rattle.geo.specs.Outcome.{Outcome, refused, gives}
-use Rattle.trial.specs.declared.trial.Trial as tried
+use Rattle.trial.specs.declared.trial.Trial.{Trial}
 use Rattle.trial.specs.Trial.{three_tried, least_tried}
 use Rattle.simplify.specs.Simplify.{simplify_polyline3d}
 use Rattle.bezier.specs.Linearize.{param_steps}
@@ -65,16 +65,16 @@ abbrev pub up : Point3D
 up = record { x = +0; y = +0; z = one }
 
 -- its two arc trials within three quarters of a metre, the Line's first farthest point being the second of the three
-abbrev pub by_three : tried.Trial
+abbrev pub by_three : Option Trial
 by_three = three_tried (point_at (lent left-bend)) 0 2 1 (fraction 75 100)
 
-abbrev pub by_least_squares : tried.Trial
+abbrev pub by_least_squares : Option Trial
 by_least_squares = least_tried (point_at (lent left-bend)) 0 2 1 (fraction 75 100)
 
 -- how far right the centre of a trial's arc lies; no number where the trial failed
-unfoldable pub centre-right : tried.Trial → Float
-centre-right (tried.TheVariants.Arc c d w) = c.x
-centre-right tried.TheVariants.None = nan
+unfoldable pub centre-right : Option Trial → Float
+centre-right (Some t) = t.center.x
+centre-right None = nan
 
 -- the steps of a Bezier with all points at p
 abbrev pub steps_at : Point3D → ℕ
@@ -101,7 +101,7 @@ pub record WorkedLaps : Type 0 where
   pub curve_of_equal-points : steps_at (point 7 7) ≡ 2
   pub empty_file : fit_file no_laps (fraction 1 2) 8 ≡ gives no_laps
   -- ours: both arc trials of the left bend pass, the second with a centre to the left of the first's; the Arc has the first's centre, and the normal of its direction
-  pub first_trial : by_three ≡ tried.TheVariants.Arc (record { x = metres 1; y = metres 4 }) false 1
+  pub first_trial : by_three ≡ Some (record { center = record { x = metres 1; y = metres 4 }; clockwise = false; worst = 1 })
   pub second_trial : (centre-right by_least_squares ≺ metres 1) ≡ true
   pub left-bend_as_an_arc : fit left-bend (fraction 75 100) ≡ gives (Arc (point 5 3) (point 1 4) up ∷ [])
   -- ours: of the bend that is one Arc the second step is the worst

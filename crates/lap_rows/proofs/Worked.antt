@@ -17,7 +17,7 @@ use Rattle.farthest.specs.Measure.{to_line, line_sq}
 use Rattle.simplify.specs.Thin.{kept_by, thinned, thinned_points}
 use Rattle.circle.specs.Bisector.{moved_by, projected}
 use Rattle.circle.specs.Collinear.{near_to, beside_of, all_near, all_beside, collinear_by, collinear}
-use Rattle.circle.specs.Kasa.{plus, sums_of, axes_of, scaled, det_of, inverse_times, solved, matrix_of, sides_of, centered, kasa_center}
+use Rattle.circle.specs.Kasa.{plus, sums_of, scaled, det_of, inverse_times, solved, matrix_of, sides_of, centered, kasa_center}
 use Rattle.circle.specs.Three.{area_of, turn_of, center3, radius_from, center_by, center_three, circle_round, through_three}
 use Rattle.circle.specs.Worst.{worse, worst}
 use Rattle.trial.specs.Deviation.{spoke_of, cosine, sagitta_of, ends_of, step_of, step_between, arc_deviation}
@@ -43,7 +43,7 @@ use Rattle.lap_rows.specs.Worked.{RightAngle, NoLaps}
 
 -- The right angle, as one lap of a Move and two Lines, lists as document 01 prints it, and its two steps are the sum.
 pub right-angle : RightAngle
-unfolding span climb size odd units round neg sum add sub mul div lt eq le is_nan of_int of_fields of_bits abs_of max_of clamp_of better root_in whole_root root_from in_units root_of plain coordinate centre within point_in point3_in every_from point_at flat end_of kind_of numbers_of refusal unless length_of distance_sq distance fold list_from turn_at cross_sum clockwise farther farthest_of farthest_in to_line line_sq kept_by thinned thinned_points moved_by projected near_to beside_of all_near all_beside collinear_by collinear plus sums_of axes_of cross3 dot3 scaled det_of inverse_times solved matrix_of sides_of centered kasa_center area_of turn_of center3 radius_from center_by center_three circle_round through_three worse worst spoke_of cosine sagitta_of ends_of step_of step_between arc_deviation offset_of cross2 dot2 at_centre half_of turned turns_of just_behind just_ahead passes_by away_from traverses sharp_turn sharp_at closed_range measured_by going_round of_measured trial_round trial_of of_circle of_center trial_three trial_least or_else try_arcs normal_of shaped piece_command fit_in rooted line_deviation arc_or_cut choose_by choice follow pieces_by line.chord_of collin.ends_chord ceil_of to_unsigned vector.distance3 is_finite is_plus_zero zero3 finite3 formed command_in command_of to_bits half_at word_at u32_bytes f64_bytes number_at point_from decoded well_formed commands_at enc parts.most_of closed carried parts_from part_most joined parts_on most_on shape_kind piece_row chain_rows part_rows rows_of rows_on lap_count offset_at count_at laps_at laps_of body bodies table encode short big has_mark walk table_ok placed form_ok domain_ok lacks lap_ok lap_tested laps_ok lap_end end_on most_lap laps_most file_rows ascii digits_by decimal row_text rows_text lap_rows lap_text laps_text chain_steps chains_steps lap_steps laps_steps total_text list_text text_rows list_file letter_of parameter_of off_foot segment_on segment_sq
+unfolding span climb size odd units round neg sum add sub mul div lt eq le is_nan of_int of_fields of_bits abs_of max_of clamp_of better root_in whole_root root_from in_units root_of plain coordinate centre within point_in point3_in every_from point_at flat end_of kind_of numbers_of refusal unless length_of distance_sq distance fold list_from turn_at cross_sum clockwise farther farthest_of farthest_in to_line line_sq kept_by thinned thinned_points moved_by projected near_to beside_of all_near all_beside collinear_by collinear plus sums_of cross3 dot3 scaled det_of inverse_times solved matrix_of sides_of centered kasa_center area_of turn_of center3 radius_from center_by center_three circle_round through_three worse worst spoke_of cosine sagitta_of ends_of step_of step_between arc_deviation offset_of cross2 dot2 at_centre half_of turned turns_of just_behind just_ahead passes_by away_from traverses sharp_turn sharp_at closed_range measured_by going_round of_measured trial_round trial_of of_circle of_center trial_three trial_least or_else try_arcs normal_of shaped piece_command fit_in rooted line_deviation arc_or_cut choose_by choice follow pieces_by line.chord_of collin.ends_chord ceil_of to_unsigned vector.distance3 is_finite is_plus_zero zero3 finite3 formed command_in command_of to_bits half_at word_at u32_bytes f64_bytes number_at point_from decoded well_formed commands_at enc parts.most_of closed carried parts_from part_most joined parts_on most_on shape_kind piece_row chain_rows part_rows rows_of rows_on lap_count offset_at count_at laps_at laps_of body bodies table encode short big has_mark walk table_ok placed form_ok domain_ok lacks lap_ok lap_tested laps_ok lap_end end_on most_lap laps_most file_rows ascii digits_by decimal row_text rows_text lap_rows lap_text laps_text chain_steps chains_steps lap_steps laps_steps total_text list_text text_rows list_file letter_of parameter_of off_foot segment_on segment_sq
 right-angle = refl
 
 -- A file of no laps lists as its first line and the sum 0.

@@ -18,24 +18,12 @@ use Rattle.lap_session.specs.declared.session.Ticket.{Ticket}
 use Rattle.lap_session.specs.Session.{refits_next, counts_agree, part_new}
 
 -- ---- whether the next lap is fitted again
-pub outside : (k : ℕ) (ls : List Lap) → k ≡ 0 → false ≡ refits_next k ls
-unfolding refits_next
-outside k ls e = rw (eq-eqb k 0 e)
-
 pub inside : (k : ℕ) (ls : List Lap) → (k ≡ 0 → ⊥) → next_lacks k ls ≡ refits_next k ls
 unfolding refits_next
 inside k ls h = rw (ne_eqb k 0 h)
 
 -- ---- the counts, as they are compared
 module _ (k : ℕ) (ls : List Lap) (all n m : ℕ) where
-  pub counts_apart : (n + m ≡ all → ⊥) → false ≡ counts_agree k ls all n m
-  unfolding counts_agree
-  counts_apart h = rw (ne_eqb (n + m) all h)
-
-  pub counts-none : n + m ≡ all → n ≡ 0 → false ≡ counts_agree k ls all n m
-  unfolding counts_agree
-  counts-none e z = rw (eq-eqb (n + m) all e, eq-eqb n 0 z)
-
   module _ (e : n + m ≡ all) (h : n ≡ 0 → ⊥) (b : Bool) (f : b ≡ refits_next k ls) where
     pub counts-both : b ≡ true → not (eqb m 0) ≡ counts_agree k ls all n m
     unfolding counts_agree

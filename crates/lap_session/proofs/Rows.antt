@@ -9,10 +9,13 @@ use lib.ListN.{length, drop}
 use lib.Dec.{ltb, leb, eqb}
 use lib.Ieee.{Float}
 use Rattle.floats.proofs.Order.{or_false}
-use Rattle.geo.specs.declared.types.Answer.TheVariants as answer
-use Rattle.geo.specs.Outcome as outcome
-use Rattle.geo.specs.Outcome.{refusal, unless, left, refused, gives}
-use Rattle.geo.proofs.Rows.{row_fails, row-passes, row_passed, done, unless-refused, unless-gives}
+use Rattle.std.specs.Prelude.{Result, Ok, Err}
+use Rattle.geo.specs.declared.refusal.Refusal.{Refusal}
+use Rattle.geo.specs.Outcome.{refusal, unless, left}
+use Rattle.geo.specs.Refusal.{number}
+use Rattle.geo.specs.Wrote.{answer}
+use Rattle.geo.proofs.Rows.{row_fails, row-passes, row_passed, done, unless-gives}
+use Rattle.geo.proofs.Wrote.{refused-is}
 use Rattle.chain.specs.Chains.{cap}
 use Rattle.chain.proofs.Count.{cap-few}
 use Rattle.laps.specs.File.{Lap, lap_count, laps_of, big, command_count}
@@ -24,14 +27,13 @@ use Rattle.lap_checks.specs.Checks.{NewLap, row2, new_rows, most_with, replace_r
 use Rattle.lap_checks.proofs.Rows.{NewPassed, new_passed_with, behind_new, new_refused, new_sizes, sizes_with, replace_passed}
 use Rattle.lap_session.specs.declared.session.Session.{Session}
 use Rattle.lap_session.specs.declared.session.Ticket.{Ticket}
-use Rattle.lap_session.specs.declared.session.Asked.TheVariants as asked
 use Rattle.lap_session.specs.Session.{edited, most_edits, ask_rows, Answered, answer_for, asked_as, bytes_asked, Answers, part_new, commit_rows, Stored, bytes_stored, session_after, Commits}
 
 -- ---- an asking
 module _ (s f : List ℕ) (k : ℕ) (new : NewLap) (tol : Float) (room : ℕ) where
-  pub ask_refused : (r : ℕ) → r ≡ refusal (new_rows s f k new tol) → (r ≡ 0 → ⊥) → r ≡ refusal (ask_rows s f k new tol room)
+  pub ask_refused : (cause : Refusal) → number cause ≡ refusal (new_rows s f k new tol) → number cause ≡ refusal (ask_rows s f k new tol room)
   unfolding ask_rows
-  ask_refused r e h = refused-front (new_rows s f k new tol) _ r e h
+  ask_refused cause e = refused-front (new_rows s f k new tol) _ cause e
 
   -- the new lap's most, which is told, and with it the other laps' commands
   module _ (p : NewPassed s f k new tol) (r t : ℕ) (e : r ≡ cap new.most) (g : t ≡ r + command_count (swap_both (next_lacks k (laps_of s)) k [] [] (laps_of f))) where
@@ -63,17 +65,16 @@ module _ (s f : List ℕ) (k : ℕ) (new : NewLap) (tol : Float) (room : ℕ) wh
       let c = row_passed 8 (ltb room (73 * new.most)) _ b.1 in
       (a.0, ltb-false 800 (most_with new k s f) b.0, ltb-false room (73 * new.most) c.0)
 
--- what it answers, n being the number of its refusal and r what the code found of it
-pub not_asked : (n r : ℕ) (a : Answered) (buffer : List ℕ) → r ≡ n → (r ≡ 0 → ⊥) → Answers (unless n a) buffer buffer (asked.Refused r)
+-- what it answers, n being the number that its table gives
+pub not_asked : (n : ℕ) (cause : Refusal) (a : Answered) (buffer : List ℕ) (r : Result Ticket Refusal) → number cause ≡ n → r ≡ Err cause → Answers (unless n a) buffer buffer r
 unfolding asked_as bytes_asked left
-not_asked n r a buffer e h =
-    let z : unless n a ≡ refused n = unless-refused n a (omega (arith, e, h)) in rw z (record { says = ap asked.Refused e; leaves = refl })
+not_asked n cause a buffer r e h = rw (h, sym (refused-is n cause e a)) (record { says = refl; leaves = refl })
 
-pub is_asked : (n r : ℕ) (e : Session) (k : ℕ) (tol : Float) (new next : Lap) (buffer buffer' : List ℕ) (i j : ℕ) → r ≡ n → r ≡ 0 → PutBoth new next buffer buffer' i j
-    → Answers (unless n (answer_for e k tol new next)) buffer buffer' (asked.Given (record { lap = k; tolerance = tol; edit = e.edits; count = i; next = j }))
+pub is_asked : (n : ℕ) (e : Session) (k : ℕ) (tol : Float) (new next : Lap) (buffer buffer' : List ℕ) (i j : ℕ) → 0 ≡ n → PutBoth new next buffer buffer' i j
+    → Answers (unless n (answer_for e k tol new next)) buffer buffer' (Ok (record { lap = k; tolerance = tol; edit = e.edits; count = i; next = j }))
 unfolding asked_as bytes_asked left
-is_asked n r e k tol new next buffer buffer' i j h z put =
-    rw (unless-gives n (answer_for e k tol new next) (sym h ∙ z), put.count, put.behind) (record { says = refl; leaves = put.bytes })
+is_asked n e k tol new next buffer buffer' i j z put =
+    rw (unless-gives n (answer_for e k tol new next) (sym z), put.count, put.behind) (record { says = refl; leaves = put.bytes })
 
 -- ---- a commit
 module _ (t : Ticket) (e : Session) (s f part : List ℕ) (room : ℕ) where
@@ -90,8 +91,8 @@ module _ (t : Ticket) (e : Session) (s f part : List ℕ) (room : ℕ) where
     unfolding commit_rows
     behind-session = row-passes 12 _ _ (ap not (eq-eqb t.edit e.edits h)) ∙ row-passes 13 _ _ (lt-leb most_edits e.edits g)
 
-    pub part_refused : (r : ℕ) → r ≡ refusal (new_rows s f t.lap (part_new t (laps_of s) part) t.tolerance) → (r ≡ 0 → ⊥) → r ≡ refusal (commit_rows t e s f part room)
-    part_refused r q z = new_refused s f t.lap (part_new t (laps_of s) part) t.tolerance room r q z ∙ sym behind-session
+    pub part_refused : (cause : Refusal) → number cause ≡ refusal (new_rows s f t.lap (part_new t (laps_of s) part) t.tolerance) → number cause ≡ refusal (commit_rows t e s f part room)
+    part_refused cause q = new_refused s f t.lap (part_new t (laps_of s) part) t.tolerance room cause q ∙ sym behind-session
 
     pub part_sizes : NewPassed s f t.lap (part_new t (laps_of s) part) t.tolerance → (l m : ℕ) → l ≡ lap_count f → length part / 73 ≤ 800
         → m ≡ length part / 73 + command_count (swap_both (next_lacks t.lap (laps_of s)) t.lap [] [] (laps_of f)) → refusal (size_rows l m room) ≡ refusal (commit_rows t e s f part room)
@@ -126,16 +127,13 @@ unfolding row2
 few_part t s f part p = leb-true (length part / 73) 800 (not-false _ (or_false (big s || big f) _ p.p2).1)
 
 -- what it answers
-pub not_stored : (n r : ℕ) (e : Session) (a : Stored) (out : List ℕ) → r ≡ n → (r ≡ 0 → ⊥) → Commits e (unless n a) out out (record { answer = answer.Refused r; session = e })
-unfolding bytes_stored session_after outcome.answer left
-not_stored n r e a out h z =
-    let q : unless n a ≡ refused n = unless-refused n a (omega (arith, h, z)) in
-    rw q (record { wrote = record { says = ap answer.Refused h; leaves = refl }; session = refl })
+pub not_stored : (n : ℕ) (cause : Refusal) (e : Session) (a : Stored) (out : List ℕ) (r : Result ℕ Refusal) → number cause ≡ n → r ≡ Err cause → Commits e e (unless n a) out out r
+unfolding bytes_stored session_after answer left
+not_stored n cause e a out r h k = rw (k, sym (refused-is n cause h a)) (record { wrote = record { says = refl; leaves = refl }; session = refl })
 
-pub is-stored : (n r : ℕ) (e : Session) (bs out out' : List ℕ) (k : ℕ) → r ≡ n → r ≡ 0 → (k ≡ length bs) × (out' ≡ bs ++ drop (length bs) out)
-    → Commits e (unless n (record { bytes = bs; session = edited e })) out out' (record { answer = answer.Written k; session = edited e })
-unfolding bytes_stored session_after outcome.answer left
-is-stored n r e bs out out' k h z w =
+pub is-stored : (n : ℕ) (e : Session) (bs out out' : List ℕ) (k : ℕ) → 0 ≡ n → (k ≡ length bs) × (out' ≡ bs ++ drop (length bs) out)
+    → Commits e (edited e) (unless n (record { bytes = bs; session = edited e })) out out' (Ok k)
+unfolding bytes_stored session_after answer left
+is-stored n e bs out out' k z w =
     let a : Stored = record { bytes = bs; session = edited e } in
-    let q : unless n a ≡ gives a = unless-gives n a (sym h ∙ z) in
-    rw q (record { wrote = record { says = ap answer.Written w.0; leaves = w.1 }; session = refl })
+    rw (unless-gives n a (sym z)) (record { wrote = record { says = rw w.0; leaves = w.1 }; session = refl })

@@ -1,7 +1,10 @@
 -- Document 02, §9, "Look first, then store": the asking for a lap's replacement and its commit, each with the rows that refuse it. Definitions only.
-use Rattle.std.specs.Prelude.{ℕ, ◌+◌, ◌*◌, ◌/◌, Bool, false, not, ◌&&◌, List, [], ◌∷◌, ◌++◌, ◌≡◌, length, ltb, leb, eqb, Float, if◌then◌else◌}
+use Rattle.std.specs.Prelude.{ℕ, ◌+◌, ◌*◌, ◌/◌, Bool, false, not, ◌&&◌, List, [], ◌∷◌, ◌++◌, ◌≡◌, length, ltb, leb, eqb, Float, if◌then◌else◌, Result}
 use Rattle.geo.specs.Domain.{whole}
-use Rattle.geo.specs.Outcome.{Row, row, refusal, Outcome, refused, gives, unless, left, Wrote}
+use Rattle.geo.specs.declared.refusal.Refusal.{Refusal}
+use Rattle.geo.specs.Outcome.{Row, row, refusal, Outcome, refused, gives, unless, left}
+use Rattle.geo.specs.Refusal.{outcome}
+use Rattle.geo.specs.Wrote.{Wrote}
 use Rattle.file.specs.Command.{commands_at}
 use Rattle.pieces.specs.Pieces.{laps_rule}
 use Rattle.laps.specs.File.{Lap, laps_of, body, encode, fitted_ok, finite_ok, lap_ok, lap_tested}
@@ -9,8 +12,6 @@ use Rattle.lap_swap.specs.Swap.{next_lacks, new_fit, next_fit, stored_laps}
 use Rattle.lap_checks.specs.Checks.{NewLap, lent_new, new_rows, most_with, replace_rows}
 use Rattle.lap_session.specs.declared.session.Session.{Session}
 use Rattle.lap_session.specs.declared.session.Ticket.{Ticket}
-use Rattle.lap_session.specs.declared.session.Asked as asking
-use Rattle.lap_session.specs.declared.session.Committed as committing
 
 -- ---- a session
 -- "each accepted commit raises the edit number by 1, from 0"
@@ -105,20 +106,20 @@ commit_lap t e s f part room = unless (refusal (commit_rows t e s f part room)) 
 
 -- ---- what the calls answer and leave
 -- an asking: a ticket or the number of the refusal
-unfoldable pub asked_as : Outcome Answered → asking.Asked
-asked_as (refused n) = asking.TheVariants.Refused n
-asked_as (gives a) = asking.TheVariants.Given a.ticket
+unfoldable pub asked_as : Outcome Answered → Outcome Ticket
+asked_as (refused n) = refused n
+asked_as (gives a) = gives a.ticket
 
 unfoldable pub bytes_asked : Outcome Answered → Outcome (List ℕ)
 bytes_asked (refused n) = refused n
 bytes_asked (gives a) = gives a.bytes
 
 -- its buffer afterwards: the bytes at the front, and then what stood there
-pub record Answers (o : Outcome Answered) (buffer buffer' : List ℕ) (r : asking.Asked) : Type 0 where
-  pub says : r ≡ asked_as o
+pub record Answers (o : Outcome Answered) (buffer buffer' : List ℕ) (r : Result Ticket Refusal) : Type 0 where
+  pub says : outcome r ≡ asked_as o
   pub leaves : buffer' ≡ left (λ (bytes : List ℕ). bytes) buffer (bytes_asked o)
 
--- a commit: the file's bytes at the front of the output; a refusal gives the session back as it came
+-- a commit: the file's bytes at the front of the output; a refusal leaves the session as it came
 unfoldable pub bytes_stored : Outcome Stored → Outcome (List ℕ)
 bytes_stored (refused n) = refused n
 bytes_stored (gives a) = gives a.bytes
@@ -127,6 +128,6 @@ unfoldable pub session_after : Session → Outcome Stored → Session
 session_after e (refused n) = e
 session_after e (gives a) = a.session
 
-pub record Commits (e : Session) (o : Outcome Stored) (out out' : List ℕ) (r : committing.Committed) : Type 0 where
-  pub wrote : Wrote (λ (bytes : List ℕ). bytes) (bytes_stored o) out out' r.answer
-  pub session : r.session ≡ session_after e o
+pub record Commits (e e' : Session) (o : Outcome Stored) (out out' : List ℕ) (r : Result ℕ Refusal) : Type 0 where
+  pub wrote : Wrote (λ (bytes : List ℕ). bytes) (bytes_stored o) out out' r
+  pub session : e' ≡ session_after e o

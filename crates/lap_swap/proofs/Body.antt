@@ -1,8 +1,10 @@
 -- Two laps in a buffer, one behind the other: what stands there are the laps whose bodies were written; and they are few enough. Assumes nothing.
 use Prim.Native.Nat.{ℕ, ◌+◌, ◌*◌, ◌≤◌}
 use mathlib.Core.Path.{◌≡◌, sym, ap, ◌∙◌}
-use mathlib.Core.Bool.{true}
-use mathlib.Core.List.{List, ◌++◌, append_assoc}
+use mathlib.Core.Bool.{true, false}
+use Rattle.std.specs.Prelude.{Option, Some, None}
+use Rattle.file.specs.declared.command.Body.{Body}
+use mathlib.Core.List.{List, [], ◌++◌, append_assoc}
 use native.Mathlib.Omega.{arith}
 use lib.ListN.{length, drop, length-append}
 use lib.Seq.{sets, drop_at}
@@ -15,10 +17,10 @@ use Rattle.pieces.specs.declared.pieces.Rule.{Rule}
 use Rattle.course.specs.Course.{most_on, end_on, lent_course}
 use Rattle.laps.specs.File.{Lap, laps_of, body, EachFull, PutLap}
 use Rattle.laps.proofs.ReadBack.{commands-back}
-use Rattle.laps.proofs.Whole.{length_body}
+use Rattle.laps.proofs.Whole.{length_body, whole-commands}
 use Rattle.lap_fit.specs.Fit.{start_of, fit_lap, most_lap, fit_new}
 use Rattle.lap_fit.proofs.Lap.{new_most, fit-most, whole_new, whole-fit}
-use Rattle.lap_swap.specs.Swap.{next_lap, most_both, new_fit, next_fit, replaced_laps, stored_laps, PutBoth}
+use Rattle.lap_swap.specs.Swap.{commands_of, swap_both, next_lacks, next_lap, most_both, new_fit, next_fit, replaced_laps, stored_laps, PutBoth}
 
 -- ---- the laps x and y, written to the front of a buffer, one behind the other
 module _ (x y : Lap) (wx : EachFull x) (wy : EachFull y) where
@@ -99,3 +101,18 @@ module _ (r : Rule) (s f : List ℕ) (k : ℕ) (ks : List ℕ) (ns : List Float)
       let wx = whole_new_fit r (laps_of s) k ks ns in
       let wy = whole-next-fit r (laps_of s) k ks ns in
       rw (first_in x y wx wy buffer bytes n m put, next_in x y wx wy buffer bytes n m put)
+
+-- ---- the laps of a part
+pub whole_of : (o : Option Body) → EachFull (commands_of o)
+whole_of None = tt
+whole_of (Some b) = whole-commands b.bytes.now b.at b.count b.inside
+
+module _ (k : ℕ) (ls fs : List Lap) (bytes : List ℕ) (n m : ℕ) (new : Body) (en : (new.bytes.now ≡ bytes) × (new.at ≡ 0) × (new.count ≡ n)) where
+  pub two_stored : (next : Body) → (next.bytes.now ≡ bytes) × (next.at ≡ 73 * n) × (next.count ≡ m) → true ≡ next_lacks k ls
+      → stored_laps k ls bytes n m fs ≡ swap_both true k (commands_at new.bytes.now new.at new.count) (commands_at next.bytes.now next.at next.count) fs
+  unfolding stored_laps
+  two_stored next ex e = rw (← e, en.0, en.1, en.2, ex.0, ex.1, ex.2)
+
+  pub one_stored : false ≡ next_lacks k ls → stored_laps k ls bytes n m fs ≡ swap_both false k (commands_at new.bytes.now new.at new.count) [] fs
+  unfolding stored_laps swap_both
+  one_stored e = rw (← e, en.0, en.1, en.2)

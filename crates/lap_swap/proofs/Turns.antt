@@ -6,18 +6,15 @@ use mathlib.Core.List.{List, [], ◌∷◌, ◌++◌}
 use native.Mathlib.Nat.{zero-add}
 use native.Mathlib.Omega.{arith}
 use borrow.Author.Tests.{eq-eqb, ne_eqb, eqb-true, eqb-false}
-use lib.ListN.{length, drop, set}
+use lib.ListN.{length, get_or, drop, set}
 use lib.Seq.{sets}
 use lib.Dec.{eqb}
 use Rattle.file.specs.Bytes.{u32_bytes}
-use Rattle.file.specs.Command.{commands_at}
-use Rattle.laps.specs.File.{Lap, lap_count, count_at, laps_at, laps_of, table_ok, mark, encode, EachFull, command_count}
+use Rattle.laps.specs.File.{Lap, lap_count, laps_of, table_ok, mark, encode, EachFull, command_count}
 use Rattle.laps.specs.Rows.{file_size}
 use Rattle.laps.proofs.Going.{Going, begin, done}
-use Rattle.laps.proofs.Here.{Here, step, start_at, all-laps}
 use Rattle.laps.proofs.Laps.{wholes_of}
-use Rattle.laps.proofs.Turns.{laps_cons, laps_nil, length_laps_of}
-use Rattle.laps.proofs.Whole.{length_commands}
+use Rattle.laps.proofs.Turns.{laps_next, laps_over, length_laps_of}
 use Rattle.lap_swap.specs.Swap.{swap_both}
 use Rattle.lap_swap.proofs.Replaced.{wholes_both, length_both}
 
@@ -96,10 +93,10 @@ module _ (both : Bool) (k : ℕ) (new next : Lap) where
   unfolding swap_both
   both_is ls h = from 1 ls h
 
-  both_cons : (s : List ℕ) (j at l n : ℕ) → j < l → n ≡ count_at s j
-      → both_from both k new next (j + 1) (laps_at s j at (l - j)) ≡ chosen both k new next (j + 1) (commands_at s at n) ∷ both_from both k new next (j + 1 + 1) (laps_at s (j + 1) (at + 73 * n) (l - (j + 1)))
+  both_cons : (ls : List Lap) (j : ℕ) (l : Lap) → j < length ls → l ≡ get_or ls j []
+      → both_from both k new next (j + 1) (drop j ls) ≡ chosen both k new next (j + 1) l ∷ both_from both k new next (j + 1 + 1) (drop (j + 1) ls)
   unfolding both_from
-  both_cons s j at l n h e = rw (laps_cons s j at l n h e)
+  both_cons ls j l h e = rw (laps_next ls j h, e)
 
 -- ---- the commands in the other laps, which are those with the two emptied
 length_or : (t u : Bool) (l : Lap) → length (cond t [] (cond u [] l)) ≡ cond t 0 (cond u 0 (length l))
@@ -108,72 +105,57 @@ length_or false true l = refl
 length_or false false l = refl
 
 module _ (both : Bool) (k : ℕ) where
-  others_step : (s : List ℕ) (j at l n : ℕ) → j < l → n ≡ count_at s j
-      → command_count (both_from both k [] [] (j + 1) (laps_at s j at (l - j)))
-      ≡ cond (eqb (j + 1) k) 0 (cond (both && eqb (j + 1) (k + 1)) 0 n) + command_count (both_from both k [] [] (j + 1 + 1) (laps_at s (j + 1) (at + 73 * n) (l - (j + 1))))
+  others_step : (ls : List Lap) (j n : ℕ) (l : Lap) → j < length ls → l ≡ get_or ls j [] → n ≡ length l
+      → command_count (both_from both k [] [] (j + 1) (drop j ls))
+      ≡ cond (eqb (j + 1) k) 0 (cond (both && eqb (j + 1) (k + 1)) 0 n) + command_count (both_from both k [] [] (j + 1 + 1) (drop (j + 1) ls))
   unfolding command_count
-  others_step s j at l n h e = rw (both_cons both k [] [] s j at l n h e, length_or (eqb (j + 1) k) (both && eqb (j + 1) (k + 1)) (commands_at s at n), length_commands s at n)
+  others_step ls j n l h e f = rw (both_cons both k [] [] ls j l h e, length_or (eqb (j + 1) k) (both && eqb (j + 1) (k + 1)) l, f)
 
-  others-end : (s : List ℕ) (j at l : ℕ) → l ≤ j → command_count (both_from both k [] [] (j + 1) (laps_at s j at (l - j))) ≡ 0
+  others-end : (ls : List Lap) (j : ℕ) → length ls ≤ j → command_count (both_from both k [] [] (j + 1) (drop j ls)) ≡ 0
   unfolding command_count both_from
-  others-end s j at l h = rw (laps_nil s j at l h)
+  others-end ls j h = rw (laps_over ls j h)
 
 -- where the count stands before lap j + 1: m commands so far
-pub record Counting (both : Bool) (s : List ℕ) (k l m j : ℕ) : Type 0 where
-  pub at : ℕ
-  pub here : Here s j at l
-  pub small : 73 * m + 8 + 8 * l ≤ at
-  pub rest : m + command_count (both_from both k [] [] (j + 1) (laps_at s j at (l - j))) ≡ command_count (swap_both both k [] [] (laps_of s))
+pub record Counting (both : Bool) (ls : List Lap) (k m j : ℕ) : Type 0 where
+  pub small : m + command_count (drop j ls) ≤ command_count ls
+  pub rest : m + command_count (both_from both k [] [] (j + 1) (drop j ls)) ≡ command_count (swap_both both k [] [] ls)
 
-module _ (both : Bool) (s : List ℕ) (k l : ℕ) where
-  pub counting_start : 1 ≤ k → l ≡ lap_count s → table_ok s ≡ true → Counting both s k l 0 0
-  counting_start b e h =
-      record { at = 8 + 8 * l; here = start_at s l e h; small = omega arith; rest = rw (all-laps s l e, zero-add) (ap command_count (both_is both k [] [] (laps_of s) b)) }
+module _ (both : Bool) (ls : List Lap) (k : ℕ) where
+  pub counting_start : 1 ≤ k → Counting both ls k 0 0
+  counting_start b = record { small = omega arith; rest = rw zero-add (ap command_count (both_is both k [] [] ls b)) }
 
-  pub counting_step : (m j n o : ℕ) → Counting both s k l m j → j < l → n ≡ count_at s j → o ≡ cond (eqb (j + 1) k) 0 (cond (both && eqb (j + 1) (k + 1)) 0 n) → o ≤ n
-      → Counting both s k l (m + o) (j + 1)
-  counting_step m j n o c h e f g =
-      let w = step s j c.at l n e c.here h in
-      let x = others_step both k s j c.at l n h e in
+  pub counting_step : (m j n o : ℕ) (l : Lap) → Counting both ls k m j → j < length ls → l ≡ get_or ls j [] → n ≡ length l
+      → o ≡ cond (eqb (j + 1) k) 0 (cond (both && eqb (j + 1) (k + 1)) 0 n) → o ≤ n → Counting both ls k (m + o) (j + 1)
+  unfolding command_count
+  counting_step m j n o l c h e d f g =
+      let x = others_step both k ls j n l h e d in
+      let z : command_count (drop j ls) ≡ length l + command_count (drop (j + 1) ls) = rw (laps_next ls j h, e) in
       let y = c.rest in
-      let z = c.small in record { at = c.at + 73 * n; here = w.then; small = omega arith; rest = omega arith }
+      let w = c.small in record { small = omega arith; rest = omega arith }
 
-  pub counting_few : (m j : ℕ) → Counting both s k l m j → m ≤ 800
-  counting_few m j c = let a = c.here.past in let b = c.here.few in let d = c.small in omega arith
+  pub counting_few : (m j : ℕ) → command_count ls ≤ 800 → Counting both ls k m j → m ≤ 800
+  counting_few m j h c = let d = c.small in omega arith
 
-  pub counting_done : (m j : ℕ) → Counting both s k l m j → l ≤ j → (m ≡ command_count (swap_both both k [] [] (laps_of s))) × (m ≤ 800)
-  counting_done m j c h = let x = others-end both k s j c.at l h in let y = c.rest in (omega arith, counting_few m j c)
+  pub counting_done : (m j : ℕ) → command_count ls ≤ 800 → Counting both ls k m j → length ls ≤ j → (m ≡ command_count (swap_both both k [] [] ls)) × (m ≤ 800)
+  counting_done m j t c h = let x = others-end both k ls j h in let y = c.rest in (omega arith, counting_few m j t c)
 
 -- ---- the file with new laps, written lap by lap
 module _ (s : List ℕ) (both : Bool) (k : ℕ) (new next : Lap) where
   pub swap_begin : (out : List ℕ) (l : ℕ) → 1 ≤ k → l ≡ lap_count s → file_size l (command_count (swap_both both k new next (laps_of s))) ≤ length out
-      → Going out out l 0 (8 + 8 * l) (both_from both k new next (0 + 1) (laps_at s 0 (8 + 8 * l) (l - 0))) (swap_both both k new next (laps_of s))
-  swap_begin out l b e h = rw (all-laps s l e, both_is both k new next (laps_of s) b) (begin out l (swap_both both k new next (laps_of s)) h)
+      → Going out out l 0 (8 + 8 * l) (both_from both k new next (0 + 1) (laps_of s)) (swap_both both k new next (laps_of s))
+  swap_begin out l b e h = rw (both_is both k new next (laps_of s) b) (begin out l (swap_both both k new next (laps_of s)) h)
 
-  pub swap_turn : (out₀ out : List ℕ) (l j at to n : ℕ) (all : List Lap) → j < l → n ≡ count_at s j
-      → Going out₀ out l j to (both_from both k new next (j + 1) (laps_at s j at (l - j))) all
-      → Going out₀ out l j to (chosen both k new next (j + 1) (commands_at s at n) ∷ both_from both k new next (j + 1 + 1) (laps_at s (j + 1) (at + 73 * n) (l - (j + 1)))) all
-  swap_turn out₀ out l j at to n all h e g = rw (both_cons both k new next s j at l n h e) at g
+  -- x is what lap number j + 1 becomes
+  pub swap_turn : (out₀ out : List ℕ) (l j to : ℕ) (x y : Lap) (all : List Lap) → j < lap_count s → y ≡ get_or (laps_of s) j [] → x ≡ chosen both k new next (j + 1) y
+      → Going out₀ out l j to (both_from both k new next (j + 1) (drop j (laps_of s))) all
+      → Going out₀ out l j to (x ∷ both_from both k new next (j + 1 + 1) (drop (j + 1) (laps_of s))) all
+  swap_turn out₀ out l j to x y all h e f g = let n = length_laps_of s in rw f (rw (both_cons both k new next (laps_of s) j y (omega arith) e) at g)
 
-  pub swap-done : (out₀ out out' : List ℕ) (l j at to : ℕ) → EachFull new → EachFull next → l ≡ lap_count s → l ≤ j → table_ok s ≡ true → out ≡ sets out₀ 0 (mark ++ u32_bytes l)
-      → Going out out' l j to (both_from both k new next (j + 1) (laps_at s j at (l - j))) (swap_both both k new next (laps_of s))
+  pub swap-done : (out₀ out out' : List ℕ) (l j to : ℕ) → EachFull new → EachFull next → l ≡ lap_count s → l ≤ j → table_ok s ≡ true → out ≡ sets out₀ 0 (mark ++ u32_bytes l)
+      → Going out out' l j to (both_from both k new next (j + 1) (drop j (laps_of s))) (swap_both both k new next (laps_of s))
       → (to ≡ length (encode (swap_both both k new next (laps_of s)))) × (out' ≡ encode (swap_both both k new next (laps_of s)) ++ drop (length (encode (swap_both both k new next (laps_of s)))) out₀)
   unfolding both_from
-  swap-done out₀ out out' l j at to w v e h t q g =
-      done out₀ out out' l j to (swap_both both k new next (laps_of s)) (rw (laps_nil s j at l h) at g)
+  swap-done out₀ out out' l j to w v e h t q g =
+      let n = length_laps_of s in
+      done out₀ out out' l j to (swap_both both k new next (laps_of s)) (rw (laps_over (laps_of s) j (omega arith)) at g)
       (e ∙ sym (length_laps_of s) ∙ sym (length_both both k new next (laps_of s))) (wholes_both both k new next (laps_of s) w v (wholes_of s t)) q
-
--- ---- one lap: the new one, the next one, or as it stands
-module _ (both : Bool) (k j : ℕ) (new next l : Lap) where
-  pub is_new : j ≡ k → new ≡ chosen both k new next j l
-  is_new e = rw (eq-eqb j k e)
-
-  pub is_the_next : (j ≡ k → ⊥) → (both && eqb j (k + 1)) ≡ true → next ≡ chosen both k new next j l
-  is_the_next e f = rw (ne_eqb j k e, f)
-
-  pub is_old : (j ≡ k → ⊥) → (both && eqb j (k + 1)) ≡ false → l ≡ chosen both k new next j l
-  is_old e f = rw (ne_eqb j k e, f)
-
--- room for it
-pub room_for : (to room n : ℕ) (x y : Lap) → x ≡ y → length x ≡ n → to + 73 * length y ≤ room → to + 73 * n ≤ room
-room_for to room n x y e c h = let d = ap length e in omega arith

@@ -1,11 +1,17 @@
 -- The laps of a file with one replaced and, where it is fitted again, the one behind it; what both become, and could become at most. Definitions only.
-use Rattle.std.specs.Prelude.{ℕ, ◌+◌, ◌-◌, ◌*◌, Bool, List, [], ◌++◌, ◌≡◌, length, get_or, set, drop, Float, if◌then◌else◌}
+use Rattle.std.specs.Prelude.{ℕ, ◌+◌, ◌-◌, ◌*◌, Bool, List, [], ◌++◌, ◌≡◌, length, get_or, set, drop, Float, if◌then◌else◌, Option, Some, None}
 use Rattle.geo.specs.declared.types.Command.{Command}
+use Rattle.file.specs.declared.command.Body.{Body}
 use Rattle.file.specs.Command.{commands_at}
 use Rattle.pieces.specs.declared.pieces.Rule.{Rule}
 use Rattle.course.specs.Course.{most_on, end_on, lent_course}
 use Rattle.laps.specs.File.{Lap, body, lacks}
 use Rattle.lap_fit.specs.Fit.{start_of, fit_lap, most_lap, fit_new}
+
+-- the commands of a lap, if there is one
+abbrev pub commands_of : Option Body → Lap
+commands_of None = []
+commands_of (Some b) = commands_at b.bytes.now b.at b.count
 
 -- laps that are numbered from `first` on, with a new lap k
 abbrev pub swap : ℕ → Lap → ℕ → List Lap → List Lap

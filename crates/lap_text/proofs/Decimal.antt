@@ -28,9 +28,9 @@ two_digits n h k =
     let e : n ≡ suc (n - 1) = omega arith in
     next_digit n n h ∙ ap (λ (l : List ℕ). l ++ ((48 + n % 10) ∷ [])) (ap (λ (m : ℕ). digits_by m (n / 10)) e ∙ last_digit (n - 1) (n / 10) (omega arith))
 
-pub three-digits : (n : ℕ) → 100 ≤ n → n < 1000 → decimal n ≡ (48 + n / 100) ∷ (48 + n / 10 % 10) ∷ (48 + n % 10) ∷ []
+pub three_digits : (n : ℕ) → 100 ≤ n → n < 1000 → decimal n ≡ (48 + n / 100) ∷ (48 + n / 10 % 10) ∷ (48 + n % 10) ∷ []
 unfolding decimal
-three-digits n h k =
+three_digits n h k =
     let e : n ≡ suc (suc (n - 2)) = omega arith in
     let d : n / 10 / 10 ≡ n / 100 = omega arith in
     next_digit n n (omega arith)
@@ -43,4 +43,4 @@ pub below_100 : (n : ℕ) → n < 100 → length (decimal n) ≤ 2
 below_100 n h = ⊎_elim (λ k. let e = ap length (one_digit n k) in omega arith) (λ k. let e = ap length (two_digits n k h) in omega arith) (lt_or_ge n 10)
 
 pub below_1000 : (n : ℕ) → n < 1000 → length (decimal n) ≤ 3
-below_1000 n h = ⊎_elim (λ k. let e = below_100 n k in omega arith) (λ k. let e = ap length (three-digits n k h) in omega arith) (lt_or_ge n 100)
+below_1000 n h = ⊎_elim (λ k. let e = below_100 n k in omega arith) (λ k. let e = ap length (three_digits n k h) in omega arith) (lt_or_ge n 100)

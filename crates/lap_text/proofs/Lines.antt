@@ -1,10 +1,11 @@
 -- The lines of a lap: the rows that stand in two arrays, written one by one. Assumes nothing.
 use Prim.Native.Nat.{ℕ, zero, suc, ◌+◌, ◌-◌, ◌*◌, ◌≤◌, ◌<◌}
-use mathlib.Core.Path.{◌≡◌, refl, ap, ◌∙◌, subst}
+use mathlib.Core.Path.{◌≡◌, refl, sym, ap, ◌∙◌, subst}
 use mathlib.Core.List.{List, [], ◌∷◌, ◌++◌}
 use native.Mathlib.Nat.{zero-add}
 use native.Mathlib.Omega.{arith}
-use lib.ListN.{length, get_or, drop}
+use lib.ListN.{length, get_or, take}
+use Rattle.std.proofs.Math.Seq.{take-append_seam}
 use Rattle.geo.specs.Lent.{flat}
 use Rattle.geo.specs.Walk.{list_from}
 use Rattle.geo.proofs.Stores.{sets_front}
@@ -105,16 +106,22 @@ rows_shift k s ks ss (suc n) i =
     let e : i + 1 ≡ suc i = omega arith in
     ap (λ (r : ListRow). r ∷ rows_from (k ∷ ks) (s ∷ ss) n (i + 1 + 1)) (ap (row_at (k ∷ ks) (s ∷ ss)) e) ∙ ap (λ (rs : List ListRow). row_at ks ss i ∷ rs) (rows_shift k s ks ss n (i + 1))
 
-rows-front : (rs : List ListRow) (us vs : List ℕ) → rows_from (kinds_of rs ++ us) (steps_in rs ++ vs) (length rs) 0 ≡ rs
+rows-front : (rs : List ListRow) → rows_from (kinds_of rs) (steps_in rs) (length rs) 0 ≡ rs
 unfolding rows_from list_from kinds_of steps_in
-rows-front [] us vs = refl
-rows-front (r ∷ rs) us vs = ap (λ (ts : List ListRow). r ∷ ts) (rows_shift r.kind r.steps (kinds_of rs ++ us) (steps_in rs ++ vs) (length rs) 0 ∙ rows-front rs us vs)
+rows-front [] = refl
+rows-front (r ∷ rs) = ap (λ (ts : List ListRow). r ∷ ts) (rows_shift r.kind r.steps (kinds_of rs) (steps_in rs) (length rs) 0 ∙ rows-front rs)
 
-pub rows_back : (rs : List ListRow) (n : ℕ) (ks ks' ss ss' : List ℕ) → RowsPlaced rs n ks ks' ss ss' → length rs ≤ length ks → length rs ≤ length ss → rows_from ks' ss' n 0 ≡ rs
-rows_back rs n ks ks' ss ss' p h k =
-    let a = p.kinds ∙ sets_front (kinds_of rs) ks (rw (kinds_length rs) h) in
-    let b = p.steps ∙ sets_front (steps_in rs) ss (rw (steps_length rs) k) in
-    rw (a, b, p.count) (rows-front rs (drop (length (kinds_of rs)) ks) (drop (length (steps_in rs)) ss))
+-- the columns of the n rows, cut from the arrays
+pub columns_back : (rs : List ListRow) (n : ℕ) (ks ks' ss ss' : List ℕ) → RowsPlaced rs n ks ks' ss ss' → length rs ≤ length ks → length rs ≤ length ss
+    → (take n ks' ≡ kinds_of rs) × (take n ss' ≡ steps_in rs)
+columns_back rs n ks ks' ss ss' p h k =
+    let a = kinds_length rs in
+    let b = steps_length rs in
+    (rw (p.kinds ∙ sets_front (kinds_of rs) ks (rw a h), p.count ∙ sym a) (take-append_seam (kinds_of rs) _), rw (p.steps ∙ sets_front (steps_in rs) ss (rw b k), p.count ∙ sym b) (take-append_seam (steps_in rs) _))
+
+pub rows_back : (rs : List ListRow) (n : ℕ) (ks ks' ss ss' : List ℕ) → RowsPlaced rs n ks ks' ss ss' → length rs ≤ length ks → length rs ≤ length ss
+    → rows_from (take n ks') (take n ss') (length (take n ks')) 0 ≡ rs
+rows_back rs n ks ks' ss ss' p h k = let c = columns_back rs n ks ks' ss ss' p h k in rw (c.0, c.1, kinds_length rs) (rows-front rs)
 
 pub text_same : (lap : ℕ) (rs ts : List ListRow) (out out' : List ℕ) (at to : ℕ) → rs ≡ ts → TextPut (rows_text lap rs) out out' at to → TextPut (rows_text lap ts) out out' at to
 text_same lap rs ts out out' at to e p = subst (λ (xs : List ListRow). TextPut (rows_text lap xs) out out' at to) e p

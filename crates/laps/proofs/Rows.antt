@@ -7,12 +7,20 @@ use native.Mathlib.Omega.{arith}
 use borrow.Author.Tests.{eq-eqb, ne_eqb, eqb-true, eqb-false, not-false, lt-ltb, le-ltb, ltb-false}
 use lib.ListN.{length, drop}
 use lib.Dec.{eqb, ltb}
-use Rattle.geo.specs.declared.types.Answer.TheVariants.{Written}
-use Rattle.geo.specs.Outcome.{Row, refusal, unless, answer, left, Wrote}
+use Rattle.std.specs.Prelude.{Result, Ok, Err}
+use Rattle.geo.specs.declared.refusal.Refusal.{Refusal}
+use Rattle.geo.specs.Outcome.{Row, refusal, unless, left}
+use Rattle.geo.specs.Refusal.{number, refused_by}
+use Rattle.geo.specs.Wrote.{answer, Wrote}
+use Rattle.geo.proofs.Wrote.{number-positive}
 use Rattle.geo.proofs.Rows.{row_fails, row-passes, row_passed, refusal-front, done, unless-gives}
 use Rattle.laps.specs.File.{laps_of, short, big, table_ok, laps_ok, form_ok, domain_ok}
 use Rattle.laps.specs.Rows.{file_size, file_rows, size_rows}
 use Rattle.laps.proofs.Walks.{not_short}
+
+-- a cause that is handed on
+pub refused_on : {A : Type 0} (n : ℕ) (cause : Refusal) (r : Result A Refusal) → r ≡ Err cause → number cause ≡ n → refused_by r ≡ n
+refused_on n cause r e h = rw e h
 
 -- whole commands: nine numbers each
 pub nines : (n k : ℕ) → n % 9 ≡ 0 → eqb (n / 9) k ≡ eqb n (9 * k)
@@ -22,9 +30,13 @@ nines n k h = either (eqb (n / 9) k) refl
     either true e = let q = eqb-true (n / 9) k e in e ∙ sym (eq-eqb n (9 * k) (omega arith))
     either false e = let q = eqb-false (n / 9) k e in e ∙ sym (ne_eqb n (9 * k) (λ z. q (omega arith)))
 
+-- which is some cause
+pub cause_some : (cause : Refusal) → number cause ≡ 0 → ⊥
+cause_some cause e = let h = number-positive cause in omega (arith, h, e)
+
 -- a row that decides whatever rows come later
-pub refused-front : (rs ts : List Row) (r : ℕ) → r ≡ refusal rs → (r ≡ 0 → ⊥) → r ≡ refusal (rs ++ ts)
-refused-front rs ts r e h = e ∙ refusal-front rs ts (subst (λ (k : ℕ). 0 < k) e (omega (arith, h)))
+pub refused-front : (rs ts : List Row) (cause : Refusal) → number cause ≡ refusal rs → number cause ≡ refusal (rs ++ ts)
+refused-front rs ts cause e = e ∙ refusal-front rs ts (subst (λ (k : ℕ). 0 < k) e (number-positive cause))
 
 -- ---- rows 1 to 5 of a file
 pub record FilePassed (s : List ℕ) : Type 0 where
@@ -79,8 +91,8 @@ module _ (laps most room : ℕ) where
       let b = row_passed 8 (ltb room (file_size laps most)) _ a.1 in
       (ltb-false 800 most a.0, ltb-false room (file_size laps most) b.0)
 
--- ---- what an accepted call answers and leaves: n is the number of the refusal, and r what the call found of it
-pub wrote-bytes : (n r : ℕ) → r ≡ n → r ≡ 0 → (bs out out' : List ℕ) (k : ℕ) → (k ≡ length bs) × (out' ≡ bs ++ drop (length bs) out)
-    → Wrote (λ (bytes : List ℕ). bytes) (unless n bs) out out' (Written k)
+-- ---- what an accepted call answers and leaves: n is the number that its table gives
+pub wrote-bytes : (n : ℕ) → 0 ≡ n → (bs out out' : List ℕ) (k : ℕ) → (k ≡ length bs) × (out' ≡ bs ++ drop (length bs) out)
+    → Wrote (λ (bytes : List ℕ). bytes) (unless n bs) out out' (Ok k)
 unfolding answer left
-wrote-bytes n r e h bs out out' k w = rw (unless-gives n bs (sym e ∙ h)) record { says = ap Written w.0; leaves = w.1 }
+wrote-bytes n z bs out out' k w = rw (unless-gives n bs (sym z)) record { says = rw w.0; leaves = w.1 }

@@ -3,7 +3,9 @@ use Prim.Native.Nat.{ℕ, zero, suc, ◌+◌, ◌-◌, ◌*◌, ◌≤◌, ◌<�
 use mathlib.Core.Path.{◌≡◌, refl, ap}
 use mathlib.Core.List.{List, [], ◌∷◌}
 use native.Mathlib.Omega.{arith}
-use lib.ListN.{length}
+use lib.ListN.{length, get_or, drop}
+use lib.Seq.{drop-cons}
+use Rattle.std.proofs.lemmas.List.{drop_all}
 use Rattle.file.specs.Command.{commands_at}
 use Rattle.laps.specs.File.{Lap, lap_count, count_at, laps_at, laps_of, command_count}
 use Rattle.laps.proofs.Going.{Going}
@@ -24,6 +26,13 @@ length_laps s j at (suc n) = ap suc (length_laps s (j + 1) (at + 73 * count_at s
 pub length_laps_of : (s : List ℕ) → length (laps_of s) ≡ lap_count s
 unfolding laps_of
 length_laps_of s = length_laps s 0 (8 + 8 * lap_count s) (lap_count s)
+
+-- the laps of a list from index j on
+pub laps_next : (ls : List Lap) (j : ℕ) → j < length ls → drop j ls ≡ get_or ls j [] ∷ drop (j + 1) ls
+laps_next ls j h = let z : j + 1 ≡ suc j = omega arith in rw z (drop-cons ls j [] h)
+
+pub laps_over : (ls : List Lap) (j : ℕ) → length ls ≤ j → drop j ls ≡ []
+laps_over ls j h = drop_all j ls h
 
 pub fits_next : (out₀ out : List ℕ) (l j to : ℕ) (x : Lap) (ls all : List Lap) → Going out₀ out l j to (x ∷ ls) all → to + 73 * length x ≤ length out
 unfolding command_count

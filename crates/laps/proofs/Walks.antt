@@ -1,16 +1,17 @@
 -- One turn of each walk over a file: a lap's commands, the laps, the table. Assumes nothing.
 use Prim.Native.Nat.{ℕ, zero, suc, ◌+◌, ◌-◌, ◌*◌, ◌≤◌, ◌<◌}
 use mathlib.Core.Path.{◌≡◌, refl, sym, ap, ◌∙◌}
-use mathlib.Core.Bool.{Bool, true, false, cond, not, ◌||◌}
-use mathlib.Core.List.{List}
+use mathlib.Core.Bool.{Bool, true, false, cond, not}
+use mathlib.Core.List.{List, [], ◌∷◌}
 use native.Mathlib.Omega.{arith}
 use borrow.Author.Tests.{eq-eqb, ne_eqb, lt-ltb, le-ltb, ltb-false}
 use lib.ListN.{length, get_or, take, drop}
 use lib.Seq.{drop-cons}
 use lib.Dec.{eqb, ltb}
+use Rattle.std.proofs.lemmas.List.{drop_all}
 use Rattle.floats.proofs.Order.{or_false}
 use Rattle.file.specs.Command.{commands_at}
-use Rattle.laps.specs.File.{lap_count, offset_at, count_at, laps_at, has_mark, walk, table_ok, lacks, lap_ok, lap_tested, laps_ok, short, big}
+use Rattle.laps.specs.File.{Lap, lap_count, offset_at, count_at, has_mark, walk, table_ok, lacks, lap_ok, lap_tested, laps_ok, short, big}
 
 -- ---- the commands of a lap
 lap_step : (test : Bool → List ℕ → Bool) (first : Bool) (s : List ℕ) (b n i : ℕ) → i < n
@@ -18,30 +19,21 @@ lap_step : (test : Bool → List ℕ → Bool) (first : Bool) (s : List ℕ) (b 
 unfolding lap_ok commands_at
 lap_step test first s b n i h = let e : n - i ≡ suc (n - (i + 1)) = omega arith in rw e
 
-module _ (test : Bool → List ℕ → Bool) (first : Bool) (s : List ℕ) (b n i : ℕ) (t : Bool) (h : i < n) (r : Bool) (q : r ≡ test first (take (b + 73 - b) (drop b s)))
-    (v : lap_ok test first (commands_at s b (n - i)) ≡ t) where
-  whole : r ≡ test first (take 73 (drop b s))
-  whole = let e : b + 73 - b ≡ 73 = omega arith in rw e at q
-
-  pub lap_go : r ≡ true → lap_ok test false (commands_at s (b + 73) (n - (i + 1))) ≡ t
-  lap_go y = sym (lap_step test first s b n i h ∙ rw (sym whole ∙ y)) ∙ v
+module _ (test : Bool → List ℕ → Bool) (first : Bool) (s : List ℕ) (at n i : ℕ) (t : Bool) (h : i < n) (r : Bool) (q : r ≡ test first (take 73 (drop (at + 73 * i) s)))
+    (v : lap_ok test first (commands_at s (at + 73 * i) (n - i)) ≡ t) where
+  pub lap_go : r ≡ true → lap_ok test false (commands_at s (at + 73 * (i + 1)) (n - (i + 1))) ≡ t
+  lap_go y = let z : at + 73 * (i + 1) ≡ at + 73 * i + 73 = omega arith in rw z (sym (lap_step test first s (at + 73 * i) n i h ∙ rw (sym q ∙ y)) ∙ v)
 
   pub lap_stop : r ≡ false → false ≡ t
-  lap_stop y = sym (lap_step test first s b n i h ∙ rw (sym whole ∙ y)) ∙ v
+  lap_stop y = sym (lap_step test first s (at + 73 * i) n i h ∙ rw (sym q ∙ y)) ∙ v
 
-pub lap-end : (test : Bool → List ℕ → Bool) (first : Bool) (s : List ℕ) (b n i : ℕ) (t : Bool) → n ≤ i → lap_ok test first (commands_at s b (n - i)) ≡ t → true ≡ t
+pub lap-end : (test : Bool → List ℕ → Bool) (first : Bool) (s : List ℕ) (at n i : ℕ) (t : Bool) → n ≤ i → lap_ok test first (commands_at s (at + 73 * i) (n - i)) ≡ t → true ≡ t
 unfolding lap_ok commands_at
-lap-end test first s b n i t h v = (let e : n - i ≡ zero = omega arith in sym (rw e)) ∙ v
+lap-end test first s at n i t h v = (let e : n - i ≡ zero = omega arith in sym (rw e)) ∙ v
 
 -- the first command is tested first
-pub lap_begin : (test : Bool → List ℕ → Bool) (first : Bool) (s : List ℕ) (at n : ℕ) → lap_ok test first (commands_at s at (n - 0)) ≡ lap_ok test first (commands_at s at n)
-lap_begin test first s at n = let z : n - 0 ≡ n = omega arith in rw z
-
--- of a lap, as its Move is asked for
-pub lap_asked : (test : Bool → List ℕ → Bool) (must first without : Bool) (s : List ℕ) (at n : ℕ) → without ≡ lacks (commands_at s at n) → first ≡ (must || not without)
-    → lap_ok test first (commands_at s at n) ≡ lap_tested test must (commands_at s at n)
-unfolding lap_tested
-lap_asked test must first without s at n e f = rw (f, e)
+pub lap_begin : (test : Bool → List ℕ → Bool) (first : Bool) (s : List ℕ) (at n : ℕ) → lap_ok test first (commands_at s (at + 73 * 0) (n - 0)) ≡ lap_ok test first (commands_at s at n)
+lap_begin test first s at n = let z : n - 0 ≡ n = omega arith in let w : at + 73 * 0 ≡ at = omega arith in rw (z, w)
 
 -- whether a lap lacks its Move is told by its first byte
 pub lacks-none : (s : List ℕ) (at n : ℕ) → n ≡ 0 → false ≡ lacks (commands_at s at n)
@@ -57,22 +49,22 @@ lacks-first s at (suc n) h k = ap (λ (x : ℕ). not (eqb x 0)) (first_byte s at
     first_byte l i g = ap (λ (xs : List ℕ). get_or (take 73 xs) 0 0) (sym (drop-cons l i 0 g))
 
 -- ---- the laps of a file
-laps_step : (test : Bool → List ℕ → Bool) (must : Bool) (s : List ℕ) (j at l : ℕ) → j < l
-    → laps_ok test must (laps_at s j at (l - j)) ≡ cond (lap_tested test must (commands_at s at (count_at s j))) (laps_ok test false (laps_at s (j + 1) (at + 73 * count_at s j) (l - (j + 1)))) false
-unfolding laps_ok laps_at
-laps_step test must s j at l h = let e : l - j ≡ suc (l - (j + 1)) = omega arith in rw e
+laps_step : (test : Bool → List ℕ → Bool) (must : Bool) (ls : List Lap) (j : ℕ) → j < length ls
+    → laps_ok test must (drop j ls) ≡ cond (lap_tested test must (get_or ls j [])) (laps_ok test false (drop (j + 1) ls)) false
+unfolding laps_ok
+laps_step test must ls j h = let e : drop j ls ≡ get_or ls j [] ∷ drop (suc j) ls = drop-cons ls j [] h in let z : j + 1 ≡ suc j = omega arith in rw (e, z)
 
-module _ (test : Bool → List ℕ → Bool) (s : List ℕ) (j at l n : ℕ) (t : Bool) (h : j < l) (e : n ≡ count_at s j) (r : Bool) (q : r ≡ lap_tested test (eqb j 0) (commands_at s at n))
-    (v : laps_ok test (eqb j 0) (laps_at s j at (l - j)) ≡ t) where
-  pub laps_go : r ≡ true → laps_ok test (eqb (j + 1) 0) (laps_at s (j + 1) (at + 73 * n) (l - (j + 1))) ≡ t
-  laps_go y = rw (e, ne_eqb (j + 1) 0 (λ z. omega arith)) (sym (laps_step test (eqb j 0) s j at l h ∙ rw (sym (rw e at q) ∙ y)) ∙ v)
+module _ (test : Bool → List ℕ → Bool) (ls : List Lap) (j : ℕ) (t : Bool) (h : j < length ls) (r : Bool) (q : r ≡ lap_tested test (eqb j 0) (get_or ls j []))
+    (v : laps_ok test (eqb j 0) (drop j ls) ≡ t) where
+  pub laps_go : r ≡ true → laps_ok test (eqb (j + 1) 0) (drop (j + 1) ls) ≡ t
+  laps_go y = rw (ne_eqb (j + 1) 0 (λ z. omega arith)) (sym (laps_step test (eqb j 0) ls j h ∙ rw (sym q ∙ y)) ∙ v)
 
   pub laps_stop : r ≡ false → false ≡ t
-  laps_stop y = sym (laps_step test (eqb j 0) s j at l h ∙ rw (sym (rw e at q) ∙ y)) ∙ v
+  laps_stop y = sym (laps_step test (eqb j 0) ls j h ∙ rw (sym q ∙ y)) ∙ v
 
-pub laps-end : (test : Bool → List ℕ → Bool) (must : Bool) (s : List ℕ) (j at l : ℕ) (t : Bool) → l ≤ j → laps_ok test must (laps_at s j at (l - j)) ≡ t → true ≡ t
-unfolding laps_ok laps_at
-laps-end test must s j at l t h v = (let e : l - j ≡ zero = omega arith in sym (rw e)) ∙ v
+pub laps-end : (test : Bool → List ℕ → Bool) (must : Bool) (ls : List Lap) (j : ℕ) (t : Bool) → length ls ≤ j → laps_ok test must (drop j ls) ≡ t → true ≡ t
+unfolding laps_ok
+laps-end test must ls j t h v = (let e : drop j ls ≡ [] = drop_all j ls h in sym (rw e)) ∙ v
 
 -- ---- the table
 pub walk_step : (s : List ℕ) (j at total l : ℕ) → j < l

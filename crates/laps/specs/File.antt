@@ -3,8 +3,6 @@ use Rattle.std.specs.Prelude.{ℕ, zero, suc, ◌+◌, ◌*◌, ◌<◌, Bool, t
 use Rattle.std.proofs.lemmas.List.Edits.{sets}
 use Rattle.geo.specs.Domain.{finite3, command_in}
 use Rattle.file.specs.Bytes.{half_at, u32_bytes}
-use Rattle.laps.specs.declared.lap_file.Check.{Check}
-use Rattle.laps.specs.declared.lap_file.Check.TheVariants.{Form, Domain, Fitted, Finite, Both}
 use Rattle.file.specs.Command.{commands_at, decoded, point_from, well_formed}
 
 -- the commands of a lap, each of 73 bytes
@@ -150,11 +148,3 @@ laps_ok test must (l ∷ ls) = if lap_tested test must l then laps_ok test false
 -- both rows of a command
 unfoldable pub both_ok : Bool → List ℕ → Bool
 both_ok first c = form_ok first c && domain_ok first c
-
--- the tests, as the code names them
-unfoldable pub tested : Check → Bool → List ℕ → Bool
-tested Form = form_ok
-tested Domain = domain_ok
-tested Fitted = fitted_ok
-tested Finite = finite_ok
-tested Both = both_ok

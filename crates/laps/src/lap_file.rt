@@ -1,42 +1,60 @@
 // The lap file: its head, its table and its rows.
-ghost use Rattle.std.specs.Prelude.{◌≡◌, true, not, ◌||◌, ◌++◌, ◌+◌, ◌*◌, ◌<◌, ◌≤◌, length};
+ghost use Rattle.std.specs.Prelude.{◌≡◌, ℕ, Bool, true, List, [], ◌++◌, ◌+◌, ◌*◌, ◌<◌, ◌≤◌, length, get_or, IfOk};
 ghost use Rattle.std.proofs.lemmas.List.Edits.{sets};
 ghost use Rattle.geo.specs.Outcome.{refusal};
+ghost use Rattle.geo.specs.Refusal.{refused_by};
 ghost use Rattle.file.specs.Bytes.{u32_bytes};
 ghost use Rattle.file.specs.Command.{commands_at};
-ghost use Rattle.laps.specs.File.{lap_count, offset_at, count_at, laps_of, mark, short, big, has_mark, walk, table_ok, placed, form_ok, fitted_ok, finite_numbers, both_ok, lacks, tested, lap_ok, lap_tested, laps_ok};
+ghost use Rattle.laps.specs.File.{lap_count, offset_at, count_at, laps_of, mark, short, big, has_mark, walk, table_ok, placed, form_ok, domain_ok, fitted_ok, finite_ok, both_ok, lacks, lap_ok, lap_tested, laps_ok};
 ghost use Rattle.laps.specs.Rows.{commands_rows, file_rows, size_rows};
 
-use file::command::{COMMAND_BYTES, is_well_formed, point_from, read_command};
+use file::command::{Body, COMMAND_BYTES, is_well_formed, point_from, read_command};
 use file::words::{half_at, put_u32};
 use geo::domain::{command_in, is_finite3, point3_in};
+use geo::refusal::Refusal;
 
 // The most that a file may have: "The lap count L, 0 to 64", "At most 800 commands and 65,536 bytes".
 pub const MOST_LAPS: usize = 64;
 
-pub const MOST_COMMANDS: usize = 800;
+pub const MOST_COMMANDS: usize = geo::domain::MOST_COMMANDS;
 
 pub const MOST_BYTES: usize = 65536;
 
 // The kind of a Bezier.
 pub const BEZIER: u8 = 3;
 
-// What is asked of each command of a lap.
+// A file whose table is right: rows 1 to 3.
 #[derive(Clone, Copy)]
-pub enum Check {
-    // row 4: its kind, its unused numbers, and where a Move stands
-    Form,
-    // row 5: its numbers
-    Domain,
-    // row 4 of a fitted lap: the same as Form, and it has no Bezier
-    Fitted,
-    // row 5 of a fitted lap: each of its numbers is finite
-    Finite,
-    // rows 4 and 5
-    Both,
+pub struct LapFile<'a> {
+    pub bytes: &'a [u8],
+    ghost long: { 8 ≤ length bytes.now },
+    ghost table: { table_ok bytes.now ≡ true },
+}
+
+impl<'a> LapFile<'a> {
+    // How many laps it has.
+    pub fn lap_count(self) -> usize
+        ensures { (result ≡ lap_count self.entry.bytes.now) × (result < 4294967296) }
+    {
+        lap_count(self.bytes)
+    }
+
+    // The lap at an index, as its entry of the table tells it.
+    pub fn lap(self, j: usize) -> Body<'a>
+        requires { j < lap_count self.bytes.now }
+        ensures lap { commands_at result.bytes.now result.at result.count ≡ get_or (laps_of self.entry.bytes.now) j [] }
+        ensures some { (1 ≤ result.count) × (result.count ≤ 800) }
+    {
+        Body {
+            bytes: self.bytes,
+            at: offset_at(self.bytes, j),
+            count: count_at(self.bytes, j),
+        }
+    }
 }
 
 // The lap count.
+#[tactic(auto, unfolding(crate::specs::File::lap_count))]
 pub fn lap_count(s: &[u8]) -> usize
     requires { 8 ≤ length s.now }
     ensures { (result ≡ lap_count s.now) × (result < 4294967296) }
@@ -45,6 +63,7 @@ pub fn lap_count(s: &[u8]) -> usize
 }
 
 // The offset in entry j of the table.
+#[tactic(auto, unfolding(crate::specs::File::offset_at))]
 pub fn offset_at(s: &[u8], j: usize) -> usize
     requires { 16 + 8 * j ≤ length s.now }
     ensures { (result ≡ offset_at s.now j) × (result < 4294967296) }
@@ -53,6 +72,7 @@ pub fn offset_at(s: &[u8], j: usize) -> usize
 }
 
 // The command count in entry j of the table.
+#[tactic(auto, unfolding(crate::specs::File::count_at))]
 pub fn count_at(s: &[u8], j: usize) -> usize
     requires { 16 + 8 * j ≤ length s.now }
     ensures { (result ≡ count_at s.now j) × (result < 4294967296) }
@@ -61,6 +81,7 @@ pub fn count_at(s: &[u8], j: usize) -> usize
 }
 
 // Whether the file is too short for a mark and a lap count.
+#[tactic(auto, unfolding(crate::specs::File::short))]
 pub fn too_short(s: &[u8]) -> bool
     ensures { result ≡ short s.now }
 {
@@ -68,31 +89,21 @@ pub fn too_short(s: &[u8]) -> bool
 }
 
 // Whether the file has too many bytes or laps.
+#[tactic(auto, unfolding(crate::specs::File::big))]
 pub fn too_big(s: &[u8]) -> bool
     requires { 8 ≤ length s.now }
     ensures { result ≡ big s.now }
 {
-    if MOST_BYTES < s.len() {
-        return true;
-    }
-    MOST_LAPS < lap_count(s)
+    MOST_BYTES < s.len() || MOST_LAPS < lap_count(s)
 }
 
 // Whether the file starts with "LAPS".
+#[tactic(auto, unfolding(crate::specs::File::has_mark))]
 fn has_mark(s: &[u8]) -> bool
     requires { 8 ≤ length s.now }
     ensures { result ≡ has_mark s.now }
 {
-    if s[0] != 0x4c {
-        return false;
-    }
-    if s[1] != 0x41 {
-        return false;
-    }
-    if s[2] != 0x50 {
-        return false;
-    }
-    s[3] == 0x53
+    s[0] == 0x4c && s[1] == 0x41 && s[2] == 0x50 && s[3] == 0x53
 }
 
 // Whether the l entries of the table lead from body to body to the file's end.
@@ -102,8 +113,7 @@ fn walks(s: &[u8], l: usize) -> bool
 {
     let mut at = 8 + 8 * l;
     let mut total = 0;
-    let mut j = 0;
-    while j < l {
+    for j in 0..l {
         if offset_at(s, j) != at {
             return false;
         }
@@ -116,7 +126,6 @@ fn walks(s: &[u8], l: usize) -> bool
         }
         at += COMMAND_BYTES * n;
         total += n;
-        j += 1;
     }
     at == s.len()
 }
@@ -136,192 +145,174 @@ pub fn has_table(s: &[u8]) -> bool
     walks(s, l)
 }
 
-// Whether a kind may stand where a Move is to stand, or elsewhere in a lap.
+// Whether a kind, the byte as the file or C has it, may stand where a Move is to stand, or elsewhere in a lap.
+#[tactic(auto, unfolding(crate::specs::File::placed))]
 pub fn is_placed(first: bool, kind: u8) -> bool
     ensures { result ≡ placed first kind }
 {
-    if first {
-        return kind == 0;
-    }
-    kind != 0
+    if first { kind == 0 } else { kind != 0 }
 }
 
-// Row 4 of a command.
-fn has_form(first: bool, c: &[u8]) -> bool
-    requires { 73 ≤ length c.now }
-    ensures { result ≡ form_ok first c.now }
-{
-    if is_placed(first, c[0]) {
-        return is_well_formed(c);
-    }
-    false
+// What is asked of each command of a lap: of 73 bytes, at a place where a Move is to stand or none is.
+pub trait Test {
+    ghost asks: { Bool → List ℕ → Bool };
+
+    fn passes(first: bool, c: &[u8]) -> bool
+        requires { 73 ≤ length c.now }
+        ensures { result ≡ asks first c.now };
 }
 
-// Row 4 and then row 5 of a command. Of a Move and of a Line, which most commands are, row 5 asks for the end alone.
-fn has_both(first: bool, c: &[u8]) -> bool
-    requires { 73 ≤ length c.now }
-    ensures { result ≡ both_ok first c.now }
-{
-    if has_form(first, c) {
+// Row 4: its kind, its unused numbers, and where a Move stands.
+pub struct Form;
+
+impl Test for Form {
+    ghost asks = { form_ok };
+
+    #[tactic(auto, unfolding(crate::specs::File::form_ok))]
+    fn passes(first: bool, c: &[u8]) -> bool {
+        is_placed(first, c[0]) && is_well_formed(c)
+    }
+}
+
+// Row 5: its numbers. Of a Move and of a Line, which most commands are, it asks for the end alone.
+pub struct Domain;
+
+impl Test for Domain {
+    ghost asks = { domain_ok };
+
+    #[tactic(auto, unfolding(crate::specs::File::domain_ok), using(file::proofs::Blank::end_in))]
+    fn passes(_first: bool, c: &[u8]) -> bool {
         if c[0] < 2 {
             return point3_in(point_from(c, 1));
         }
-        return command_in(read_command(c));
+        command_in(read_command(c))
     }
-    false
 }
 
-// Row 4 of a fitted command.
-fn has_fitted_form(first: bool, c: &[u8]) -> bool
-    requires { 73 ≤ length c.now }
-    ensures { result ≡ fitted_ok first c.now }
+// Rows 4 and 5.
+pub struct Both;
+
+impl Test for Both {
+    ghost asks = { both_ok };
+
+    #[tactic(auto, unfolding(crate::specs::File::both_ok))]
+    fn passes(first: bool, c: &[u8]) -> bool {
+        Form::passes(first, c) && Domain::passes(first, c)
+    }
+}
+
+// Row 4 of a fitted lap: the same as Form, and it has no Bezier.
+pub struct Fitted;
+
+impl Test for Fitted {
+    ghost asks = { fitted_ok };
+
+    #[tactic(auto, unfolding(crate::specs::File::fitted_ok))]
+    fn passes(first: bool, c: &[u8]) -> bool {
+        Form::passes(first, c) && c[0] != BEZIER
+    }
+}
+
+// Row 5 of a fitted lap: "its numbers need only be finite" (document 02, §9).
+pub struct Finite;
+
+impl Test for Finite {
+    ghost asks = { finite_ok };
+
+    #[tactic(auto, unfolding(crate::specs::File::finite_ok, crate::specs::File::finite_numbers))]
+    fn passes(_first: bool, c: &[u8]) -> bool {
+        is_finite3(point_from(c, 1))
+            && is_finite3(point_from(c, 25))
+            && is_finite3(point_from(c, 49))
+    }
+}
+
+// Whether a lap lacks its Move.
+pub fn lacks_move(lap: Body) -> bool
+    ensures { result ≡ lacks (commands_at lap.entry.bytes.now lap.entry.at lap.entry.count) }
 {
-    if has_form(first, c) {
-        return c[0] != BEZIER;
-    }
-    false
+    lap.count != 0 && lap.bytes[lap.at] != 0
 }
 
-// Row 5 of a fitted command: "its numbers need only be finite" (document 02, §9).
-fn has_finite_numbers(c: &[u8]) -> bool
-    requires { 73 ≤ length c.now }
-    ensures { result ≡ finite_numbers c.now }
-{
-    let p = point_from(c, 1);
-    let q = point_from(c, 25);
-    let r = point_from(c, 49);
-    if is_finite3(p) {
-        if is_finite3(q) {
-            return is_finite3(r);
-        }
-    }
-    false
-}
-
-// What is asked of a command.
-fn passes(check: Check, first: bool, c: &[u8]) -> bool
-    requires { 73 ≤ length c.now }
-    ensures { result ≡ tested check first c.now }
-{
-    match check {
-        Check::Form => has_form(first, c),
-        Check::Domain => command_in(read_command(c)),
-        Check::Fitted => has_fitted_form(first, c),
-        Check::Finite => has_finite_numbers(c),
-        Check::Both => has_both(first, c),
-    }
-}
-
-// Whether the lap of the n commands from `at` on lacks its Move.
-pub fn lacks_move(s: &[u8], at: usize, n: usize) -> bool
-    requires { at + 73 * n ≤ length s.now }
-    ensures { result ≡ lacks (commands_at s.now at n) }
-{
-    if n == 0 {
-        return false;
-    }
-    s[at] != 0
-}
-
-// Whether a Move is to stand first: in a lap that must have one, or does not lack it.
-fn opens(must: bool, without: bool) -> bool
-    ensures { result ≡ (must || not without) }
-{
-    if must {
-        return true;
-    }
-    !without
-}
-
-// What is asked of the n commands from `at` on, of which the first is to be a Move or none is.
-pub fn commands_pass(check: Check, opening: bool, s: &[u8], at: usize, n: usize) -> bool
-    requires { at + 73 * n ≤ length s.now }
-    ensures { result ≡ lap_ok (tested check) opening (commands_at s.now at n) }
+// What is asked of each command of a body, of which the first is to be a Move or none is.
+pub fn commands_pass<T: Test>(opening: bool, body: Body) -> bool
+    ensures { result ≡ lap_ok T.asks opening (commands_at body.entry.bytes.now body.entry.at body.entry.count) }
 {
     let mut first = opening;
-    let mut i = 0;
-    let mut b = at;
-    while i < n {
-        let e = b + COMMAND_BYTES;
-        if !passes(check, first, &s[b..e]) {
+    for i in 0..body.count {
+        if !T::passes(first, body.command(i)) {
             return false;
         }
         first = false;
-        b = e;
-        i += 1;
     }
     true
 }
 
 // The same of a lap, which must have its Move or may lack it.
-pub fn lap_passes(check: Check, must: bool, s: &[u8], at: usize, n: usize) -> bool
-    requires { at + 73 * n ≤ length s.now }
-    ensures { result ≡ lap_tested (tested check) must (commands_at s.now at n) }
+#[tactic(auto, unfolding(crate::specs::File::lap_tested))]
+pub fn lap_passes<T: Test>(must: bool, lap: Body) -> bool
+    ensures { result ≡ lap_tested T.asks must (commands_at lap.entry.bytes.now lap.entry.at lap.entry.count) }
 {
-    commands_pass(check, opens(must, lacks_move(s, at, n)), s, at, n)
+    commands_pass::<T>(must || !lacks_move(lap), lap)
 }
 
 // The same of all laps. Only the first must have its Move.
-fn all_pass(check: Check, s: &[u8]) -> bool
-    requires { (8 ≤ length s.now) × (table_ok s.now ≡ true) }
-    ensures { result ≡ laps_ok (tested check) true (laps_of s.now) }
+fn all_pass<T: Test>(file: LapFile) -> bool
+    ensures { result ≡ laps_ok T.asks true (laps_of file.entry.bytes.now) }
 {
-    let l = lap_count(s);
-    let mut at = 8 + 8 * l;
-    let mut j = 0;
-    while j < l {
-        let n = count_at(s, j);
-        if !lap_passes(check, j == 0, s, at, n) {
+    let l = file.lap_count();
+    for j in 0..l {
+        if !lap_passes::<T>(j == 0, file.lap(j)) {
             return false;
         }
-        at += COMMAND_BYTES * n;
-        j += 1;
     }
     true
 }
 
-// The first of the rows 4 and 5 that a file falls under, or 0. A file that passes both, as nearly every one does, is read once.
-pub fn check_commands(s: &[u8]) -> u32
-    requires { (8 ≤ length s.now) × (table_ok s.now ≡ true) }
-    ensures { result ≡ refusal (commands_rows s.now) }
+// The first of the rows 4 and 5 that a file falls under. A file that passes both, as nearly every one does, is read once.
+pub fn check_commands(file: LapFile) -> Result<(), Refusal>
+    ensures { refused_by result ≡ refusal (commands_rows file.entry.bytes.now) }
 {
-    if all_pass(Check::Both, s) {
-        return 0;
+    if all_pass::<Both>(file) {
+        return Ok(());
     }
-    if all_pass(Check::Form, s) {
-        return 5;
+    if all_pass::<Form>(file) {
+        return Err(Refusal::BadNumber);
     }
-    4
+    Err(Refusal::BadCommand)
 }
 
-// The first of the rows 1 to 5 that a file falls under, or 0.
-pub fn check_file(s: &[u8]) -> u32
-    ensures { result ≡ refusal (file_rows s.now) }
+// The first of the rows 1 to 5 that a file falls under, or the file, whose table is right.
+pub fn check_file<'a>(s: &'a [u8]) -> Result<LapFile<'a>, Refusal>
+    ensures row { refused_by result ≡ refusal (file_rows s.now) }
+    ensures same { IfOk result (λ file. file.bytes.now ≡ s.now) }
 {
     if too_short(s) {
-        return 1;
+        return Err(Refusal::NotWhole);
     }
     if too_big(s) {
-        return 2;
+        return Err(Refusal::TooMany);
     }
     if !has_table(s) {
-        return 3;
+        return Err(Refusal::BadFile);
     }
-    check_commands(s)
+    let file = LapFile { bytes: s };
+    check_commands(file)?;
+    Ok(file)
 }
 
-// Rows 8 and 9 of what has so many laps and at most so many commands: the first that it falls under, or 0.
-pub fn check_sizes(laps: usize, most: usize, room: usize) -> u32
+// Rows 8 and 9 of what has so many laps and at most so many commands: the first that it falls under.
+pub fn check_sizes(laps: usize, most: usize, room: usize) -> Result<(), Refusal>
     requires { laps < 4294967296 }
-    ensures { result ≡ refusal (size_rows laps most room) }
+    ensures { refused_by result ≡ refusal (size_rows laps most room) }
 {
     if MOST_COMMANDS < most {
-        return 8;
+        return Err(Refusal::TooMuch);
     }
     if room < 8 + 8 * laps + COMMAND_BYTES * most {
-        return 9;
+        return Err(Refusal::NoRoom);
     }
-    0
+    Ok(())
 }
 
 // Writes the mark and the lap count.

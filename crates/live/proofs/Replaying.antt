@@ -6,14 +6,13 @@ use native.Mathlib.Omega.{arith}
 use lib.ListN.{length, length-append}
 use lib.Seq.{sets, length-sets}
 use lib.Ieee.{Float}
+use Rattle.std.specs.Prelude.{Option}
 use Rattle.geo.specs.declared.types.Point3D.{Point3D}
 use Rattle.geo.specs.Lent.{flat, triple, point_at}
 use Rattle.geo.proofs.Flat.{sets_flat}
 use Rattle.live.specs.declared.live.Live.{Live}
-use Rattle.live.specs.declared.live.Fed.{Fed}
 use Rattle.live.specs.Thinner.{Next, slot, push, feed_again, forgotten, retuned}
-use Rattle.live.specs.Calls.{given}
-use Rattle.live.specs.Replay.{ends_in, Replays}
+use Rattle.live.specs.Replay.{ends_in, Pushed, Replays}
 use Rattle.live.proofs.Counts.{push-few_slots, anchored-few}
 use Rattle.live.proofs.Answers.{push-one-end}
 
@@ -54,21 +53,19 @@ module _ (at : ℕ → Point3D) (n : ℕ) (whole : Next) (out₀ out : List Floa
     rest-ends = let z : n - i ≡ suc (n - (i + 1)) = omega arith in rw z
 
     -- the end of the point fed has room behind the others
-    pub replaying_room : length whole.ends ≤ 63 → 189 ≤ length out₀ → (r : Fed) → r ≡ given (push u (at i)) → 3 * (k + length (ends_in r.end)) ≤ length out
-    unfolding given
-    replaying_room m g r e =
+    pub replaying_room : length whole.ends ≤ 63 → 189 ≤ length out₀ → (u' : Live) (r : Option Point3D) → Pushed u u' (at i) r → 3 * (k + length (ends_in r)) ≤ length out
+    replaying_room m g u' r e =
         let a = length-append (push u (at i)).ends (rest at n (i + 1) (push u (at i)).state).ends in
-        let b : length (ends_in r.end) ≡ length (push u (at i)).ends = rw e (ap length (push-one-end u (at i))) in
+        let b : length (ends_in r) ≡ length (push u (at i)).ends = ap (λ (o : Option Point3D). length (ends_in o)) e.end ∙ ap length (push-one-end u (at i)) in
         omega (arith, ap length rest-ends, w.total, w.long)
 
-    pub replaying_turn : (r : Fed) (k' : ℕ) (out' : List Float) → r ≡ given (push u (at i)) → k' ≡ k + length (ends_in r.end)
-        → out' ≡ sets out (3 * k) (flat triple (ends_in r.end)) → Replaying at n whole out₀ out' r.state k' (i + 1)
-    unfolding given
-    replaying_turn r k' out' e c o =
+    pub replaying_turn : (u' : Live) (r : Option Point3D) (k' : ℕ) (out' : List Float) → Pushed u u' (at i) r → k' ≡ k + length (ends_in r)
+        → out' ≡ sets out (3 * k) (flat triple (ends_in r)) → Replaying at n whole out₀ out' u' k' (i + 1)
+    replaying_turn u' r k' out' e c o =
         let xs = (push u (at i)).ends in
         let ys = (rest at n (i + 1) (push u (at i)).state).ends in
-        let q : r.state ≡ (push u (at i)).state = ap (λ f. f.state) e in
-        let b : ends_in r.end ≡ xs = ap (λ (f : Fed). ends_in f.end) e ∙ push-one-end u (at i) in
+        let q : u' ≡ (push u (at i)).state = e.state in
+        let b : ends_in r ≡ xs = ap ends_in e.end ∙ push-one-end u (at i) in
         let c' : k' ≡ k + length xs = c ∙ ap (λ (l : List Point3D). k + length l) b in
         let o' : out' ≡ sets out (3 * k) (flat triple xs) = o ∙ ap (λ (l : List Point3D). sets out (3 * k) (flat triple l)) b in
         subst (λ (v : Live). Replaying at n whole out₀ out' v k' (i + 1)) (sym q)
@@ -86,7 +83,7 @@ module _ (at : ℕ → Point3D) (n : ℕ) (whole : Next) (out₀ out : List Floa
         })
 
   -- no point is left
-  pub replaying_done : (s : Live) (t : Float) → whole ≡ retuned s t → n ≤ i → Replays s t out₀ out (record { count = k; state = u })
+  pub replaying_done : (s : Live) (t : Float) → whole ≡ retuned s t → n ≤ i → Replays s u t out₀ out k
   unfolding flat
   replaying_done s t e h =
       let over = rest_over at n i u h in

@@ -1,15 +1,14 @@
 -- The calls of the live thinner: what each refuses, in the order of the rows, what an accepted one makes of the state, and what it answers. Definitions only.
-use Rattle.std.specs.Prelude.{ℕ, ◌/◌, Bool, true, not, ◌&&◌, List, [], ◌∷◌, ◌++◌, ltb, Float, ◌≡◌}
+use Rattle.std.specs.Prelude.{ℕ, ◌/◌, Bool, true, not, ◌&&◌, List, [], ◌∷◌, ◌++◌, ltb, Float, ◌≡◌, Option, Some, None, Result}
 use Rattle.geo.specs.declared.types.Point3D.{Point3D}
 use Rattle.geo.specs.Domain.{coordinate, numbers_in, point3_in, tolerance, whole}
-use Rattle.geo.specs.Outcome.{Row, row, refusal, Outcome, unless, refused, gives, Wrote}
+use Rattle.geo.specs.Outcome.{Row, row, refusal, Outcome, unless, refused, gives}
+use Rattle.geo.specs.declared.refusal.Refusal.{Refusal}
+use Rattle.geo.specs.Refusal.{outcome}
+use Rattle.geo.specs.Wrote.{Wrote}
 use Rattle.live.specs.declared.live.Live.{Live}
 use Rattle.live.specs.Thinner.{Next, slot_count, push, shut, retuned}
 use Rattle.geo.specs.Lent.{flat, triple}
-use Rattle.live.specs.declared.live.End.{End}
-use Rattle.live.specs.declared.live.End.TheVariants.{At, Nothing, Refused}
-use Rattle.live.specs.declared.live.Fed.{Fed}
-use Rattle.live.specs.declared.live.Retuned.{Retuned}
 
 -- a call: a point is fed; a new tolerance is set, with a lent output of so many numbers; or the thinner is closed
 pub data Event : Type 0 where
@@ -50,31 +49,31 @@ live_call s e = unless (refusal (live_rows s e)) (next_of s e)
 unfoldable pub start_rows : Float → List Row
 start_rows t = row 6 (not (tolerance t)) ∷ []
 
--- ---- what the calls answer: a state by value, and beside it the end, the count of the ends or the number of a refusal
+-- ---- what the calls answer and leave: an end or the count of the ends, or a refusal, and the state, which a refusal leaves as it was
+unfoldable pub state_after : Live → Outcome Next → Live
+state_after s (refused n) = s
+state_after s (gives r) = r.state
+
 -- the end handed out, of a call with at most one
-unfoldable pub end_for : List Point3D → End
-end_for [] = Nothing
-end_for (p ∷ ps) = At p
+unfoldable pub end_for : List Point3D → Option Point3D
+end_for [] = None
+end_for (p ∷ ps) = Some p
 
--- an accepted call
-unfoldable pub given : Next → Fed
-given r = record { end = end_for r.ends; state = r.state }
+unfoldable pub end_given : Outcome Next → Outcome (Option Point3D)
+end_given (refused n) = refused n
+end_given (gives r) = gives (end_for r.ends)
 
--- a point fed or a close: a refusal gives the state back as it came
-unfoldable pub fed_answer : Live → Outcome Next → Fed
-fed_answer s (refused n) = record { end = Refused n; state = s }
-fed_answer s (gives r) = given r
+-- a point fed or a close: its answer and the state afterwards
+pub record Fed (o : Outcome Next) (s s' : Live) (r : Result (Option Point3D) Refusal) : Type 0 where
+  pub says : outcome r ≡ end_given o
+  pub state : s' ≡ state_after s o
 
 -- ---- a new tolerance, which hands out several
 unfoldable pub ends_given : Outcome Next → Outcome (List Point3D)
 ends_given (refused n) = refused n
 ends_given (gives r) = gives r.ends
 
-unfoldable pub state_after : Live → Outcome Next → Live
-state_after s (refused n) = s
-state_after s (gives r) = r.state
-
 -- a call: its answer, the output and the state afterwards
-pub record Tuned (s : Live) (o : Outcome Next) (out out' : List Float) (r : Retuned) : Type 0 where
-  pub wrote : Wrote (flat triple) (ends_given o) out out' r.answer
-  pub state : r.state ≡ state_after s o
+pub record Tuned (o : Outcome Next) (s s' : Live) (out out' : List Float) (r : Result ℕ Refusal) : Type 0 where
+  pub wrote : Wrote (flat triple) (ends_given o) out out' r
+  pub state : s' ≡ state_after s o

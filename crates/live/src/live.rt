@@ -1,59 +1,33 @@
-// The live thinner, its state by value: each call is given the last one's state. A refused call gives the state back as it came.
+// The live thinner. A refused call leaves its state as it was.
 ghost use Rattle.std.specs.Prelude.{◌≡◌, ◌||◌, ◌+◌, ◌*◌, ◌-◌, ◌<◌, ◌≤◌, length, ltb};
 ghost use Rattle.std.proofs.lemmas.List.Edits.{sets};
 ghost use Rattle.floats.specs.Ops.{◌≺◌};
 ghost use Rattle.floats.specs.Root.{root_of};
 ghost use Rattle.geo.specs.Lent.{flat, triple};
-ghost use Rattle.geo.specs.Outcome.{refusal};
+ghost use Rattle.geo.specs.Outcome.{refusal, unless};
+ghost use Rattle.geo.specs.Refusal.{refused_by, outcome};
 ghost use Rattle.deviations.specs.Line.{line_deviation};
 ghost use Rattle.farthest.specs.Measure.{line_sq};
-ghost use Rattle.live.specs.declared.live.End.TheVariants.{At};
-ghost use Rattle.live.specs.Thinner.{slot, started, behind, cutting, push, forgotten};
-ghost use Rattle.live.specs.Calls.{feed, retune, close, start_rows, state_rows, live_rows, live_call, given, fed_answer, Tuned};
-ghost use Rattle.live.specs.Replay.{ends_in, Replays};
+ghost use Rattle.live.specs.Thinner.{slot, started, behind, cutting, forgotten};
+ghost use Rattle.live.specs.Calls.{feed, retune, close, start_rows, state_rows, live_rows, live_call, Fed, Tuned};
+ghost use Rattle.live.specs.Replay.{ends_in, Pushed, Replays};
 
 use farthest::farthest::{Ruler, farthest_between};
 use floats::root::sqrt;
 use geo::domain::{all_coordinates, is_tolerance, point3_in};
 use geo::lent::{point_at, put_point};
-use geo::types::{Answer, Point3D};
+use geo::lists::Stretch;
+use geo::refusal::Refusal;
+use geo::types::Point3D;
 
 // The first `count` slots hold points, three numbers each: the anchor, and the points held after it. What later slots hold does
-// not matter, but it is checked as all numbers of a state are.
+// not matter, but it is checked as all numbers of a state are. An array with a count beside it, since C lends both, and there is no heap.
 #[derive(Clone, Copy)]
 pub struct Live {
     pub tolerance: f64,
     pub points: [f64; Live::NUMBERS],
     pub count: usize,
     pub closed: bool,
-}
-
-// What a point fed or a close hands out.
-#[derive(Clone, Copy)]
-pub enum End {
-    At(Point3D),
-    Nothing,
-    Refused(u32),
-}
-
-#[derive(Clone, Copy)]
-pub struct Fed {
-    pub end: End,
-    pub state: Live,
-}
-
-// What a new tolerance comes to.
-#[derive(Clone, Copy)]
-pub struct Retuned {
-    pub answer: Answer,
-    pub state: Live,
-}
-
-// What a start comes to: a state, and 0 or the number of a refusal.
-#[derive(Clone, Copy)]
-pub struct Started {
-    pub refused: u32,
-    pub state: Live,
 }
 
 // Whether a squared distance is that of a point below the tolerance. As in get_polyline_line_deviation the root is taken before it is
@@ -86,251 +60,185 @@ impl Live {
     }
 
     // A thinner to which no point was fed.
-    pub fn start(tolerance: f64) -> Started
-        ensures { (result.refused ≡ refusal (start_rows tolerance)) × (result.state ≡ started tolerance) }
+    #[tactic(auto, unfolding(crate::specs::Calls::start_rows, geo::specs::Outcome::refusal, geo::specs::Outcome::unless))]
+    pub fn start(tolerance: f64) -> Result<Live, Refusal>
+        ensures { outcome result ≡ unless (refusal (start_rows tolerance)) (started tolerance) }
     {
-        let state = Live::new(tolerance);
         if !is_tolerance(tolerance) {
-            return Started { refused: 6, state };
+            return Err(Refusal::BadTolerance);
         }
-        Started { refused: 0, state }
+        Ok(Live::new(tolerance))
     }
 
     // The last point held, or the anchor where it is alone.
-    fn last(self) -> Point3D
-        requires { (1 ≤ self.count) × (self.count ≤ 65) }
-        ensures { result ≡ slot self (self.count - 1) }
+    #[tactic(auto, unfolding(crate::specs::Thinner::slot))]
+    fn last(&self) -> Point3D
+        requires { (1 ≤ self.now.count) × (self.now.count ≤ 65) }
+        ensures { result ≡ slot self.now (self.now.count - 1) }
     {
         point_at(&self.points, self.count - 1)
     }
 
     // Holds p behind the other points.
-    fn hold(self, p: Point3D) -> Self
-        requires { self.count < 65 }
-        ensures { result ≡ behind self p }
+    #[tactic(auto, unfolding(crate::specs::Thinner::behind, crate::specs::Thinner::put))]
+    fn hold(&mut self, p: Point3D)
+        requires { self.old.count < 65 }
+        ensures { self.new ≡ behind self.old p }
     {
-        let n = self.count;
-        let mut points = self.points;
-        put_point(&mut points, 3 * n, p);
-        Self {
-            tolerance: self.tolerance,
-            points,
-            count: n + 1,
-            closed: self.closed,
-        }
+        put_point(&mut self.points, 3 * self.count, p);
+        self.count += 1;
     }
 
     // Whether the line from the anchor to the last point stays below the tolerance from the points between, if there are any.
-    fn goes_on(self) -> bool
-        requires { (1 ≤ self.count) × (self.count ≤ 65) }
-        ensures { result ≡ ltb self.count 3 || ((line_deviation line_sq (slot self) 0 (self.count - 1)).dist ≺ self.tolerance) }
+    #[tactic(auto, unfolding(crate::specs::Thinner::slot, deviations::specs::Line::line_deviation, deviations::specs::Line::rooted))]
+    fn goes_on(&self) -> bool
+        requires { (1 ≤ self.now.count) × (self.now.count ≤ 65) }
+        ensures { result ≡ ltb self.now.count 3 || ((line_deviation line_sq (slot self.now) 0 (self.now.count - 1)).dist ≺ self.now.tolerance) }
     {
         if self.count < 3 {
             return true;
         }
-        let w = farthest_between(Ruler::Line, &self.points, 0, self.count - 1);
-        is_below(w.square, self.tolerance)
+        let held = Stretch {
+            points: &self.points,
+            start: 0,
+            end: self.count - 1,
+        };
+        is_below(farthest_between(Ruler::Line, held).square, self.tolerance)
     }
 
     // Hands out the last point, which becomes the anchor, and holds p alone after it.
-    fn cut(self, p: Point3D) -> Fed
-        requires { (1 ≤ self.count) × (self.count ≤ 65) }
-        ensures { (result.end ≡ At (slot self (self.count - 1))) × (result.state ≡ cutting self p) }
+    #[tactic(auto, unfolding(crate::specs::Thinner::cutting, crate::specs::Thinner::put))]
+    fn cut(&mut self, p: Point3D) -> Point3D
+        requires { (1 ≤ self.old.count) × (self.old.count ≤ 65) }
+        ensures { (result ≡ slot self.old (self.old.count - 1)) × (self.new ≡ cutting self.old p) }
     {
         let last = self.last();
-        let mut points = self.points;
-        put_point(&mut points, 0, last);
-        put_point(&mut points, 3, p);
-        let state = Self {
-            tolerance: self.tolerance,
-            points,
-            count: 2,
-            closed: self.closed,
-        };
-        Fed {
-            end: End::At(last),
-            state,
-        }
+        put_point(&mut self.points, 0, last);
+        put_point(&mut self.points, 3, p);
+        self.count = 2;
+        last
     }
 
-    // One point fed to an accepted state.
-    fn push(self, p: Point3D) -> Fed
-        requires { self.count ≤ 65 }
-        ensures { result ≡ given (push self p) }
+    // One point fed to an accepted state. It is held first, so that the line to it can be measured; where that line leaves the points
+    // between, its slot gets back what it had.
+    fn push(&mut self, p: Point3D) -> Option<Point3D>
+        requires { self.old.count ≤ 65 }
+        ensures { Pushed self.old self.new p result }
     {
         if self.count >= Live::SLOTS {
-            return self.cut(p);
+            return Some(self.cut(p));
         }
-        let longer = self.hold(p);
-        if longer.goes_on() {
-            return Fed {
-                end: End::Nothing,
-                state: longer,
-            };
+        let n = self.count;
+        let free = point_at(&self.points, n);
+        self.hold(p);
+        if self.goes_on() {
+            return None;
         }
-        self.cut(p)
+        put_point(&mut self.points, 3 * n, free);
+        self.count = n;
+        Some(self.cut(p))
     }
 
-    // Why the state is refused, or 0; `inside` and `tuned` say that a call's own numbers and its own tolerance are in the domain.
-    fn refuse(self, inside: bool, tuned: bool) -> u32
-        ensures { result ≡ refusal (state_rows self inside tuned) }
+    // Why the state is refused, if it is; `inside` and `tuned` say that a call's own numbers and its own tolerance are in the domain.
+    #[tactic(auto, unfolding(crate::specs::Calls::state_rows, geo::specs::Outcome::refusal))]
+    fn refuse(&self, inside: bool, tuned: bool) -> Result<(), Refusal>
+        ensures { refused_by result ≡ refusal (state_rows self.now inside tuned) }
     {
         if self.count > Live::SLOTS {
-            return 2;
+            return Err(Refusal::TooMany);
         }
-        if !all_coordinates(&self.points) {
-            return 5;
+        if !(all_coordinates(&self.points) && inside) {
+            return Err(Refusal::BadNumber);
         }
-        if !inside {
-            return 5;
-        }
-        if !is_tolerance(self.tolerance) {
-            return 6;
-        }
-        if !tuned {
-            return 6;
+        if !(is_tolerance(self.tolerance) && tuned) {
+            return Err(Refusal::BadTolerance);
         }
         if self.closed {
-            return 10;
+            return Err(Refusal::Closed);
         }
-        0
+        Ok(())
     }
 
     // Feeds p: the previous point is handed out where the line to p leaves the points between, or all slots are full.
-    pub fn feed(self, p: Point3D) -> Fed
-        ensures { result ≡ fed_answer self (live_call self (feed p)) }
+    pub fn feed(&mut self, p: Point3D) -> Result<Option<Point3D>, Refusal>
+        ensures { Fed (live_call self.old (feed p)) self.old self.new result }
     {
-        let n = self.refuse(point3_in(p), true);
-        if n != 0 {
-            return Fed {
-                end: End::Refused(n),
-                state: self,
-            };
-        }
-        self.push(p)
+        self.refuse(point3_in(p), true)?;
+        Ok(self.push(p))
     }
 
     // Hands out the last point fed.
-    pub fn close(self) -> Fed
-        ensures { result ≡ fed_answer self (live_call self close) }
+    pub fn close(&mut self) -> Result<Option<Point3D>, Refusal>
+        ensures { Fed (live_call self.old close) self.old self.new result }
     {
-        let n = self.refuse(true, true);
-        if n != 0 {
-            return Fed {
-                end: End::Refused(n),
-                state: self,
-            };
-        }
-        let points = self.points;
-        let state = Self {
-            tolerance: self.tolerance,
-            points,
-            count: self.count,
-            closed: true,
-        };
+        self.refuse(true, true)?;
+        self.closed = true;
         if self.count < 2 {
-            return Fed {
-                end: End::Nothing,
-                state,
-            };
+            return Ok(None);
         }
-        let end = self.last();
-        Fed {
-            end: End::At(end),
-            state,
-        }
+        Ok(Some(self.last()))
     }
 
     // All but the anchor forgotten, and a new tolerance.
-    fn forget(self, tolerance: f64) -> Self
-        ensures { result ≡ forgotten self tolerance }
+    fn forget(&mut self, tolerance: f64)
+        ensures { self.new ≡ forgotten self.old tolerance }
     {
-        let points = self.points;
-        let count = if self.count == 0 { 0 } else { 1 };
-        Self {
-            tolerance,
-            points,
-            count,
-            closed: self.closed,
+        self.tolerance = tolerance;
+        if self.count > 0 {
+            self.count = 1;
         }
     }
 
     // Feeds the held points again from the anchor, and writes the ends.
-    fn replay(self, tolerance: f64, out: &mut [f64]) -> Replayed
-        requires { (self.count ≤ 65) × (189 ≤ length out.old) }
-        ensures { Replays self tolerance out.old out.new result }
+    fn replay(&mut self, tolerance: f64, out: &mut [f64]) -> usize
+        requires { (self.old.count ≤ 65) × (189 ≤ length out.old) }
+        ensures { Replays self.old self.new tolerance out.old out.new result }
     {
         let n = self.count;
         let points = self.points;
-        let mut state = self.forget(tolerance);
+        self.forget(tolerance);
         let mut count = 0;
-        let mut i = 1;
-        while i < n {
-            let fed = state.push(point_at(&points, i));
-            let end = fed.end;
+        for i in 1..n {
+            let end = self.push(point_at(&points, i));
             count = put_end(out, count, end);
-            let next = fed.state;
-            state = next;
-            i += 1;
         }
-        Replayed { count, state }
+        count
     }
 
-    // Why a new tolerance is refused, or 0.
-    fn refuse_retune(self, tolerance: f64, room: usize) -> u32
-        ensures { result ≡ refusal (live_rows self (retune tolerance room)) }
+    // Why a new tolerance is refused, if it is.
+    fn refuse_retune(&self, tolerance: f64, room: usize) -> Result<(), Refusal>
+        ensures { refused_by result ≡ refusal (live_rows self.now (retune tolerance room)) }
     {
         if room % 3 != 0 {
-            return 1;
+            return Err(Refusal::NotWhole);
         }
-        let n = self.refuse(true, is_tolerance(tolerance));
-        if n != 0 {
-            return n;
-        }
+        self.refuse(true, is_tolerance(tolerance))?;
         if room / 3 < Live::MOST {
-            return 9;
+            return Err(Refusal::NoRoom);
         }
-        0
+        Ok(())
     }
 
     // Sets a new tolerance, and writes the ends that the held points come to under it.
-    pub fn retune(self, tolerance: f64, out: &mut [f64]) -> Retuned
-        ensures { Tuned self (live_call self (retune tolerance (length out.old))) out.old out.new result }
+    pub fn retune(&mut self, tolerance: f64, out: &mut [f64]) -> Result<usize, Refusal>
+        ensures { Tuned (live_call self.old (retune tolerance (length out.old))) self.old self.new out.old out.new result }
     {
-        let n = self.refuse_retune(tolerance, out.len());
-        if n != 0 {
-            return Retuned {
-                answer: Answer::Refused(n),
-                state: self,
-            };
-        }
-        let r = self.replay(tolerance, out);
-        let state = r.state;
-        Retuned {
-            answer: Answer::Written(r.count),
-            state,
-        }
+        self.refuse_retune(tolerance, out.len())?;
+        Ok(self.replay(tolerance, out))
     }
 }
 
-// What the held points come to when they are fed again: how many ends were written, and the state.
-#[derive(Clone, Copy)]
-struct Replayed {
-    count: usize,
-    state: Live,
-}
-
 // Writes an end, if there is one, behind k others, and answers how many there are then.
-fn put_end(out: &mut [f64], k: usize, end: End) -> usize
+#[tactic(auto, unfolding(crate::specs::Replay::ends_in, geo::specs::Lent::flat))]
+fn put_end(out: &mut [f64], k: usize, end: Option<Point3D>) -> usize
     requires { 3 * (k + length (ends_in end)) ≤ length out.old }
     ensures { (result ≡ k + length (ends_in end)) × (out.new ≡ sets out.old (3 * k) (flat triple (ends_in end))) }
 {
     match end {
-        End::At(p) => {
+        Some(p) => {
             put_point(out, 3 * k, p);
             k + 1
         }
-        End::Nothing => k,
-        End::Refused(_) => k,
+        None => k,
     }
 }

@@ -3,14 +3,14 @@ use Rattle.std.specs.Prelude.{if◌then◌else◌}
 use Prim.Native.Nat.{ℕ, ◌^◌, ◌≤◌, ◌<◌}
 use mathlib.Core.Path.{◌≡◌, refl, sym, subst}
 use mathlib.Core.Logic.{⊎_elim}
-use mathlib.Core.Bool.{Bool, true, false, ◌&&◌}
+use mathlib.Core.Bool.{true, false, ◌&&◌}
 use native.Mathlib.Omega.{arith}
 use lib.Dec.{T}
 use lib.Ieee.{Float, nan, inf, fin, lt, is_nan, of_bits}
 use Rattle.floats.specs.Ops.{◌⊖◌, ◌⊗◌, ◌⊘◌, ◌≺◌}
 use Rattle.floats.specs.Float.{abs_of}
 use Rattle.floats.specs.Root.{root_of, plain}
-use Rattle.floats.proofs.Order.{either, clash}
+use Rattle.floats.proofs.Order.{either, clash, and_left, and_right}
 use Rattle.floats.proofs.Bounds.{Within, Below, AtLeast, within_of_abs, at_least_of_abs, add_below, sub_below, mul_below, div_below}
 use Rattle.floats.proofs.Unsigned.{Unsigned, square-unsigned, sum_unsigned}
 use Rattle.geo.specs.declared.types.Point3D.{Point3D}
@@ -32,11 +32,12 @@ within-number b (fin s m e) h = refl
 below-number : {k : ℕ} (x : Float) → Below k x → is_nan x ≡ false
 below-number {k} x h = within-number (2 ^ k) x h.within
 
-pub and3 : (a b c : Bool) → (a && b && c) ≡ true → (a ≡ true) × (b ≡ true) × (c ≡ true)
-and3 true true true h = (refl, refl, refl)
-and3 true true false h = clash h
-and3 true false c h = clash h
-and3 false b c h = clash h
+-- the three coordinates of a point in the domain
+pub coordinates : (p : Point3D) → point3_in p ≡ true → (coordinate p.x ≡ true) × (coordinate p.y ≡ true) × (coordinate p.z ≡ true)
+unfolding point3_in
+coordinates p h =
+    let xy = and_left (coordinate p.x && coordinate p.y) (coordinate p.z) h in
+    (and_left (coordinate p.x) (coordinate p.y) xy, and_right (coordinate p.x) (coordinate p.y) xy, and_right (coordinate p.x && coordinate p.y) (coordinate p.z) h)
 
 coordinate-below : {x : Float} → coordinate x ≡ true → Below 20 x
 unfolding coordinate of_bits
@@ -85,11 +86,11 @@ module _ (x y dx dy : Float) (hx : Below 21 x) (hy : Below 21 y) (hdx : Below 21
 
 -- the squared distance of a point to the line of two others is a number
 pub line-number : (a b p : Point3D) → point3_in a ≡ true → point3_in b ≡ true → point3_in p ≡ true → is_nan (line_sq a b p) ≡ false
-unfolding line_sq to_line chord_of point3_in
+unfolding line_sq to_line chord_of
 line-number a b p ha hb hp =
-    let u = and3 (coordinate a.x) (coordinate a.y) (coordinate a.z) ha in
-    let v = and3 (coordinate b.x) (coordinate b.y) (coordinate b.z) hb in
-    let w = and3 (coordinate p.x) (coordinate p.y) (coordinate p.z) hp in
+    let u = coordinates a ha in
+    let v = coordinates b hb in
+    let w = coordinates p hp in
     offset_number (p.x ⊖ a.x) (p.y ⊖ a.y) (b.x ⊖ a.x) (b.y ⊖ a.y)
     (sub_below (omega arith) (coordinate-below w.0) (coordinate-below u.0)) (sub_below (omega arith) (coordinate-below w.1) (coordinate-below u.1))
     (sub_below (omega arith) (coordinate-below v.0) (coordinate-below u.0)) (sub_below (omega arith) (coordinate-below v.1) (coordinate-below u.1))

@@ -25,7 +25,7 @@ use Rattle.farthest.specs.Farthest.{farther, farthest_of, farthest_in, on_chord}
 use Rattle.live.specs.declared.live.Live.{Live}
 use Rattle.live.specs.Thinner.{slot_count, slot, put, started, behind, cutting, goes_on, push, shut, feed_again, forgotten, retuned}
 use Rattle.live.proofs.Counts.{goes-room, anchored-few}
-use Rattle.live_runs.proofs.Near.{and3}
+use Rattle.live_runs.proofs.Near.{coordinates}
 use Rattle.live_runs.proofs.Slots.{put_length, put_other}
 
 -- ---- numbers in the domain
@@ -40,16 +40,13 @@ set_in l i x c h =
     (either (eqb k i)))
 
 module _ (p : Point3D) (h : point3_in p ≡ true) where
-  coordinates : (coordinate p.x ≡ true) × (coordinate p.y ≡ true) × (coordinate p.z ≡ true)
-  unfolding point3_in
-  coordinates = and3 (coordinate p.x) (coordinate p.y) (coordinate p.z) h
-
   put_in : (ns : List Float) (i : ℕ) → numbers_in coordinate ns ≡ true → numbers_in coordinate (put ns i p) ≡ true
   unfolding put
   put_in ns i a =
       let b = 3 * i in
-      set_in (set (set ns b p.x) (suc b) p.y) (suc (suc b)) p.z coordinates.2
-      (set_in (set ns b p.x) (suc b) p.y coordinates.1 (set_in ns b p.x coordinates.0 a))
+      let all = coordinates p h in
+      set_in (set (set ns b p.x) (suc b) p.y) (suc (suc b)) p.z all.2
+      (set_in (set ns b p.x) (suc b) p.y all.1 (set_in ns b p.x all.0 a))
 
 point_in : (ns : List Float) (j : ℕ) → 3 * j + 2 < length ns → numbers_in coordinate ns ≡ true → point3_in (point_at ns j) ≡ true
 unfolding numbers_in point_at point3_in

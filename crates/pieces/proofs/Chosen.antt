@@ -1,5 +1,5 @@
 -- What a range comes to, by the tests that the code makes. Assumes nothing.
-use Rattle.std.specs.Prelude.{if◌then◌else◌}
+use Rattle.std.specs.Prelude.{Option, None, if◌then◌else◌}
 use Prim.Native.Nat.{ℕ, ◌≤◌, ◌<◌}
 use mathlib.Core.Path.{◌≡◌, refl, sym, ap, ◌∙◌}
 use mathlib.Core.Logic.{⊎_elim}
@@ -12,8 +12,7 @@ use Rattle.geo.specs.declared.types.Point.{Point}
 use Rattle.geo.specs.declared.types.Point3D.{Point3D}
 use Rattle.circle.specs.Three.{radius_from}
 use Rattle.trial.specs.declared.trial.Trial.{Trial}
-use Rattle.trial.specs.declared.trial.Trial.TheVariants.{Arc, None}
-use Rattle.trial.specs.Trial.{try_arcs}
+use Rattle.trial.specs.Trial.{Arc, try_arcs}
 use Rattle.trial.proofs.Tried.{tried_worst}
 use Rattle.deviations.specs.Line.{line_deviation}
 use Rattle.deviations.proofs.WorstStep.{worst-few}
@@ -43,7 +42,7 @@ module _ (r : Rule) (at : ℕ → Point3D) (lo hi : ℕ) (d : Tested) (e : d ≡
   takes_line h = rw (passed true h)
 
   -- t is the trial that the rule counts
-  module _ (t : Trial) (is : t ≡ counted r (try_arcs at lo hi d.index r.tolerance)) (h : d.passes ≡ false) where
+  module _ (t : Option Trial) (is : t ≡ counted r (try_arcs at lo hi d.index r.tolerance)) (h : d.passes ≡ false) where
     takes : choice r at lo hi ≡ arc_or_cut t d.index
     unfolding choice choose_by
     takes = rw (passed false h, ← first, ← is)

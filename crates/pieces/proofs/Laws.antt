@@ -1,5 +1,5 @@
 -- The laws of the pieces of a fit, each stated alone, over any rule whose tolerance is above zero. Assumes nothing.
-use Rattle.std.specs.Prelude.{if◌then◌else◌}
+use Rattle.std.specs.Prelude.{Option, None, Some, if◌then◌else◌}
 use Prim.Native.Nat.{ℕ, zero, suc, ◌+◌, ◌-◌, ◌*◌, ◌≤◌, ◌<◌}
 use mathlib.Core.Path.{◌≡◌, refl, sym, ap, ◌∙◌, subst}
 use mathlib.Core.Logic.{◌⊎◌, inl, inr, ⊎_elim}
@@ -17,8 +17,7 @@ use Rattle.geo.specs.declared.types.Command as command
 use Rattle.circle.specs.declared.circle.Deviation.{Deviation}
 use Rattle.circle.specs.Three.{radius_from}
 use Rattle.trial.specs.declared.trial.Trial.{Trial}
-use Rattle.trial.specs.declared.trial.Trial.TheVariants.{Arc, None}
-use Rattle.trial.specs.Trial.{three_tried, least_tried, try_arcs}
+use Rattle.trial.specs.Trial.{Arc, three_tried, least_tried, try_arcs}
 use Rattle.trial.specs.Laws.{ArcPasses}
 use Rattle.trial.proofs.Tried.{three-passes, least-passes, first_tried, second_tried}
 use Rattle.deviations.specs.Line.{line_deviation}
@@ -77,7 +76,7 @@ exactly_one i lo hi (p ∷ ps) v h g =
 
 -- ---- the trials as a rule counts them
 module _ (r : Rule) (at : ℕ → Point3D) (lo hi k : ℕ) where
-  counted-some : (t : Trial) (c : Point) (d : Bool) (w : ℕ) → counted r t ≡ Arc c d w → (r.arcs ≡ true) × (t ≡ Arc c d w)
+  counted-some : (t : Option Trial) (c : Point) (d : Bool) (w : ℕ) → counted r t ≡ Arc c d w → (r.arcs ≡ true) × (t ≡ Arc c d w)
   counted-some t c d w e =
       ⊎_elim (λ h. (h, subst (λ (b : Bool). (if b then t else None) ≡ Arc c d w) h e))
       (λ h. let g : None ≡ Arc c d w = subst (λ (b : Bool). (if b then t else None) ≡ Arc c d w) h e in let z : ◌≡◌ {A = ℕ} 0 1 = cc in absurd (omega arith)) (either r.arcs)
@@ -140,16 +139,20 @@ module _ (r : Rule) (at : ℕ → Point3D) (lo hi : ℕ) (some : lo < hi) where
     pub chosen : choice r at lo hi ≡ whole shape
     pub written : WrittenAs r at lo hi (shaped (at lo) (at hi) shape)
 
-  by_trials : LineFails r at lo hi → (t u : Trial) → counted r (three_tried at lo hi (line_deviation (distance r) at lo hi).index r.tolerance) ≡ t
+  by_trials : LineFails r at lo hi → (t u : Option Trial) → counted r (three_tried at lo hi (line_deviation (distance r) at lo hi).index r.tolerance) ≡ t
       → counted r (least_tried at lo hi (line_deviation (distance r) at lo hi).index r.tolerance) ≡ u → Whole ⊎ AllFail r at lo hi
-  by_trials h (Arc c d w) u e f =
+  by_trials h (Some t) u e f =
       let k = (line_deviation (distance r) at lo hi).index in
-      let p = three-passes r.tolerance at lo hi k c d w (counted-some r at lo hi k _ c d w e).1 in
-      inl (record { shape = arc c d; chosen = chosen_arc h c d w (counted-first r at lo hi k c d w e); written = as_first c d w h e (new_arc c d p) })
-  by_trials h None (Arc c d w) e f =
+      let c = t.center in
+      let d = t.clockwise in
+      let p = three-passes r.tolerance at lo hi k c d t.worst (counted-some r at lo hi k _ c d t.worst e).1 in
+      inl (record { shape = arc c d; chosen = chosen_arc h c d t.worst (counted-first r at lo hi k c d t.worst e); written = as_first c d t.worst h e (new_arc c d p) })
+  by_trials h None (Some t) e f =
       let k = (line_deviation (distance r) at lo hi).index in
-      let p = least-passes r.tolerance at lo hi k c d w (counted-some r at lo hi k _ c d w f).1 in
-      inl (record { shape = arc c d; chosen = chosen_arc h c d w (counted-second r at lo hi k e ∙ f); written = as_second c d w h e f (new_arc c d p) })
+      let c = t.center in
+      let d = t.clockwise in
+      let p = least-passes r.tolerance at lo hi k c d t.worst (counted-some r at lo hi k _ c d t.worst f).1 in
+      inl (record { shape = arc c d; chosen = chosen_arc h c d t.worst (counted-second r at lo hi k e ∙ f); written = as_second c d t.worst h e f (new_arc c d p) })
   by_trials h None None e f = inr (record { line_fails = h; three_fails = e; least_fails = f })
 
   whole_or_cut : Whole ⊎ AllFail r at lo hi

@@ -1,4 +1,5 @@
 -- The recursion of a fit, with no count of cuts: a cut lies strictly inside its range, so that hi - lo cuts are enough. Assumes nothing.
+use Rattle.std.specs.Prelude.{Option, None, Some}
 use Prim.Native.Nat.{ℕ, zero, suc, ◌-◌, ◌≤◌, ◌<◌}
 use mathlib.Core.Path.{◌≡◌, refl, sym, ap, ◌∙◌, subst}
 use mathlib.Core.Logic.{⊎_elim}
@@ -13,7 +14,6 @@ use Rattle.floats.proofs.Order.{either, clash}
 use Rattle.geo.specs.declared.types.Point3D.{Point3D}
 use Rattle.circle.specs.declared.circle.Deviation.{Deviation}
 use Rattle.trial.specs.declared.trial.Trial.{Trial}
-use Rattle.trial.specs.declared.trial.Trial.TheVariants.{Arc, None}
 use Rattle.trial.specs.Trial.{try_arcs}
 use Rattle.deviations.specs.Line.{rooted, line_deviation}
 use Rattle.pieces.specs.declared.pieces.Rule.{Rule}
@@ -39,9 +39,9 @@ module _ (r : Rule) (pos : (+0 ≺ r.tolerance) ≡ true) (at : ℕ → Point3D)
   Inside lo hi (whole s) = Unit
   Inside lo hi (cut_at k) = (lo < k) × (k < hi)
 
-  inside_or : (t : Trial) (lo k hi : ℕ) → lo < k → k < hi → Inside lo hi (arc_or_cut t k)
+  inside_or : (t : Option Trial) (lo k hi : ℕ) → lo < k → k < hi → Inside lo hi (arc_or_cut t k)
   unfolding arc_or_cut
-  inside_or (Arc c d w) lo k hi g h = tt
+  inside_or (Some t) lo k hi g h = tt
   inside_or None lo k hi g h = (g, h)
 
   pub inside : (lo hi : ℕ) → Inside lo hi (choice r at lo hi)

@@ -10,7 +10,7 @@ use Rattle.geo.specs.declared.types.Command.{Command}
 use Rattle.geo.specs.Lent.{flat, kind_of, numbers_of}
 use Rattle.geo.proofs.Stores.{sets_append}
 use Rattle.geo.proofs.Flat.{flat-one, sets_flat}
-use Rattle.geo.proofs.Outcomes.{nine}
+use Rattle.geo.proofs.Wrote.{nine}
 use Rattle.pieces.specs.Written.{FitPlaced, Noted, noted, commands_of, notes_of, NotedPlaced}
 
 -- ---- lists of them

@@ -1,5 +1,5 @@
 -- Demand 3's words about the pieces of a range, as propositions, over any rule r and any points `at`. Definitions only; proofs/Laws.antt shows that they hold.
-use Rattle.std.specs.Prelude.{ℕ, ◌+◌, ◌-◌, ◌≤◌, ◌<◌, ◌≡◌, Bool, true, false, ◌&&◌, List, [], ◌∷◌, ◌++◌, ltb, leb, Float, if◌then◌else◌}
+use Rattle.std.specs.Prelude.{ℕ, ◌+◌, ◌-◌, ◌≤◌, ◌<◌, ◌≡◌, Bool, true, false, ◌&&◌, List, [], ◌∷◌, ◌++◌, ltb, leb, None, Float, if◌then◌else◌}
 use Rattle.std.specs.Float.Ieee.{neg}
 use Rattle.floats.specs.Ops.{◌⊖◌, ◌≺◌, +0, one}
 use Rattle.geo.specs.declared.types.Point.{Point}
@@ -10,8 +10,7 @@ use Rattle.geo.specs.Outcome.{gives}
 use Rattle.arc.specs.Direction.{direction_call}
 use Rattle.circle.specs.declared.circle.Deviation.{Deviation}
 use Rattle.circle.specs.Three.{radius_from}
-use Rattle.trial.specs.declared.trial.Trial.TheVariants.{Arc, None}
-use Rattle.trial.specs.Trial.{three_tried, least_tried}
+use Rattle.trial.specs.Trial.{Arc, three_tried, least_tried}
 use Rattle.trial.specs.Laws.{ArcPasses}
 use Rattle.deviations.specs.Line.{line_deviation}
 use Rattle.deviations.specs.Calls.{line_call, arc_call}

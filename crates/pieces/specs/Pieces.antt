@@ -1,13 +1,12 @@
 -- The fit of a range of points: the pieces into which it falls, each a Line or an Arc with its trial's centre. Definitions only.
 -- "A cut leaves two [ranges], sharing its Line's first farthest point. An uncut range is a piece, written to its last point as a Line if that passes, else as the
 -- Arc of the first arc trial that does" (document 01, "Demand 3's words").
-use Rattle.std.specs.Prelude.{ℕ, zero, suc, ◌+◌, ◌-◌, Bool, true, false, List, [], ◌∷◌, ◌++◌, Float, if◌then◌else◌}
+use Rattle.std.specs.Prelude.{ℕ, zero, suc, ◌+◌, ◌-◌, Bool, true, false, List, [], ◌∷◌, ◌++◌, Option, None, Some, Float, if◌then◌else◌}
 use Rattle.floats.specs.Ops.{◌≺◌}
 use Rattle.geo.specs.declared.types.Point.{Point}
 use Rattle.geo.specs.declared.types.Point3D.{Point3D}
 use Rattle.circle.specs.declared.circle.Deviation.{Deviation}
 use Rattle.trial.specs.declared.trial.Trial.{Trial}
-use Rattle.trial.specs.declared.trial.Trial.TheVariants.{Arc, None}
 use Rattle.trial.specs.Trial.{try_arcs}
 use Rattle.farthest.specs.declared.farthest.Ruler.TheVariants.{Line, Segment, Space}
 use Rattle.farthest.specs.Measure.{Measure, measure_of}
@@ -50,12 +49,12 @@ pub data Choice : Type 0 where
   cut_at : ℕ → Choice
 
 -- the arc that a trial found, else a cut at k
-unfoldable pub arc_or_cut : Trial → ℕ → Choice
-arc_or_cut (Arc m clockwise w) k = whole (arc m clockwise)
+unfoldable pub arc_or_cut : Option Trial → ℕ → Choice
+arc_or_cut (Some t) k = whole (arc t.center t.clockwise)
 arc_or_cut None k = cut_at k
 
 -- a trial as a rule counts it: failed where no arcs are tried
-abbrev pub counted : Rule → Trial → Trial
+abbrev pub counted : Rule → Option Trial → Option Trial
 counted r t = if r.arcs then t else None
 
 -- a Line where its deviation w is below the tolerance, else the arc of the first trial that passes, else a cut at the Line's first farthest point

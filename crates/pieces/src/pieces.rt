@@ -11,6 +11,7 @@ ghost use Rattle.pieces.specs.Tested.{line_tested};
 use farthest::farthest::{Ruler, farthest_between};
 use floats::root::is_root_below;
 use geo::lent::put_command;
+use geo::lists::Stretch;
 use geo::types::{Command, Point, Point3D};
 use trial::trial::{Trial, try_arcs};
 
@@ -22,7 +23,8 @@ pub enum Note {
 }
 
 // By which rule a range is judged: which distance of a point counts, whether arcs are tried, and the tolerance; and what
-// is noted beside each command.
+// is noted beside each command. A rule is made of any tolerance, as its definition is, so that it lies above 0 is asked where a
+// range is fitted.
 #[derive(Clone, Copy)]
 pub struct Rule {
     pub ruler: Ruler,
@@ -31,6 +33,7 @@ pub struct Rule {
     pub note: Note,
 }
 
+// The three rules differ in constants: one function that takes them would be no plainer, since each has a sentence of the papers.
 impl Rule {
     // The rule of the functions that take points: they measure to the endless line.
     pub fn of_points(tolerance: f64) -> Self
@@ -69,7 +72,8 @@ impl Rule {
     }
 }
 
-// What the Line of a range comes to: whether its deviation is below the rule's tolerance, and its first farthest point.
+// What the Line of a range comes to: whether its deviation is below the rule's tolerance, and its first farthest point. The point
+// is told of a Line that passes too, so an Option would promise less.
 #[derive(Clone, Copy)]
 pub struct Tested {
     pub passes: bool,
@@ -77,18 +81,18 @@ pub struct Tested {
 }
 
 // Most deviations are not near the tolerance, and need no root to be compared with it.
-pub fn test_line(rule: Rule, points: &[f64], start: usize, end: usize) -> Tested
-    requires { (3 * start + 2 < length points.now) × (3 * end + 2 < length points.now) }
-    ensures { result ≡ line_tested rule (point_at points.now) start end }
+#[tactic(auto, unfolding(crate::specs::Tested::line_tested, deviations::specs::Line::line_deviation, deviations::specs::Line::rooted))]
+pub fn test_line(rule: Rule, range: Stretch) -> Tested
+    ensures { result ≡ line_tested rule (point_at range.entry.points.now) range.entry.start range.entry.end }
 {
-    let ruler = rule.ruler;
-    let far = farthest_between(ruler, points, start, end);
+    let far = farthest_between(rule.ruler, range);
     Tested {
         passes: is_root_below(far.square, rule.tolerance),
         index: far.index,
     }
 }
 
+#[tactic(auto, unfolding(crate::specs::Commands::normal_of))]
 fn normal(clockwise: bool) -> Point3D
     ensures { result ≡ normal_of clockwise }
 {
@@ -107,6 +111,7 @@ fn normal(clockwise: bool) -> Point3D
 }
 
 // The Arc from a to b round a centre. Its centre is given from a.
+#[tactic(auto, unfolding(crate::specs::Commands::shaped))]
 pub fn arc_command(a: Point3D, b: Point3D, center: Point, clockwise: bool) -> Command
     ensures { result ≡ shaped a b (arc center clockwise) }
 {
@@ -122,7 +127,7 @@ pub fn arc_command(a: Point3D, b: Point3D, center: Point, clockwise: bool) -> Co
 }
 
 // Writes a command at place `at`, and a note beside it, where the column of notes reaches so far: who wants no notes
-// lends an empty one.
+// lends an empty one. Who lends the three outputs got them from C one by one, so they are parameters.
 pub fn put_noted(
     kinds: &mut [u8],
     nums: &mut [f64],
@@ -141,17 +146,18 @@ pub fn put_noted(
 }
 
 // The arc of a range whose Line fails, where arcs are tried; k is its Line's first farthest point.
-pub fn try_rule(rule: Rule, points: &[f64], start: usize, end: usize, k: usize) -> Trial
-    requires { (start < end) × (end < most_points) × (start < k) × (k < end) × (3 * end + 2 < length points.now) }
-    ensures { result ≡ counted rule (try_arcs (point_at points.now) start end k rule.tolerance) }
+pub fn try_rule(rule: Rule, range: Stretch, k: usize) -> Option<Trial>
+    requires { (range.end < most_points) × (range.start < k) × (k < range.end) }
+    ensures { result ≡ counted rule (try_arcs (point_at range.entry.points.now) range.entry.start range.entry.end k rule.tolerance) }
 {
-    if rule.arcs {
-        return try_arcs(points, start, end, k, rule.tolerance);
+    if !rule.arcs {
+        return None;
     }
-    Trial::None
+    try_arcs(range, k, rule.tolerance)
 }
 
 // What is noted beside a command that covers so many steps, `worst` being the worst of them.
+#[tactic(auto, unfolding(crate::specs::Written::note_by))]
 pub fn note_of(note: Note, covered: usize, worst: usize) -> u32
     requires { (covered < most_points) × (worst < most_points) }
     ensures { result ≡ note_by note covered worst }

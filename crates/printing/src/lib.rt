@@ -2,4 +2,5 @@
 #![tactic(auto)]
 
 pub mod input;
+pub mod program;
 pub mod rest;

@@ -13,6 +13,7 @@ pub fn drain<R: Read>(reader: &mut R, n: usize, size: usize) -> io::Result<()> {
         return Ok(());
     }
     let mut rest = [0; PART];
+    // a loop has to end, so the reads are counted
     for _ in 0..u64::MAX {
         if read_full(reader, &mut rest)? < PART {
             return Ok(());

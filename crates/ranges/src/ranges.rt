@@ -4,17 +4,17 @@ ghost use Rattle.floats.specs.Ops.{◌≺◌, +0};
 ghost use Rattle.geo.specs.Domain.{most_points};
 ghost use Rattle.geo.specs.Lent.{point_at};
 ghost use Rattle.pieces.specs.Written.{noted, noted_in, chain_noted, NotedPlaced};
-ghost use Rattle.ranges.specs.Ranges.{next_from, Looked};
+ghost use Rattle.ranges.specs.Ranges.{next_from};
 
 use geo::domain::MOST_POINTS;
-use geo::lent::point_at;
+use geo::lists::Stretch;
 use geo::types::Command;
 use pieces::pieces::{Rule, arc_command, note_of, put_noted, test_line, try_rule};
 use simplify::simplify::thin_in_place;
-use trial::trial::Trial;
 
 // A fit of a range on its way: the part that is looked at, from lo to hi; how many ends of parts behind it are waiting; and the
-// place of the next command. The ends stand in an array, so that a cut takes no room on the stack.
+// place of the next command. The ends stand in an array, so that a cut takes no room on the stack: in a lent one with their count,
+// not in a list, since there is no heap and few points need a small one.
 #[derive(Clone, Copy)]
 struct Stand {
     lo: usize,
@@ -43,7 +43,7 @@ impl Stand {
         let n = self.waiting - 1;
         Self {
             lo: self.hi,
-            hi: wide(ends[n]),
+            hi: usize::from(ends[n]),
             waiting: n,
             place,
         }
@@ -65,123 +65,109 @@ impl Stand {
     }
 }
 
-fn wide(n: u16) -> usize
-    ensures { result ≡ n }
-{
-    n as usize
-}
-
-// Writes the piece that is looked at as the command c.
-fn put_piece(
-    c: Command,
-    note: u32,
-    w: Stand,
-    ends: &[u16],
-    kinds: &mut [u8],
-    nums: &mut [f64],
-    notes: &mut [u32],
-) -> Stand
-    requires { (w.waiting ≤ length ends.now) × (w.place < length kinds.old) × (9 * w.place + 8 < length nums.old) }
-    ensures { (result ≡ next_from ends.now w.hi (w.place + 1) w.waiting) × NotedPlaced (noted c note ∷ []) w.place 1 kinds.old kinds.new nums.old nums.new notes.old notes.new }
-{
-    put_noted(kinds, nums, notes, w.place, c, note);
-    w.next(w.place + 1, ends)
-}
-
-// Looks at one part: writes it as a Line or an Arc where one passes, else cuts it at the Line's first farthest point, which lies
-// strictly inside: a tolerance above 0 lets a Line pass whose deviation is 0.
-fn fit_next(
+// What a fit is asked: by which rule, and the points of a list.
+#[derive(Clone, Copy)]
+struct Fit<'a> {
     rule: Rule,
-    points: &[f64],
-    w: Stand,
-    ends: &mut [u16],
-    kinds: &mut [u8],
-    nums: &mut [f64],
-    notes: &mut [u32],
-) -> Stand
-    requires { ((+0 ≺ rule.tolerance) ≡ true) × ((w.lo < w.hi) × (w.hi < most_points) × (3 * w.hi + 2 < length points.now) × (w.waiting < length ends.old) × (w.place < length kinds.old) × (9 * w.place + 8 < length nums.old)) }
-    ensures { Looked rule (point_at points.now) w result ends.old ends.new kinds.old kinds.new nums.old nums.new notes.old notes.new }
-{
-    let note = rule.note;
-    let d = test_line(rule, points, w.lo, w.hi);
-    let b = point_at(points, w.hi);
-    let covered = w.hi - w.lo;
-    if d.passes {
-        let n = note_of(note, covered, 0);
-        return put_piece(Command::Line { end: b }, n, w, ends, kinds, nums, notes);
+    route: Stretch<'a>,
+    ghost positive: { (+0 ≺ rule.tolerance) ≡ true },
+    ghost some: { route.start < route.end },
+    ghost few: { route.end < most_points },
+}
+
+// Where the commands of a fit are written, each with what is noted beside it.
+#[derive(Drop)]
+struct Sheet<'a> {
+    kinds: &'a mut [u8],
+    nums: &'a mut [f64],
+    notes: &'a mut [u32],
+}
+
+impl<'a> Sheet<'a> {
+    ghost use Rattle.ranges.specs.Sheet.{Lent, Placed, Looked};
+
+    // Writes the piece that is looked at as the command c.
+    fn put_piece(&mut self, c: Command, note: u32, w: Stand, ends: &[u16]) -> Stand
+        requires { (w.waiting ≤ length ends.now) × (w.place < length self.old.kinds.now) × (9 * w.place + 8 < length self.old.nums.now) }
+        ensures lent { Lent self.old self.new }
+        ensures stands { result ≡ next_from ends.now w.hi (w.place + 1) w.waiting }
+        ensures wrote { Placed (noted c note ∷ []) w.place 1 self.old self.new }
+    {
+        put_noted(self.kinds, self.nums, self.notes, w.place, c, note);
+        w.next(w.place + 1, ends)
     }
-    let t = try_rule(rule, points, w.lo, w.hi, d.index);
-    match t {
-        Trial::Arc {
-            center,
-            clockwise,
-            worst,
-        } => {
-            let a = point_at(points, w.lo);
-            let n = note_of(note, covered, worst);
-            put_piece(
-                arc_command(a, b, center, clockwise),
-                n,
-                w,
-                ends,
-                kinds,
-                nums,
-                notes,
-            )
+
+    // Looks at one part: writes it as a Line or an Arc where one passes, else cuts it at the Line's first farthest point, which
+    // lies strictly inside: a tolerance above 0 lets a Line pass whose deviation is 0.
+    fn fit_next(&mut self, fit: &Fit, w: Stand, ends: &mut [u16]) -> Stand
+        requires { (w.lo < w.hi) × (w.hi ≤ fit.now.route.end) × (w.waiting < length ends.old) × (w.place < length self.old.kinds.now) × (9 * w.place + 8 < length self.old.nums.now) }
+        ensures lent { Lent self.old self.new }
+        ensures looked { Looked fit.now.rule (point_at fit.now.route.points.now) w result ends.old ends.new self.old self.new }
+    {
+        let rule = fit.rule;
+        let part = Stretch {
+            points: fit.route.points,
+            start: w.lo,
+            end: w.hi,
+        };
+        let d = test_line(rule, part);
+        let b = part.last();
+        let covered = w.hi - w.lo;
+        if d.passes {
+            let n = note_of(rule.note, covered, 0);
+            return self.put_piece(Command::Line { end: b }, n, w, ends);
         }
-        Trial::None => w.cut(d.index, ends),
+        match try_rule(rule, part, d.index) {
+            Some(t) => {
+                let n = note_of(rule.note, covered, t.worst);
+                let c = arc_command(part.first(), b, t.center, t.clockwise);
+                self.put_piece(c, n, w, ends)
+            }
+            None => w.cut(d.index, ends),
+        }
+    }
+
+    // Writes the commands for the points of a fit from place `at` on, and answers how many they are.
+    fn fit_parts(&mut self, fit: &Fit, at: usize, ends: &mut [u16]) -> usize
+        requires { (fit.now.route.end - fit.now.route.start ≤ length ends.old) × (at + (fit.now.route.end - fit.now.route.start) ≤ length self.old.kinds.now) × (9 * (at + (fit.now.route.end - fit.now.route.start)) ≤ length self.old.nums.now) }
+        // The ends are lent as room to work in: what they hold at exit is left open.
+        ensures lent { Lent self.old self.new }
+        ensures wrote { Placed (noted_in fit.now.rule (point_at fit.now.route.points.now) fit.now.route.start fit.now.route.end) at result self.old self.new }
+    {
+        let mut w = Stand {
+            lo: fit.route.start,
+            hi: fit.route.end,
+            waiting: 0,
+            place: at,
+        };
+        while w.lo < fit.route.end {
+            w = self.fit_next(fit, w, ends);
+        }
+        w.place - at
     }
 }
 
-// Writes the commands for the points of a fit that stands at its beginning, and answers how many they are.
-fn fit_parts(
-    rule: Rule,
-    points: &[f64],
-    first: Stand,
-    ends: &mut [u16],
-    kinds: &mut [u8],
-    nums: &mut [f64],
-    notes: &mut [u32],
-) -> usize
-    requires { ((+0 ≺ rule.tolerance) ≡ true) × (first ≡ record { lo = first.lo; hi = first.hi; waiting = 0; place = first.place }) × ((first.lo < first.hi) × (first.hi < most_points) × (3 * first.hi + 2 < length points.now) × (first.hi - first.lo ≤ length ends.old) × (first.place + (first.hi - first.lo) ≤ length kinds.old) × (9 * (first.place + (first.hi - first.lo)) ≤ length nums.old)) }
-    // The ends are lent as room to work in: what they hold at exit is left open.
-    ensures { NotedPlaced (noted_in rule (point_at points.now) first.lo first.hi) first.place result kinds.old kinds.new nums.old nums.new notes.old notes.new }
-{
-    let end = first.hi;
-    let mut w = first;
-    while w.lo < end {
-        w = fit_next(rule, points, w, ends, kinds, nums, notes);
-    }
-    w.place - first.place
-}
-
-// Writes the commands for the points from start to end, from place `at` on, and answers how many they are. Few points wait in a
-// small array, which is filled sooner than a large one.
+// Writes the commands for the points of a stretch, from place `at` on, and answers how many they are. Few points wait in a small
+// array, which is filled sooner than a large one.
 pub fn fit_range(
     rule: Rule,
-    points: &[f64],
-    start: usize,
-    end: usize,
+    route: Stretch,
     kinds: &mut [u8],
     nums: &mut [f64],
     notes: &mut [u32],
     at: usize,
 ) -> usize
-    requires { ((+0 ≺ rule.tolerance) ≡ true) × ((start < end) × (end < most_points) × (3 * end + 2 < length points.now) × (at + (end - start) ≤ length kinds.old) × (9 * (at + (end - start)) ≤ length nums.old)) }
-    ensures { NotedPlaced (noted_in rule (point_at points.now) start end) at result kinds.old kinds.new nums.old nums.new notes.old notes.new }
+    requires { ((+0 ≺ rule.tolerance) ≡ true) × ((route.start < route.end) × (route.end < most_points) × (at + (route.end - route.start) ≤ length kinds.old) × (9 * (at + (route.end - route.start)) ≤ length nums.old)) }
+    ensures { NotedPlaced (noted_in rule (point_at route.entry.points.now) route.entry.start route.entry.end) at result kinds.old kinds.new nums.old nums.new notes.old notes.new }
 {
-    let w = Stand {
-        lo: start,
-        hi: end,
-        waiting: 0,
-        place: at,
-    };
-    if end - start <= Stand::FEW {
+    let fit = Fit { rule, route };
+    let mut sheet = Sheet { kinds, nums, notes };
+    if route.end - route.start <= Stand::FEW {
         let mut ends = [0u16; Stand::FEW];
-        return fit_parts(rule, points, w, &mut ends, kinds, nums, notes);
+        return sheet.fit_parts(&fit, at, &mut ends);
     }
     let mut ends = [0u16; MOST_POINTS];
-    fit_parts(rule, points, w, &mut ends, kinds, nums, notes)
+    sheet.fit_parts(&fit, at, &mut ends)
 }
 
 // Fits a chain: it is thinned in place, and what is kept is fitted. A course of at most 800 commands has no longer chain than 801 points.
@@ -201,7 +187,11 @@ pub fn flush_chain(
     if n < 2 {
         return 0;
     }
-    let ruler = rule.ruler;
-    let k = thin_in_place(ruler, chain, n, rule.tolerance * rule.tolerance);
-    fit_range(rule, &chain[..3 * k], 0, k - 1, kinds, nums, notes, at)
+    let k = thin_in_place(rule.ruler, chain, rule.tolerance * rule.tolerance);
+    let kept = Stretch {
+        points: &chain[..3 * k],
+        start: 0,
+        end: k - 1,
+    };
+    fit_range(rule, kept, kinds, nums, notes, at)
 }

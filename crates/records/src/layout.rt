@@ -3,9 +3,9 @@
 ghost use Rattle.std.specs.Prelude.{◌≡◌, true, false, ◌≤◌, length};
 ghost use Rattle.records.specs.Record.{IsHead, Whole, lent_size, body_bytes, is_answered, is_output};
 
-use crate::{are_bytes_left, are_bytes_written, are_numbers_left, are_numbers_written};
+use crate::{are_bytes_written, are_left, are_numbers_written};
 use file::words::word_at;
-use geo::types::Answer;
+use geo::refusal::Refusal;
 
 // The bytes of a head.
 pub const HEAD_SIZE: usize = 112;
@@ -76,31 +76,14 @@ pub fn is_whole(h: Head) -> bool
     ensures whole { result ≡ true → Whole h }
     ensures damaged { result ≡ false → Whole h → ⊥ }
 {
-    if NUMBERS < h.numbers {
-        return false;
-    }
-    if BYTES < h.kinds {
-        return false;
-    }
-    if BYTES < h.recorded {
-        return false;
-    }
-    if BYTES < h.fitted {
-        return false;
-    }
-    if ROOM < h.room {
-        return false;
-    }
-    if BYTES < h.space {
-        return false;
-    }
-    if h.room < h.written {
-        return false;
-    }
-    if h.space < h.stored {
-        return false;
-    }
-    true
+    NUMBERS >= h.numbers
+        && BYTES >= h.kinds
+        && BYTES >= h.recorded
+        && BYTES >= h.fitted
+        && ROOM >= h.room
+        && BYTES >= h.space
+        && h.room >= h.written
+        && h.space >= h.stored
 }
 
 // How many bytes are lent, and how many stand behind the head.
@@ -119,17 +102,13 @@ pub fn body_size(h: Head) -> usize
 }
 
 // Whether the answer is the expected refusal, or the expected count where that is 0.
-pub fn is_answered(h: Head, a: Answer) -> bool
+#[tactic(auto, unfolding(crate::specs::Record::is_answered))]
+pub fn is_answered(h: Head, a: Result<usize, Refusal>) -> bool
     ensures { result ≡ is_answered h a }
 {
     match a {
-        Answer::Written(n) => {
-            if h.refusal != 0 {
-                return false;
-            }
-            n as u64 == h.count
-        }
-        Answer::Refused(n) => n as u64 == h.refusal,
+        Ok(n) => h.refusal == 0 && n as u64 == h.count,
+        Err(cause) => u64::from(u32::from(cause)) == h.refusal,
     }
 }
 
@@ -140,14 +119,8 @@ pub fn is_output(h: Head, body: &[u8], out: &[f64], bytes: &[u8]) -> bool
     ensures { result ≡ is_output h body.now out.now bytes.now }
 {
     let at = lent_size(h);
-    if !are_numbers_written(body, at, h.written, out) {
-        return false;
-    }
-    if !are_bytes_written(body, at + 8 * h.written, h.stored, bytes) {
-        return false;
-    }
-    if !are_numbers_left(out, h.written, out.len(), BEFORE) {
-        return false;
-    }
-    are_bytes_left(bytes, h.stored, bytes.len(), BEFORE_BYTE)
+    are_numbers_written(body, at, h.written, out)
+        && are_bytes_written(body, at + 8 * h.written, h.stored, bytes)
+        && are_left(out, h.written, out.len(), BEFORE)
+        && are_left(bytes, h.stored, bytes.len(), BEFORE_BYTE)
 }

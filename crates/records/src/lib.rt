@@ -4,9 +4,10 @@
 
 pub mod layout;
 
-ghost use Rattle.std.specs.Prelude.{◌≡◌, ◌+◌, ◌*◌, ◌≤◌, length};
+ghost use Rattle.std.specs.Prelude.{◌≡◌, ◌+◌, ◌-◌, ◌*◌, ◌≤◌, length, get_or};
+ghost use Rattle.geo.specs.Domain.{every_from};
 ghost use Rattle.std.proofs.lemmas.List.Edits.{sets};
-ghost use Rattle.records.specs.Words.{has_pattern, numbers_at, numbers_written, bytes_written, numbers_left, bytes_left};
+ghost use Rattle.records.specs.Words.{has_pattern, numbers_at, numbers_written, bytes_written};
 
 use file::words::{float_of, is_nan, word_at};
 
@@ -48,34 +49,17 @@ pub fn are_bytes_written(s: &[u8], at: usize, n: usize, bytes: &[u8]) -> bool
     requires { (n ≤ length bytes.now) × (at + n ≤ length s.now) }
     ensures { result ≡ bytes_written s.now at n bytes.now }
 {
-    for i in 0..n {
-        if bytes[i] != s[at + i] {
-            return false;
-        }
-    }
-    true
+    let e = at + n;
+    bytes[..n] == s[at..e]
 }
 
-// Whether the known number still stands at each index from `from` on and below `to`.
-pub fn are_numbers_left(out: &[f64], from: usize, to: usize, known: f64) -> bool
+// Whether the known value still stands at each index from `from` on and below `to`.
+pub fn are_left<T: PartialEq + Copy>(out: &[T], from: usize, to: usize, known: T) -> bool
     requires { to ≤ length out.now }
-    ensures { result ≡ numbers_left out.now from to known }
+    ensures { (none : T) → result ≡ every_from (λ i. T.eq (get_or out.now i none) known) (to - from) from }
 {
     for i in from..to {
         if out[i] != known {
-            return false;
-        }
-    }
-    true
-}
-
-// The same of bytes.
-pub fn are_bytes_left(bytes: &[u8], from: usize, to: usize, known: u8) -> bool
-    requires { to ≤ length bytes.now }
-    ensures { result ≡ bytes_left bytes.now from to known }
-{
-    for i in from..to {
-        if bytes[i] != known {
             return false;
         }
     }

@@ -2,11 +2,11 @@
 // is lent and writes to the front of its outputs; a text is lent where a recorded file is, and so is what a fit's list of worst
 // steps has to be.
 use file::words::float_of;
-use geo::types::Answer;
+use geo::refusal::Refusal;
 use records::layout::Head;
 
-// What no record expects.
-pub const DAMAGED: u32 = 1000;
+// What a recorded call answers: its count, or why it is refused; nothing where the record does not fit the call.
+pub type Answer = Option<Result<usize, Refusal>>;
 
 pub fn call(
     h: Head,
@@ -30,9 +30,9 @@ pub fn call(
         7 => crate::curves::linearize_bezier_segment(numbers, h.first, t, out),
         8 => crate::curves::fit_cubic_bezier(numbers, out),
         9 => crate::curves::is_arc_clockwise(numbers),
-        10 => simplify::simplify::simplify_polyline(numbers, t, out),
-        11 => simplify::simplify::simplify_polyline_3d(numbers, t, out),
-        12 => simplify::simplify::simplify_data(kinds, numbers, t, bytes, out),
+        10 => Some(simplify::simplify::simplify_polyline(numbers, t, out)),
+        11 => Some(simplify::simplify::simplify_polyline_3d(numbers, t, out)),
+        12 => Some(simplify::simplify::simplify_data(kinds, numbers, t, bytes, out)),
         13 => crate::circles::are_points_collinear_3d(numbers, t),
         14 => crate::circles::fit_circle_to_3_points(numbers, out),
         15 => crate::circles::fit_circle_to_points_3d(numbers, out),
@@ -45,20 +45,27 @@ pub fn call(
         20 => {
             crate::fits::fit_points_with_primitives(numbers, t, h.second, recorded, bytes, out)
         }
-        21 => course::course::fit_arcs(kinds, numbers, t, bytes, out),
-        22 => course::course::optimize_path_from_array(kinds, numbers, t, h.first == 1, bytes, out),
-        23 => lap_fit::fit::fit_file(recorded, t, bytes),
-        24 => lap_replace::replace::replace_lap(
+        21 => Some(course::course::fit_arcs(kinds, numbers, t, bytes, out)),
+        22 => Some(course::course::optimize_path_from_array(
+            kinds,
+            numbers,
+            t,
+            h.first == 1,
+            bytes,
+            out,
+        )),
+        23 => Some(lap_fit::fit::fit_file(recorded, t, bytes)),
+        24 => Some(lap_replace::replace::replace_lap(
             recorded, fitted, h.first, kinds, numbers, t, bytes,
-        ),
+        )),
         25 => crate::thinner::start(t, out),
         26 => crate::thinner::feed(t, numbers, h.first, h.second, out),
         27 => crate::thinner::close(t, numbers, h.first, h.second, out),
         28 => crate::thinner::retune(t, numbers, h.first, h.second, out),
         29 => crate::drawings::flatten_arc(kinds, numbers, t, bytes, out),
-        30 => svg::reading::read_course(recorded, bytes),
+        30 => Some(svg::reading::read_course(recorded, bytes)),
         31 => crate::straights::fewest_straights(numbers, t, h.first, h.second, out),
-        32 => lap_fit::fit::fit_hills(recorded, t, bytes),
+        32 => Some(lap_fit::fit::fit_hills(recorded, t, bytes)),
         33 => crate::sessions::ask(
             recorded,
             fitted,
@@ -71,6 +78,6 @@ pub fn call(
             out,
         ),
         34 => crate::sessions::commit(recorded, fitted, h.second as u64, h.first, kinds, t, bytes),
-        _ => Answer::Refused(DAMAGED),
+        _ => None,
     }
 }

@@ -1,7 +1,6 @@
 // Arcs drawn by Lines, on one kind, and nine numbers with the start behind them: where these are others, the record is damaged.
-use crate::calls::DAMAGED;
+use crate::calls::Answer;
 use geo::lent::point_at;
-use geo::types::Answer;
 
 pub fn flatten_arc(
     kinds: &[u8],
@@ -10,12 +9,9 @@ pub fn flatten_arc(
     lines: &mut [u8],
     out: &mut [f64],
 ) -> Answer {
-    if kinds.len() != 1 {
-        return Answer::Refused(DAMAGED);
-    }
-    if numbers.len() != 12 {
-        return Answer::Refused(DAMAGED);
+    if kinds.len() != 1 || numbers.len() != 12 {
+        return None;
     }
     let start = point_at(numbers, 3);
-    flatten::flatten::flatten_arc(kinds[0], &numbers[0..9], start, tolerance, lines, out)
+    Some(flatten::flatten::flatten_arc(kinds[0], &numbers[0..9], start, tolerance, lines, out))
 }

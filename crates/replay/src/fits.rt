@@ -1,8 +1,6 @@
 // Fits of points, whose answer has more than a count: the worst steps, and what else is beside it, are compared here.
-use crate::calls::DAMAGED;
+use crate::calls::Answer;
 use file::words::half_at;
-use fitting::fitting::Primitives;
-use geo::types::Answer;
 
 // The most places of a list of worst steps.
 const PLACES: usize = 4800;
@@ -10,17 +8,13 @@ const PLACES: usize = 4800;
 // What stands at each of them before a call: the index of no step.
 const NO_STEP: u32 = 4000000000;
 
-fn wide(n: u32) -> u64 {
-    n as u64
-}
-
 // Whether a list holds the numbers of a record, four bytes each.
 fn is_list(expected: &[u8], list: &[u32]) -> bool {
     if expected.len() / 4 < list.len() {
         return false;
     }
     for i in 0..list.len() {
-        if half_at(expected, 4 * i) != wide(list[i]) {
+        if half_at(expected, 4 * i) != u64::from(list[i]) {
             return false;
         }
     }
@@ -41,10 +35,11 @@ fn fit_range(
     let a = fitting::fitting::fit_points_recursive(
         points, tolerance, start, end, kinds, nums, worst,
     );
-    if !is_list(expected, worst) {
-        return Answer::Refused(DAMAGED);
+    if is_list(expected, worst) {
+        Some(a)
+    } else {
+        None
     }
-    a
 }
 
 // It is as long as the record's.
@@ -59,7 +54,7 @@ pub fn fit_points_recursive(
 ) -> Answer {
     let n = expected.len() / 4;
     if PLACES < n {
-        return Answer::Refused(DAMAGED);
+        return None;
     }
     let mut worst = [NO_STEP; PLACES];
     fit_range(
@@ -86,9 +81,18 @@ fn fit_all(
 ) -> Answer {
     let a = fitting::fitting::fit_points_with_primitives(points, tolerance, kinds, nums, worst);
     if !is_list(expected, worst) {
-        return Answer::Refused(DAMAGED);
+        return None;
     }
-    answer_with(a, ranges)
+    match a {
+        Ok(fit) => {
+            if fit.ranges == ranges {
+                Some(Ok(fit.count))
+            } else {
+                None
+            }
+        }
+        Err(cause) => Some(Err(cause)),
+    }
 }
 
 pub fn fit_points_with_primitives(
@@ -101,7 +105,7 @@ pub fn fit_points_with_primitives(
 ) -> Answer {
     let n = expected.len() / 4;
     if PLACES < n {
-        return Answer::Refused(DAMAGED);
+        return None;
     }
     let mut worst = [NO_STEP; PLACES];
     fit_all(
@@ -113,17 +117,4 @@ pub fn fit_points_with_primitives(
         nums,
         &mut worst[0..n],
     )
-}
-
-// The count, where the ranges are these.
-fn answer_with(a: Primitives, expected: usize) -> Answer {
-    match a {
-        Primitives::Fitted { count, ranges } => {
-            if ranges != expected {
-                return Answer::Refused(DAMAGED);
-            }
-            Answer::Written(count)
-        }
-        Primitives::Refused(n) => Answer::Refused(n),
-    }
 }

@@ -16,8 +16,8 @@ mod thinner;
 ghost use Rattle.std.specs.Prelude.{◌≡◌, ◌≤◌, length};
 ghost use Rattle.records.specs.Record.{Whole, body_bytes};
 
+use crate::calls::Answer;
 use buffers::read_full;
-use geo::types::Answer;
 use records::layout::{
     BEFORE, BEFORE_BYTE, BODY_SIZE, BYTES, HEAD_SIZE, Head, NUMBERS, ROOM, body_size, head_of,
     is_answered, is_output, is_whole,
@@ -29,7 +29,7 @@ use std::io::Read;
 // The size of small outputs.
 const SMALL: usize = 1000;
 
-// Makes the call of a record. Kinds and files are lent as they stand in the record.
+// Makes the call of a record, where it fits the call. Kinds and files are lent as they stand in the record.
 fn answer_of(h: Head, body: &[u8], out: &mut [f64], bytes: &mut [u8]) -> Answer
     requires whole { Whole h × (body_bytes h ≤ length body.now) }
     requires room_in_bounds { (h.room ≤ length out.old) × (h.space ≤ length bytes.old) }
@@ -59,11 +59,10 @@ fn agrees_in(h: Head, body: &[u8], out: &mut [f64], bytes: &mut [u8]) -> bool
     requires whole { Whole h × (body_bytes h ≤ length body.now) }
     requires room_in_bounds { (h.room ≤ length out.old) × (h.space ≤ length bytes.old) }
 {
-    let a = answer_of(h, body, out, bytes);
-    if !is_answered(h, a) {
-        return false;
+    match answer_of(h, body, out, bytes) {
+        Some(a) => is_answered(h, a) && is_output(h, body, out, bytes),
+        None => false,
     }
-    is_output(h, body, out, bytes)
 }
 
 fn agrees_in_large(h: Head, body: &[u8]) -> bool
@@ -79,10 +78,7 @@ fn agrees_in_large(h: Head, body: &[u8]) -> bool
 fn agrees(h: Head, body: &[u8]) -> bool
     requires { Whole h × (body_bytes h ≤ length body.now) }
 {
-    if SMALL < h.room {
-        return agrees_in_large(h, body);
-    }
-    if SMALL < h.space {
+    if SMALL < h.room || SMALL < h.space {
         return agrees_in_large(h, body);
     }
     let mut out = [BEFORE; SMALL];

@@ -2,10 +2,10 @@
 // part; its lap and its edit number have to be those that it was asked with, and the count is that of the lap's commands and 1,024 times
 // that of the next one's. A commit is lent, where kinds are, the ticket's edit number and both its counts, a word each, and then the part;
 // written is the file, and the session has to be one edit further, or as it came where the commit is refused.
-use crate::calls::DAMAGED;
+use crate::calls::Answer;
 use file::words::word_at;
-use geo::types::Answer;
-use lap_session::session::{Asked, Session, Ticket};
+use geo::refusal::Refusal;
+use lap_session::session::{Session, Ticket};
 
 // The greatest edit number that can be lent.
 const GREATEST: u64 = 4294967295;
@@ -16,29 +16,16 @@ const COUNTS: usize = 1024;
 // The bytes of a ticket that stand before a part.
 const TICKET_BYTES: usize = 24;
 
-fn wide(n: u32) -> u64 {
-    n as u64
-}
-
 // What a ticket comes to, of a lap and an edit number.
 fn told(ticket: Ticket, lap: usize, edits: u64, out: &mut [f64]) -> Answer {
-    if out.len() < 1 {
-        return Answer::Refused(DAMAGED);
+    if out.len() < 1 || ticket.lap != lap || u64::from(ticket.edit) != edits {
+        return None;
     }
-    if ticket.lap != lap {
-        return Answer::Refused(DAMAGED);
-    }
-    if wide(ticket.edit) != edits {
-        return Answer::Refused(DAMAGED);
-    }
-    if COUNTS <= ticket.count {
-        return Answer::Refused(DAMAGED);
-    }
-    if COUNTS <= ticket.next {
-        return Answer::Refused(DAMAGED);
+    if COUNTS <= ticket.count || COUNTS <= ticket.next {
+        return None;
     }
     out[0] = ticket.tolerance;
-    Answer::Written(ticket.count + COUNTS * ticket.next)
+    Some(Ok(ticket.count + COUNTS * ticket.next))
 }
 
 pub fn ask(
@@ -53,39 +40,26 @@ pub fn ask(
     out: &mut [f64],
 ) -> Answer {
     if GREATEST < edits {
-        return Answer::Refused(DAMAGED);
+        return None;
     }
     let session = Session {
         edits: edits as u32,
     };
-    let a = lap_session::session::ask_lap(
+    match lap_session::session::ask_lap(
         recorded, fitted, session, lap, kinds, nums, tolerance, buffer,
-    );
-    match a {
-        Asked::Given(ticket) => told(ticket, lap, edits, out),
-        Asked::Refused(n) => Answer::Refused(n),
+    ) {
+        Ok(ticket) => told(ticket, lap, edits, out),
+        Err(cause) => Some(Err(cause)),
     }
 }
 
 // A commit's answer, where the session is right behind it.
-fn answer_at(a: Answer, before: u64, after: u64) -> Answer {
-    match a {
-        Answer::Written(n) => {
-            if after <= before {
-                return Answer::Refused(DAMAGED);
-            }
-            if after - before != 1 {
-                return Answer::Refused(DAMAGED);
-            }
-            Answer::Written(n)
-        }
-        Answer::Refused(n) => {
-            if after != before {
-                return Answer::Refused(DAMAGED);
-            }
-            Answer::Refused(n)
-        }
-    }
+fn answer_at(a: Result<usize, Refusal>, before: u64, after: u64) -> Answer {
+    let edited = match a {
+        Ok(_) => before < after && after - before == 1,
+        Err(_) => after == before,
+    };
+    if edited { Some(a) } else { None }
 }
 
 pub fn commit(
@@ -98,14 +72,11 @@ pub fn commit(
     out: &mut [u8],
 ) -> Answer {
     if lent.len() < TICKET_BYTES {
-        return Answer::Refused(DAMAGED);
+        return None;
     }
     let edit = word_at(lent, 0);
-    if GREATEST < edit {
-        return Answer::Refused(DAMAGED);
-    }
-    if GREATEST < edits {
-        return Answer::Refused(DAMAGED);
+    if GREATEST < edit || GREATEST < edits {
+        return None;
     }
     let ticket = Ticket {
         lap,
@@ -114,19 +85,10 @@ pub fn commit(
         count: word_at(lent, 8) as usize,
         next: word_at(lent, 16) as usize,
     };
-    let session = Session {
+    let mut session = Session {
         edits: edits as u32,
     };
-    let c = lap_session::session::commit_lap(
-        ticket,
-        session,
-        recorded,
-        fitted,
-        &lent[TICKET_BYTES..],
-        out,
-    );
-    let a = c.answer;
-    let next = c.session;
-    let after = next.edits;
-    answer_at(a, edits, wide(after))
+    let part = &lent[TICKET_BYTES..];
+    let a = lap_session::session::commit_lap(ticket, &mut session, recorded, fitted, part, out);
+    answer_at(a, edits, u64::from(session.edits))
 }

@@ -1,8 +1,7 @@
 // The fewest straights: the pairs tested have to be those of the record. The count is that of the Lines, and 256 times the lower
 // bound; each is at most 255.
-use crate::calls::DAMAGED;
-use fewest::fewest::{Straights, Task};
-use geo::types::Answer;
+use crate::calls::Answer;
+use fewest::fewest::Task;
 
 pub fn fewest_straights(
     points: &[f64],
@@ -11,24 +10,14 @@ pub fn fewest_straights(
     expected: usize,
     out: &mut [f64],
 ) -> Answer {
-    let a = fewest::fewest::fewest_straights(points, tolerance, budget as u64, out);
-    match a {
-        Straights::Are {
-            count,
-            tested,
-            bound,
-        } => {
-            if tested != expected as u64 {
-                return Answer::Refused(DAMAGED);
+    match fewest::fewest::fewest_straights(points, tolerance, budget as u64, out) {
+        Ok(counts) => {
+            let most = Task::MOST_POINTS;
+            if counts.tested != expected as u64 || most <= counts.count || most <= counts.bound {
+                return None;
             }
-            if Task::MOST_POINTS <= count {
-                return Answer::Refused(DAMAGED);
-            }
-            if Task::MOST_POINTS <= bound {
-                return Answer::Refused(DAMAGED);
-            }
-            Answer::Written(count + Task::MOST_POINTS * bound)
+            Some(Ok(counts.count + most * counts.bound))
         }
-        Straights::Refused(n) => Answer::Refused(n),
+        Err(cause) => Some(Err(cause)),
     }
 }

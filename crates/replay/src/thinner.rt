@@ -3,19 +3,18 @@
 // times four times that of the points, with 2 where the thinner is closed.
 ghost use Rattle.std.specs.Prelude.{◌≤◌, length};
 
-use crate::calls::DAMAGED;
+use crate::calls::Answer;
 use geo::lent::{point_at, put_point};
-use geo::types::Answer;
-use live::live::{End, Fed, Live};
+use geo::refusal::Refusal;
+use geo::types::Point3D;
+use live::live::Live;
 
 // The slots of a state, from the front of the numbers.
 fn slots_of(numbers: &[f64]) -> [f64; Live::NUMBERS]
     requires { 195 ≤ length numbers.now }
 {
     let mut points = [0.0; Live::NUMBERS];
-    for i in 0..Live::NUMBERS {
-        points[i] = numbers[i];
-    }
+    points.copy_from_slice(&numbers[..Live::NUMBERS]);
     points
 }
 
@@ -23,17 +22,12 @@ fn slots_of(numbers: &[f64]) -> [f64; Live::NUMBERS]
 fn put_slots(points: &[f64; Live::NUMBERS], out: &mut [f64])
     requires { 195 ≤ length out.old }
 {
-    for i in 0..Live::NUMBERS {
-        out[i] = points[i];
-    }
+    out[..Live::NUMBERS].copy_from_slice(points);
 }
 
 // What the count tells of a state; of one whose count is out of bounds, nothing.
 fn told(state: Live, ends: usize) -> usize {
-    if state.count > Live::SLOTS {
-        return 0;
-    }
-    if ends > Live::MOST {
+    if state.count > Live::SLOTS || ends > Live::MOST {
         return 0;
     }
     if state.closed {
@@ -42,53 +36,52 @@ fn told(state: Live, ends: usize) -> usize {
     256 * state.count + ends
 }
 
-// Writes what a point fed or a close comes to.
-fn written(fed: Fed, out: &mut [f64]) -> Answer {
+// Writes what a point fed or a close comes to: the state afterwards, and the end that was handed out.
+fn written(state: Live, handed: Result<Option<Point3D>, Refusal>, out: &mut [f64]) -> Answer {
     if out.len() < Live::NUMBERS + 3 {
-        return Answer::Refused(DAMAGED);
+        return None;
     }
-    let state = fed.state;
     let points = state.points;
-    let end = fed.end;
-    match end {
-        End::At(p) => {
+    match handed {
+        Ok(Some(p)) => {
             put_slots(&points, out);
             put_point(out, Live::NUMBERS, p);
-            Answer::Written(told(state, 1))
+            Some(Ok(told(state, 1)))
         }
-        End::Nothing => {
+        Ok(None) => {
             put_slots(&points, out);
-            Answer::Written(told(state, 0))
+            Some(Ok(told(state, 0)))
         }
-        End::Refused(r) => Answer::Refused(r),
+        Err(cause) => Some(Err(cause)),
     }
 }
 
 pub fn start(tolerance: f64, out: &mut [f64]) -> Answer {
     if out.len() < Live::NUMBERS {
-        return Answer::Refused(DAMAGED);
+        return None;
     }
-    let s = Live::start(tolerance);
-    if s.refused != 0 {
-        return Answer::Refused(s.refused);
+    match Live::start(tolerance) {
+        Ok(state) => {
+            let points = state.points;
+            put_slots(&points, out);
+            Some(Ok(told(state, 0)))
+        }
+        Err(cause) => Some(Err(cause)),
     }
-    let state = s.state;
-    let points = state.points;
-    put_slots(&points, out);
-    Answer::Written(told(state, 0))
 }
 
 pub fn feed(tolerance: f64, numbers: &[f64], count: usize, flag: usize, out: &mut [f64]) -> Answer {
     if numbers.len() < Live::NUMBERS + 3 {
-        return Answer::Refused(DAMAGED);
+        return None;
     }
-    let state = Live {
+    let mut state = Live {
         tolerance,
         points: slots_of(numbers),
         count,
         closed: flag != 0,
     };
-    written(state.feed(point_at(numbers, Live::SLOTS)), out)
+    let handed = state.feed(point_at(numbers, Live::SLOTS));
+    written(state, handed, out)
 }
 
 pub fn close(
@@ -99,15 +92,16 @@ pub fn close(
     out: &mut [f64],
 ) -> Answer {
     if numbers.len() < Live::NUMBERS {
-        return Answer::Refused(DAMAGED);
+        return None;
     }
-    let state = Live {
+    let mut state = Live {
         tolerance,
         points: slots_of(numbers),
         count,
         closed: flag != 0,
     };
-    written(state.close(), out)
+    let handed = state.close();
+    written(state, handed, out)
 }
 
 pub fn retune(
@@ -117,27 +111,21 @@ pub fn retune(
     flag: usize,
     out: &mut [f64],
 ) -> Answer {
-    if numbers.len() < Live::NUMBERS + 1 {
-        return Answer::Refused(DAMAGED);
+    if numbers.len() < Live::NUMBERS + 1 || out.len() < Live::NUMBERS {
+        return None;
     }
-    if out.len() < Live::NUMBERS {
-        return Answer::Refused(DAMAGED);
-    }
-    let state = Live {
+    let mut state = Live {
         tolerance,
         points: slots_of(numbers),
         count,
         closed: flag != 0,
     };
-    let r = state.retune(numbers[Live::NUMBERS], &mut out[Live::NUMBERS..]);
-    let next = r.state;
-    let points = next.points;
-    let a = r.answer;
-    match a {
-        Answer::Written(n) => {
+    match state.retune(numbers[Live::NUMBERS], &mut out[Live::NUMBERS..]) {
+        Ok(n) => {
+            let points = state.points;
             put_slots(&points, out);
-            Answer::Written(told(next, n))
+            Some(Ok(told(state, n)))
         }
-        Answer::Refused(n) => Answer::Refused(n),
+        Err(cause) => Some(Err(cause)),
     }
 }

@@ -19,12 +19,10 @@ fn differences(s: &[u8], n: usize) -> u64
     requires { n * 16 ≤ length s.now }
 {
     let mut differ: u64 = 0;
-    let mut i = 0;
-    while i < n {
+    for i in 0..n {
         if !is_same(word_at(s, i * 16), word_at(s, i * 16 + 8)) {
             differ += 1;
         }
-        i += 1;
     }
     differ
 }

@@ -14,9 +14,9 @@ use Rattle.floats.specs.Ops.{◌⊕◌, ◌⊖◌, ◌⊗◌, ◌⊘◌, ◌≺�
 use Rattle.floats.proofs.Order.{either, clash, lt_gap}
 use Rattle.geo.specs.declared.types.Point3D.{Point3D}
 use Rattle.segment.specs.declared.segment.Segment.{Segment}
-use Rattle.segment.specs.declared.space.Climb.{Climb}
-use Rattle.segment.specs.Segment.{Axis, plane, spatial, sum_from, sum_over, dot_on, degenerate, parameter_of, off_foot, from_foot, segment_on, segment_sq, space_sq}
-use Rattle.segment.specs.Saved.{EachOn, from_end, besides, saved_on, segment_of, from_foot_of, along_of, to_segment, is_inside, Laid, climb_of, climb_foot, to_climb, LaidClimb}
+use Rattle.segment.specs.Segment.{Axis, sum_from, sum_over, dot_on, degenerate, parameter_of, off_foot, from_foot, segment_on}
+use Rattle.segment.specs.Axes.{EachOn}
+use Rattle.segment.specs.Saved.{from_end, besides, saved_on, is_inside, Laid}
 use Rattle.segment.proofs.Zeros.{none, round_none, Twin, twin, twin_square}
 use Rattle.segment.proofs.Division.{before-start, past_end, strictly_inside, foot_before, foot_past}
 
@@ -166,37 +166,51 @@ module _ (cs : List Axis) (a b p : Point3D) (held : EachOn cs (λ c. T (fits bin
   unfolding segment_on
   saved_is_clamped = ⊎_elim (λ h. rw h) (λ h. rw h (level-besides h)) (either (square ≺ degenerate))
 
--- what the code works out, in x and y and in x, y and z
-in_plane : (a b p : Point3D) → to_segment (segment_of a b) p ≡ saved_on plane a b p
-unfolding to_segment segment_of from_foot_of
-in_plane a b p = refl
+-- ---- What is worked out of a segment that is laid is the measure, wherever the foot lies.
+module _ {V : Type 0} {cs : List Axis} {make : (Axis → Float) → V} {a b : Point3D} {s : Segment V} (l : Laid cs make a b s) where
+  pub start-is : s.start ≡ make (λ c. c a)
+  start-is = ap (λ (s : Segment V). s.start) l.is
 
-in_space : (a b p : Point3D) → to_climb (climb_of a b) p ≡ saved_on spatial a b p
-unfolding to_climb climb_of climb_foot
-in_space a b p = refl
+  pub chord-is : s.chord ≡ make (λ c. c b ⊖ c a)
+  chord-is = ap (λ (s : Segment V). s.chord) l.is
 
--- What is worked out of a segment that is laid is the measure.
-pub by_segment : (s : Segment) (p : Point3D) (d : Float) → d ≡ to_segment s p → (a b : Point3D) → Laid a b s → d ≡ segment_sq a b p
-unfolding segment_sq
-by_segment s p d e a b l = e ∙ ap (λ (s : Segment). to_segment s p) l.is ∙ in_plane a b p ∙ saved_is_clamped plane a b p (l.held_x, (l.held-y, tt))
+  pub end-is : s.end ≡ make (λ c. c a ⊕ (c b ⊖ c a))
+  end-is = ap (λ (s : Segment V). s.end) l.is
 
-pub by_climb : (s : Climb) (p : Point3D) (d : Float) → d ≡ to_climb s p → (a b : Point3D) → LaidClimb a b s → d ≡ space_sq a b p
-unfolding space_sq
-by_climb s p d e a b l = e ∙ ap (λ (s : Climb). to_climb s p) l.is ∙ in_space a b p ∙ saved_is_clamped spatial a b p (l.held_x, (l.held-y, (l.held_z, tt)))
+  square-is : s.square ≡ dot_on cs a b b
+  square-is = ap (λ (s : Segment V). s.square) l.is
 
--- From the foot strictly inside.
+  level-is : s.level ≡ +0 ⊗ dot_on cs a b b
+  level-is = ap (λ (s : Segment V). s.level) l.is
+
+  module _ (p : Point3D) where
+    clamped : (d : Float) → d ≡ saved_on cs a b p → d ≡ segment_on cs a b p
+    clamped d e = e ∙ saved_is_clamped cs a b p l.held
+
+    pub on-start : {d : Float} → (s.square ≺ degenerate) ≡ true → d ≡ dot_on cs a p p → d ≡ segment_on cs a b p
+    on-start h e = clamped _ (e ∙ sym (rw (rw square-is at h)))
+
+    module _ {along : Float} (n : (s.square ≺ degenerate) ≡ false) (g : along ≡ dot_on cs a p b) where
+      pub inside : {d : Float} → (s.level ≺ along) ≡ true → (along ≺ s.square) ≡ true → d ≡ from_foot cs a b p (along ⊘ s.square) → d ≡ segment_on cs a b p
+      inside h k e =
+          clamped _ (e ∙ rw (g, square-is) (sym (rw (rw square-is at n, rw (level-is, g) at h, rw (square-is, g) at k))))
+
+      pub past : {d : Float} → (s.level ≺ along) ≡ true → (along ≺ s.square) ≡ false → d ≡ from_end cs a b p → d ≡ segment_on cs a b p
+      past h k e = clamped _ (e ∙ sym (rw (rw square-is at n, rw (level-is, g) at h, rw (square-is, g) at k)))
+
+      pub before : {d : Float} → (s.level ≺ along) ≡ false → (along ≼ s.level) ≡ true → d ≡ dot_on cs a p p → d ≡ segment_on cs a b p
+      before h k e = clamped _ (e ∙ sym (rw (rw square-is at n, rw (level-is, g) at h, rw (level-is, g) at k)))
+
+      pub nowhere : {d : Float} → (s.level ≺ along) ≡ false → (along ≼ s.level) ≡ false → d ≡ from_foot cs a b p (parameter_of along s.square) → d ≡ segment_on cs a b p
+      nowhere h k e =
+          clamped _ (e ∙ rw (g, square-is) (sym (rw (rw square-is at n, rw (level-is, g) at h, rw (level-is, g) at k))))
+
 three_tests : (a b c : Bool) → (if a then false else if b then c else false) ≡ true → (a ≡ false) × (b ≡ true) × (c ≡ true)
 three_tests true b c h = clash h
 three_tests false true c h = (refl, refl, h)
 three_tests false false c h = clash h
 
-inside_is : (s : Segment) (p : Point3D) → is_inside s (along_of s p) ≡ true → from_foot_of s p (along_of s p ⊘ s.square) ≡ to_segment s p
-unfolding is_inside to_segment
-inside_is s p h =
-    let k = three_tests (s.square ≺ degenerate) (s.level ≺ along_of s p) (along_of s p ≺ s.square) h in
-    rw (k.0, k.1, k.2)
-
-pub by_foot : (s : Segment) (p : Point3D) (along d : Float) → along ≡ along_of s p → true ≡ is_inside s along → d ≡ from_foot_of s p (along ⊘ s.square) → (a b : Point3D) → Laid a b s
-    → d ≡ segment_sq a b p
-by_foot s p along d e h k =
-    by_segment s p d (k ∙ ap (λ (x : Float). from_foot_of s p (x ⊘ s.square)) e ∙ inside_is s p (sym (h ∙ ap (is_inside s) e)))
+-- a foot that the code found inside
+pub tests_of : (square level along : Float) → true ≡ is_inside square level along → ((square ≺ degenerate) ≡ false) × ((level ≺ along) ≡ true) × ((along ≺ square) ≡ true)
+unfolding is_inside
+tests_of square level along h = three_tests (square ≺ degenerate) (level ≺ along) (along ≺ square) (sym h)

@@ -1,2 +1,3 @@
 pub mod Segment
+pub mod Axes
 pub mod Saved

@@ -15,14 +15,14 @@ use lib.Ieee.{Float}
 use Rattle.floats.specs.Ops.{◌≺◌, +0}
 use Rattle.floats.proofs.Order.{either, or_true}
 use Rattle.geo.specs.declared.types.Command.{Command}
-use Rattle.geo.specs.Lent.{flat}
 use Rattle.farthest.specs.declared.farthest.Farthest.{Farthest}
 use Rattle.farthest.specs.Measure.{Measure}
 use Rattle.farthest.specs.Farthest.{farthest_in}
 use Rattle.farthest.specs.Ends.{is_move, command_sq}
 use Rattle.simplify.specs.Thin.{kept_by, kept_in, thinned, thinned_points}
 use Rattle.simplify.specs.Data.{among, select, kept_commands, thinned_commands}
-use Rattle.simplify.specs.Flags.{marked, Copied, CopiedCommands}
+use Rattle.simplify.specs.Flags.{marked}
+use Rattle.simplify.specs.Track.{flagged, kept_of, never}
 use Rattle.simplify.specs.Words.{Ascending}
 use Rattle.simplify.proofs.Kept.{kept_yes, kept_no, thinned-ascending}
 
@@ -128,36 +128,25 @@ module _ {P : Type 0} (m : Measure P) (limit : Float) (pos : (limit ≺ +0) ≡ 
       ∙ marked_flag (thinned m limit at n) (replicate size false) 0 n j (thinned-ascending m limit pos at n) (rw length-replicate room)
       ∙ rw (get_or-replicate size j false false (omega arith)) (or_none (among j (thinned m limit at n)))
 
-  -- and so the flags give the kept indices back
-  pub flags_kept : select (λ j. get_or (set l (n - 1) true) j false) n 0 ≡ thinned m limit at n
-  flags_kept =
-      select-among (λ j. get_or (set l (n - 1) true) j false) n 0 n (thinned m limit at n) (omega arith) (thinned-ascending m limit pos at n) (λ j g h. flag_kept j h)
+  -- and so what the flags keep, and what is always kept, is the list, thinned
+  pub flagged_kept : (always : P → Bool) (k : ℕ) → n ≡ k → flagged always at (set l (n - 1) true) k ≡ kept_of always m limit at k
+  flagged_kept always k z =
+      subst (λ (k : ℕ). flagged always at (set l (n - 1) true) k ≡ kept_of always m limit at k) z
+      (ap (map at) (select-same (λ j. always (at j) || get_or (set l (n - 1) true) j false) (λ j. always (at j) || among j (thinned m limit at n)) n 0 n (omega arith)
+      (λ j h. ap (λ (b : Bool). always (at j) || b) (flag_kept j h))))
 
-  -- what was copied by the flags is the list, thinned
-  pub copied_thinned : {B : Type 0} (row : P → List B) (out out' : List B) (r : ℕ)
-      → Copied row (map at (select (λ j. get_or (set l (n - 1) true) j false) n 0)) out out' r → Copied row (thinned_points m limit at n) out out' r
-  unfolding thinned_points
-  copied_thinned row out out' r c = subst (λ (ks : List ℕ). Copied row (map at ks) out out' r) flags_kept c
+-- no items
+pub none-kept : {P : Type 0} (always : P → Bool) (m : Measure P) (limit : Float) (at : ℕ → P) (n : ℕ) → n ≡ 0 → kept_of always m limit at n ≡ []
+unfolding select
+none-kept always m limit at n h = rw h
 
--- no points
-pub copied_none : {P B : Type 0} (m : Measure P) (limit : Float) (at : ℕ → P) (n : ℕ) (row : P → List B) (out : List B) → n ≡ 0
-    → Copied row (thinned_points m limit at n) out out 0
-unfolding thinned_points thinned flat
-copied_none m limit at n row out h = rw h record { count = refl; items = refl }
+-- where none is always kept, those kept are the kept indices
+pub points-kept : {P : Type 0} (m : Measure P) (limit : Float) → (limit ≺ +0) ≡ false → (at : ℕ → P) (n : ℕ) → kept_of never m limit at n ≡ thinned_points m limit at n
+unfolding thinned_points
+points-kept m limit pos at n =
+    ap (map at) (select-among (λ i. among i (thinned m limit at n)) n 0 n (thinned m limit at n) (omega arith) (thinned-ascending m limit pos at n) (λ j g h. refl))
 
--- commands: what was copied by the flags and of the Moves is the list, thinned
-module _ (limit : Float) (pos : (limit ≺ +0) ≡ false) (at : ℕ → Command) (n : ℕ) (l : List Bool) where
-  pub copied_commands : (size : ℕ) → 0 < n → n ≤ size → l ≡ marked (kept_in command_sq limit at 0 (n - 1)) (set (replicate size false) 0 true)
-      → (ks ks' : List ℕ) (ns ns' : List Float) (r : ℕ)
-      → CopiedCommands (map at (select (λ j. is_move (at j) || get_or (set l (n - 1) true) j false) n 0)) ks ks' ns ns' r
-      → CopiedCommands (thinned_commands limit at n) ks ks' ns ns' r
-  unfolding thinned_commands kept_commands
-  copied_commands size some room e ks ks' ns ns' r c =
-      subst (λ (is : List ℕ). CopiedCommands (map at is) ks ks' ns ns' r)
-      (select-same (λ j. is_move (at j) || get_or (set l (n - 1) true) j false) (λ j. is_move (at j) || among j (thinned command_sq limit at n)) n 0 n (omega arith)
-      (λ j h. ap (λ (b : Bool). is_move (at j) || b) (flag_kept command_sq limit pos at size n some room l e j h))) c
-
-pub copied_no_commands : (limit : Float) (at : ℕ → Command) (n : ℕ) (ks : List ℕ) (ns : List Float) → n ≡ 0
-    → CopiedCommands (thinned_commands limit at n) ks ks ns ns 0
-unfolding thinned_commands kept_commands select flat
-copied_no_commands limit at n ks ns h = rw h record { count = refl; kinds = refl; numbers = refl }
+-- of commands every Move is
+pub commands-kept : (limit : Float) (at : ℕ → Command) (n : ℕ) → kept_of is_move command_sq limit at n ≡ thinned_commands limit at n
+unfolding thinned_commands kept_commands
+commands-kept limit at n = refl

@@ -4,7 +4,6 @@ pub mod Near
 pub mod Again
 pub mod Twice
 pub mod Flags
-pub mod Copy
-pub mod InPlace
+pub mod Close
 pub mod Accepted
 pub mod Thinning

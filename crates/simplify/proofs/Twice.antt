@@ -138,7 +138,7 @@ module _ {P : Type 0} (f : Form P) (v : Faithful f) (s : List Float) (t : Float)
       → refusal (point_rows f.width lent_again t room') ≡ 0
   unfolding thinned_points whole
   rows-again room room' z w l =
-      let a = points-accepted f.width s t room 0 z refl in
+      let a = points-accepted f.width s t room z in
       let few = points_length f.measure (t ⊗ t) (square_not_negative t) (f.read s) n in
       let enough : length kept ≤ room' / f.width = (le-div_iff_mul-le v.some).1 (subst (λ (k : ℕ). k ≤ room') (mul_comm f.width (length kept)) l) in
       rows_pass f.width lent_again t room'

@@ -4,3 +4,5 @@ pub mod Simplify
 pub mod Twice
 pub mod Words
 pub mod Flags
+pub mod Track
+pub mod Placed

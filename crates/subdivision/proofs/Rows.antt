@@ -8,14 +8,13 @@ use Rattle.floats.specs.Ops.{◌⊗◌}
 use Rattle.geo.specs.declared.types.Point.{Point}
 use Rattle.geo.specs.declared.types.Point3D.{Point3D}
 use Rattle.geo.specs.declared.types.CubicBezier.{CubicBezier}
-use Rattle.geo.specs.Vector.{cubic}
 use Rattle.geo.specs.Outcome.{refusal, unless}
 use Rattle.geo.proofs.Rows.{row_passed}
-use Rattle.subdivision.specs.declared.subdivision.Tolerance.{Tolerance}
-use Rattle.subdivision.specs.Flatten.{subdivided, flattened}
-use Rattle.subdivision.specs.Calls.{most_depth, adaptive_rows, adaptive_call, tolerance_of, segment_rows, segment_call}
+use Rattle.std.specs.Prelude.{Option}
+use Rattle.subdivision.specs.Flatten.{flattened}
+use Rattle.subdivision.specs.Calls.{most_depth, adaptive_rows, tolerance_of, segment_rows, segment_call}
 
-pub adaptive_passed : (q : CubicBezier) (limit : Float) (depth room : ℕ) → 0 ≡ refusal (adaptive_rows q limit depth room) → (depth ≤ most_depth) × (2 * (1 + 2 ^ depth) ≤ room)
+pub adaptive_passed : (q : CubicBezier Point) (limit : Float) (depth room : ℕ) → 0 ≡ refusal (adaptive_rows q limit depth room) → (depth ≤ most_depth) × (2 * (1 + 2 ^ depth) ≤ room)
 unfolding adaptive_rows
 adaptive_passed q limit depth room h =
     let a = row_passed 0 _ _ h in
@@ -35,13 +34,7 @@ segment_passed p0 c1 c2 p1 t room h =
     ltb-false room (3 * (1 + 2 ^ most_depth)) d.0
 
 -- with the tolerance's value worked out
-pub segment_at : (p0 c1 c2 p1 : Point3D) (tol : Tolerance) (t : Float) (room : ℕ) → t ≡ tolerance_of tol
+pub segment_at : (p0 c1 c2 p1 : Point3D) (tol : Option Float) (t : Float) (room : ℕ) → t ≡ tolerance_of tol
     → unless (refusal (segment_rows p0 c1 c2 p1 t room)) (p0 ∷ flattened most_depth (t ⊗ t) p0 c1 c2 p1) ≡ segment_call p0 c1 c2 p1 tol room
 unfolding segment_call
 segment_at p0 c1 c2 p1 tol t room e = ap (λ (x : Float). unless (refusal (segment_rows p0 c1 c2 p1 x room)) (p0 ∷ flattened most_depth (x ⊗ x) p0 c1 c2 p1)) e
-
--- with the curve made
-pub adaptive_at : (p0 c1 c2 p1 : Point) (q : CubicBezier) (limit : Float) (depth room : ℕ) → q ≡ cubic p0 c1 c2 p1
-    → unless (refusal (adaptive_rows q limit depth room)) (p0 ∷ subdivided depth limit q) ≡ adaptive_call p0 c1 c2 p1 limit depth room
-unfolding adaptive_call
-adaptive_at p0 c1 c2 p1 q limit depth room e = ap (λ (x : CubicBezier). unless (refusal (adaptive_rows x limit depth room)) (p0 ∷ subdivided depth limit x)) e

@@ -6,9 +6,10 @@ use Rattle.floats.specs.Float.{max_of}
 use Rattle.geo.specs.declared.types.Point.{Point}
 use Rattle.geo.specs.declared.types.Point3D.{Point3D}
 use Rattle.geo.specs.declared.types.CubicBezier.{CubicBezier}
-use Rattle.geo.specs.Vector.{length_sq, perp_dot, distance_sq, length_sq3, cross3, midpoint}
+use Rattle.geo.specs.Vector.{cubic, length_sq, perp_dot, distance_sq, length_sq3, cross3, midpoint}
 use Rattle.subdivision.specs.declared.subdivision.Chord.{Chord}
-use Rattle.bezier.specs.Curve.{square, left_part, right_part}
+use Rattle.bezier.specs.declared.bezier.Halves.{Halves}
+use Rattle.bezier.specs.Curve.{square, parts_at}
 
 -- a chord whose square is below 1e-9 counts as a point
 abbrev pub point_sq : Float
@@ -29,18 +30,12 @@ off_chord k c =
     else square (perp_dot k.vx k.vy (c.x ⊖ k.start.x) (c.y ⊖ k.start.y)) ⊘ k.norm
 
 -- both controls are at most so far off the chord; limit is squared
-unfoldable pub is_flat : CubicBezier → Float → Bool
+unfoldable pub is_flat : CubicBezier Point → Float → Bool
 unfolding curve_chord off_chord
 is_flat q limit = (off_chord (curve_chord q.0 q.3) q.1 ≼ limit) && (off_chord (curve_chord q.0 q.3) q.2 ≼ limit)
 
--- the ends of the parts, the left half's first
-unfoldable pub subdivided : ℕ → Float → CubicBezier → List Point
-unfolding is_flat left_part right_part
-subdivided zero limit q = q.3 ∷ []
-subdivided (suc depth) limit q =
-    if is_flat q limit
-    then q.3 ∷ []
-    else (subdivided depth limit (left_part q half) ++ subdivided depth limit (right_part q half))
+abbrev pub halves : CubicBezier Point → Halves Point
+halves q = parts_at q half
 
 -- ---- in space
 unfoldable pub minus : Point3D → Point3D → Point3D
@@ -61,16 +56,31 @@ flatness_sq a b c d =
     then max_of (norm_sq (minus b a)) (norm_sq (minus c a))
     else max_of (perpendicular_sq b a (minus d a) (norm_sq (minus d a))) (perpendicular_sq c a (minus d a) (norm_sq (minus d a)))
 
-unfoldable pub flattened : ℕ → Float → Point3D → Point3D → Point3D → Point3D → List Point3D
-unfolding flatness_sq midpoint
-flattened zero limit a b c d = d ∷ []
-flattened (suc depth) limit a b c d =
-    if flatness_sq a b c d ≼ limit
-    then d ∷ []
-    else (let ab = midpoint a b in
-    let bc = midpoint b c in
-    let cd = midpoint c d in
+-- that is at most so far; limit is squared
+unfoldable pub is_flat3 : CubicBezier Point3D → Float → Bool
+unfolding flatness_sq
+is_flat3 q limit = flatness_sq q.0 q.1 q.2 q.3 ≼ limit
+
+unfoldable pub halves3 : CubicBezier Point3D → Halves Point3D
+unfolding midpoint
+halves3 q =
+    let ab = midpoint q.0 q.1 in
+    let bc = midpoint q.1 q.2 in
+    let cd = midpoint q.2 q.3 in
     let abc = midpoint ab bc in
     let bcd = midpoint bc cd in
-    let m = midpoint abc bcd in
-    flattened depth limit a ab abc m ++ flattened depth limit m bcd cd d)
+    let m = midpoint abc bcd in record { left = cubic q.0 ab abc m; right = cubic m bcd cd q.3 }
+
+-- ---- in both, the ends of the parts, the left half's first
+unfoldable pub parts : {P : Type 0} → (CubicBezier P → Float → Bool) → (CubicBezier P → Halves P) → ℕ → Float → CubicBezier P → List P
+parts flat halved zero limit q = q.3 ∷ []
+parts flat halved (suc depth) limit q =
+    if flat q limit
+    then q.3 ∷ []
+    else (parts flat halved depth limit (halved q).left ++ parts flat halved depth limit (halved q).right)
+
+abbrev pub subdivided : ℕ → Float → CubicBezier Point → List Point
+subdivided = parts is_flat halves
+
+abbrev pub flattened : ℕ → Float → Point3D → Point3D → Point3D → Point3D → List Point3D
+flattened depth limit a b c d = parts is_flat3 halves3 depth limit (cubic a b c d)

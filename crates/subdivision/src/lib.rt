@@ -1,4 +1,5 @@
 // Cubic Bezier curves halved until each part is flat.
 #![tactic(auto)]
 
+pub mod part;
 pub mod subdivision;

@@ -1,43 +1,20 @@
-// src/geo/shape/bezier.rs, second part: whether a curve is flat, and a curve halved until each part is.
-ghost use Rattle.std.specs.Prelude.{◌≡◌, ◌+◌, ◌*◌, ◌^◌, ◌≤◌, length};
+// src/geo/shape/bezier.rs, second part: whether a curve is flat, and a curve halved until each part is. The public calls take
+// their points one by one, as C hands them over.
+ghost use Rattle.std.specs.Prelude.{◌≡◌, ◌+◌, ◌*◌, ◌^◌, ◌≤◌, ◌∷◌, length};
 ghost use Rattle.geo.specs.Lent.{pair, triple, flat};
-ghost use Rattle.geo.specs.Outcome.{refusal, Wrote, Placed};
-ghost use Rattle.subdivision.specs.Flatten.{curve_chord, off_chord, is_flat, subdivided, minus, norm_sq, perpendicular_sq, flatness_sq, flattened};
-ghost use Rattle.subdivision.specs.Calls.{flat_call, flat_answer, most_depth, adaptive_rows, adaptive_call, tolerance_of, segment_rows, segment_call};
+ghost use Rattle.geo.specs.Outcome.{refusal, Placed};
+ghost use Rattle.geo.specs.Refusal.{outcome, refused_by};
+ghost use Rattle.geo.specs.Wrote.{Wrote};
+ghost use Rattle.subdivision.specs.Flatten.{curve_chord, off_chord, is_flat, minus, norm_sq, perpendicular_sq, flatness_sq, parts};
+ghost use Rattle.subdivision.specs.Calls.{flat_call, most_depth, adaptive_rows, adaptive_call, segment_rows, segment_call};
 
-use bezier::bezier::{Halves, curve_in, curve_in_3d};
+use crate::part::Part;
+use bezier::bezier::curve_in;
 use floats::float::max;
 use geo::domain::{is_tolerance, is_tolerance_squared};
-use geo::lent::{put_pair, put_point};
-use geo::point::{get_distance_squared, midpoint_3d};
-use geo::types::{Answer, CubicBezier, Point, Point3D};
-
-#[derive(Clone, Copy)]
-pub enum Flatness {
-    Is(bool),
-    Refused(u32),
-}
-
-// The tolerance of `linearize_bezier_segment`: a given one, or the source's.
-#[derive(Clone, Copy)]
-pub enum Tolerance {
-    Given(f64),
-    Default,
-}
-
-impl Tolerance {
-    // The source's own tolerance.
-    const DEFAULT: f64 = 0.01;
-
-    fn value(self) -> f64
-        ensures { result ≡ tolerance_of self }
-    {
-        match self {
-            Tolerance::Given(t) => t,
-            Tolerance::Default => Tolerance::DEFAULT,
-        }
-    }
-}
+use geo::point::get_distance_squared;
+use geo::refusal::Refusal;
+use geo::types::{CubicBezier, MOST_DEPTH, Point, Point3D};
 
 // A curve's chord, or none: where the ends meet there is no line to be off.
 #[derive(Clone, Copy)]
@@ -53,6 +30,7 @@ impl Chord {
     // A chord whose square is below this counts as a point.
     const DEGENERATE: f64 = 1e-9;
 
+    #[tactic(auto, unfolding(crate::specs::Flatten::curve_chord))]
     fn new(p0: Point, p1: Point) -> Self
         ensures { result ≡ curve_chord p0 p1 }
     {
@@ -67,6 +45,7 @@ impl Chord {
     }
 
     // The squared distance of c to the chord's endless line, or to its start where it is degenerate.
+    #[tactic(auto, unfolding(crate::specs::Flatten::off_chord))]
     fn off(self, c: Point) -> f64
         ensures { result ≡ off_chord self c }
     {
@@ -79,83 +58,99 @@ impl Chord {
 }
 
 // Whether both controls are at most the tolerance off the chord.
-fn is_flat(q: CubicBezier, tolerance_sq: f64) -> bool
+#[tactic(auto, unfolding(crate::specs::Flatten::is_flat))]
+pub(crate) fn is_flat(q: CubicBezier<Point>, tolerance_sq: f64) -> bool
     ensures { result ≡ is_flat q tolerance_sq }
 {
     let chord = Chord::new(q.0, q.3);
-    if chord.off(q.1) <= tolerance_sq {
-        return chord.off(q.2) <= tolerance_sq;
-    }
-    false
+    chord.off(q.1) <= tolerance_sq && chord.off(q.2) <= tolerance_sq
 }
 
 // Tests whether a cubic Bezier curve is flat enough to approximate with a line segment.
-pub fn is_bezier_flat(p0: Point, c1: Point, c2: Point, p1: Point, tolerance_sq: f64) -> Flatness
-    ensures { result ≡ flat_answer (flat_call p0 c1 c2 p1 tolerance_sq) }
+#[tactic(auto, unfolding(crate::specs::Calls::flat_call))]
+pub fn is_bezier_flat(
+    p0: Point,
+    c1: Point,
+    c2: Point,
+    p1: Point,
+    tolerance_sq: f64,
+) -> Result<bool, Refusal>
+    ensures { outcome result ≡ flat_call p0 c1 c2 p1 tolerance_sq }
 {
-    let q = CubicBezier::new(p0, c1, c2, p1);
+    let q = CubicBezier(p0, c1, c2, p1);
     if !curve_in(q) {
-        return Flatness::Refused(5);
+        return Err(Refusal::BadNumber);
     }
     if !is_tolerance_squared(tolerance_sq) {
-        return Flatness::Refused(6);
+        return Err(Refusal::BadTolerance);
     }
-    Flatness::Is(is_flat(q, tolerance_sq))
+    Ok(is_flat(q, tolerance_sq))
 }
 
-// Writes the ends of the parts of a curve from place `at` on, the left half's first, and answers their number.
-fn subdivide(depth: usize, tolerance_sq: f64, q: CubicBezier, out: &mut [f64], at: usize) -> usize
-    requires { (depth ≤ most_depth) × (2 * (at + 2 ^ depth) ≤ length out.old) }
-    ensures { Placed pair 2 (subdivided depth tolerance_sq q) at result out.old out.new }
+// Writes the ends of the parts of a curve from place `at` on, the left half's first, and answers their number. `depth` is
+// how often a part may still be halved.
+fn subdivide<P: Part>(
+    depth: usize,
+    tolerance_sq: f64,
+    q: CubicBezier<P>,
+    out: &mut [f64],
+    at: usize,
+) -> usize
+    requires { (depth ≤ most_depth) × (P.width * (at + 2 ^ depth) ≤ length out.old) }
+    ensures { Placed P.lay P.width (parts P.flat P.halved depth tolerance_sq q) at result out.old out.new }
 {
-    if depth == 0 {
-        put_pair(out, 2 * at, q.3);
+    if depth == 0 || P::is_flat(q, tolerance_sq) {
+        q.3.put(out, at);
         return 1;
     }
-    if is_flat(q, tolerance_sq) {
-        put_pair(out, 2 * at, q.3);
-        return 1;
-    }
-    let h = Halves::of(q, 0.5);
-    let left = h.left;
-    let right = h.right;
-    let n = subdivide(depth - 1, tolerance_sq, left, out, at);
-    let m = subdivide(depth - 1, tolerance_sq, right, out, at + n);
+    let h = P::halve(q);
+    let n = subdivide(depth - 1, tolerance_sq, h.left, out, at);
+    let m = subdivide(depth - 1, tolerance_sq, h.right, out, at + n);
     n + m
 }
 
-// The first row of the table that `linearize_bezier_adaptive` falls under, or 0.
-fn check_adaptive(q: CubicBezier, tolerance_sq: f64, max_depth: usize, room: usize) -> u32
-    ensures { result ≡ refusal (adaptive_rows q tolerance_sq max_depth room) }
+// Writes a curve's start and the ends of its parts, and answers how many points these are.
+fn put_polyline<P: Part>(
+    depth: usize,
+    tolerance_sq: f64,
+    q: CubicBezier<P>,
+    out: &mut [f64],
+) -> usize
+    requires { (depth ≤ most_depth) × (P.width * (1 + 2 ^ depth) ≤ length out.old) }
+    ensures { Placed P.lay P.width (q.0 ∷ parts P.flat P.halved depth tolerance_sq q) 0 result out.old out.new }
 {
-    if room % 2 != 0 {
-        return 1;
-    }
-    if CubicBezier::MOST_DEPTH < max_depth {
-        return 2;
-    }
-    if !curve_in(q) {
-        return 5;
-    }
-    if !is_tolerance_squared(tolerance_sq) {
-        return 6;
-    }
-    if room < 2 * (1 + power_of_two(max_depth)) {
-        return 9;
-    }
-    0
+    q.0.put(out, 0);
+    let n = subdivide(depth, tolerance_sq, q, out, 1);
+    1 + n
 }
 
-// 2^n, of a depth n.
-fn power_of_two(n: usize) -> usize
-    requires { n ≤ most_depth }
-    ensures { result ≡ 2 ^ n }
+// The first row of the table that `linearize_bezier_adaptive` falls under. It and `check_segment` are two: they follow two
+// tables, of other tolerances and tests in another order.
+#[tactic(auto, unfolding(crate::specs::Calls::adaptive_rows, geo::specs::Outcome::refusal, geo::specs::Domain::whole))]
+fn check_adaptive(
+    q: CubicBezier<Point>,
+    tolerance_sq: f64,
+    max_depth: usize,
+    room: usize,
+) -> Result<(), Refusal>
+    ensures { refused_by result ≡ refusal (adaptive_rows q tolerance_sq max_depth room) }
 {
-    let mut p = 1;
-    for i in 0..n {
-        p = 2 * p;
+    if room % 2 != 0 {
+        return Err(Refusal::NotWhole);
     }
-    p
+    if MOST_DEPTH < max_depth {
+        return Err(Refusal::TooMany);
+    }
+    if !curve_in(q) {
+        return Err(Refusal::BadNumber);
+    }
+    if !is_tolerance_squared(tolerance_sq) {
+        return Err(Refusal::BadTolerance);
+    }
+    if room < 2 * (1 + (1 << max_depth)) {
+        return Err(Refusal::NoRoom);
+    }
+    Ok(())
 }
 
 // Converts a curve in the plane to a polyline: halved until each part is flat, at most max_depth times.
@@ -167,20 +162,16 @@ pub fn linearize_bezier_adaptive(
     tolerance_sq: f64,
     max_depth: usize,
     out: &mut [f64],
-) -> Answer
+) -> Result<usize, Refusal>
     ensures { Wrote (flat pair) (adaptive_call p0 c1 c2 p1 tolerance_sq max_depth (length out.old)) out.old out.new result }
 {
-    let q = CubicBezier::new(p0, c1, c2, p1);
-    let refused = check_adaptive(q, tolerance_sq, max_depth, out.len());
-    if 0 < refused {
-        return Answer::Refused(refused);
-    }
-    put_pair(out, 0, p0);
-    let n = subdivide(max_depth, tolerance_sq, q, out, 1);
-    Answer::Written(n + 1)
+    let q = CubicBezier(p0, c1, c2, p1);
+    check_adaptive(q, tolerance_sq, max_depth, out.len())?;
+    Ok(put_polyline(max_depth, tolerance_sq, q, out))
 }
 
 // A direction in space.
+#[tactic(auto, unfolding(crate::specs::Flatten::minus))]
 fn minus_3d(p: Point3D, q: Point3D) -> Point3D
     ensures { result ≡ minus p q }
 {
@@ -191,6 +182,7 @@ fn minus_3d(p: Point3D, q: Point3D) -> Point3D
     }
 }
 
+#[tactic(auto, unfolding(crate::specs::Flatten::norm_sq))]
 fn norm_squared(p: Point3D) -> f64
     ensures { result ≡ norm_sq p }
 {
@@ -198,6 +190,7 @@ fn norm_squared(p: Point3D) -> f64
 }
 
 // The squared distance of pt to the endless line from origin along v, whose square is norm_sq.
+#[tactic(auto, unfolding(crate::specs::Flatten::perpendicular_sq, geo::specs::Vector::cross3))]
 fn get_perpendicular_dist_sq(pt: Point3D, origin: Point3D, v: Point3D, norm_sq: f64) -> f64
     ensures { result ≡ perpendicular_sq pt origin v norm_sq }
 {
@@ -211,74 +204,48 @@ fn get_perpendicular_dist_sq(pt: Point3D, origin: Point3D, v: Point3D, norm_sq: 
 }
 
 // The greater of the controls' squared distances to the chord, or to the start where there is none.
-fn get_bezier_flatness_sq(a: Point3D, b: Point3D, c: Point3D, d: Point3D) -> f64
-    ensures { result ≡ flatness_sq a b c d }
+#[tactic(auto, unfolding(crate::specs::Flatten::flatness_sq))]
+pub(crate) fn get_bezier_flatness_sq(q: CubicBezier<Point3D>) -> f64
+    ensures { result ≡ flatness_sq q.0 q.1 q.2 q.3 }
 {
-    let v = minus_3d(d, a);
+    let v = minus_3d(q.3, q.0);
     let norm_sq = norm_squared(v);
     if norm_sq < Chord::DEGENERATE {
-        return max(norm_squared(minus_3d(b, a)), norm_squared(minus_3d(c, a)));
+        return max(
+            norm_squared(minus_3d(q.1, q.0)),
+            norm_squared(minus_3d(q.2, q.0)),
+        );
     }
-    let dist_b = get_perpendicular_dist_sq(b, a, v, norm_sq);
-    let dist_c = get_perpendicular_dist_sq(c, a, v, norm_sq);
+    let dist_b = get_perpendicular_dist_sq(q.1, q.0, v, norm_sq);
+    let dist_c = get_perpendicular_dist_sq(q.2, q.0, v, norm_sq);
     max(dist_b, dist_c)
 }
 
-// Writes the ends of the parts of a curve in space from place `at` on, and answers their number. `depth` is how often
-// a part may still be halved.
-fn flatten_bezier(
-    a: Point3D,
-    b: Point3D,
-    c: Point3D,
-    d: Point3D,
-    tolerance_sq: f64,
-    depth: usize,
-    out: &mut [f64],
-    at: usize,
-) -> usize
-    requires { (depth ≤ most_depth) × (3 * (at + 2 ^ depth) ≤ length out.old) }
-    ensures { Placed triple 3 (flattened depth tolerance_sq a b c d) at result out.old out.new }
-{
-    if depth == 0 {
-        put_point(out, 3 * at, d);
-        return 1;
-    }
-    if get_bezier_flatness_sq(a, b, c, d) <= tolerance_sq {
-        put_point(out, 3 * at, d);
-        return 1;
-    }
-    let m01 = midpoint_3d(a, b);
-    let m12 = midpoint_3d(b, c);
-    let m23 = midpoint_3d(c, d);
-    let q01 = midpoint_3d(m01, m12);
-    let q12 = midpoint_3d(m12, m23);
-    let r = midpoint_3d(q01, q12);
-    let n = flatten_bezier(a, m01, q01, r, tolerance_sq, depth - 1, out, at);
-    let m = flatten_bezier(r, q12, m23, d, tolerance_sq, depth - 1, out, at + n);
-    n + m
-}
-
 // What `linearize_bezier_segment` could write: 1 + 2^depth points of three numbers.
-const SEGMENT_ROOM: usize = 3 * (1 + (1 << CubicBezier::MOST_DEPTH));
+const SEGMENT_ROOM: usize = 3 * (1 + (1 << MOST_DEPTH));
 
-// The first row of the table that `linearize_bezier_segment` falls under, or 0.
-fn check_segment(p0: Point3D, c1: Point3D, c2: Point3D, p1: Point3D, t: f64, room: usize) -> u32
-    ensures { result ≡ refusal (segment_rows p0 c1 c2 p1 t room) }
+// The first row of the table that `linearize_bezier_segment` falls under.
+#[tactic(auto, unfolding(crate::specs::Calls::segment_rows, geo::specs::Outcome::refusal, geo::specs::Domain::whole))]
+fn check_segment(q: CubicBezier<Point3D>, t: f64, room: usize) -> Result<(), Refusal>
+    ensures { refused_by result ≡ refusal (segment_rows q.0 q.1 q.2 q.3 t room) }
 {
     if room % 3 != 0 {
-        return 1;
+        return Err(Refusal::NotWhole);
     }
-    if !curve_in_3d(p0, c1, c2, p1) {
-        return 5;
+    if !curve_in(q) {
+        return Err(Refusal::BadNumber);
     }
     if !is_tolerance(t) {
-        return 6;
+        return Err(Refusal::BadTolerance);
     }
     if room < SEGMENT_ROOM {
-        return 9;
+        return Err(Refusal::NoRoom);
     }
-    0
+    Ok(())
 }
+
+// The source's own tolerance, where none is given.
+const TOLERANCE: f64 = 0.01;
 
 // Converts a 3D Bezier curve to a polyline using adaptive subdivision.
 pub fn linearize_bezier_segment(
@@ -286,17 +253,13 @@ pub fn linearize_bezier_segment(
     c1: Point3D,
     c2: Point3D,
     p1: Point3D,
-    tolerance: Tolerance,
+    tolerance: Option<f64>,
     out: &mut [f64],
-) -> Answer
+) -> Result<usize, Refusal>
     ensures { Wrote (flat triple) (segment_call p0 c1 c2 p1 tolerance (length out.old)) out.old out.new result }
 {
-    let t = tolerance.value();
-    let refused = check_segment(p0, c1, c2, p1, t, out.len());
-    if 0 < refused {
-        return Answer::Refused(refused);
-    }
-    put_point(out, 0, p0);
-    let n = flatten_bezier(p0, c1, c2, p1, t * t, CubicBezier::MOST_DEPTH, out, 1);
-    Answer::Written(n + 1)
+    let q = CubicBezier(p0, c1, c2, p1);
+    let t = tolerance.unwrap_or(TOLERANCE);
+    check_segment(q, t, out.len())?;
+    Ok(put_polyline(MOST_DEPTH, t * t, q, out))
 }

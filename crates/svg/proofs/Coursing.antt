@@ -5,7 +5,7 @@ use mathlib.Core.Path.{◌≡◌, refl, sym, ap, ◌∙◌, subst}
 use mathlib.Core.Bool.{Bool, true, false}
 use mathlib.Core.List.{List, [], ◌∷◌, ◌++◌, map}
 use native.Mathlib.Omega.{arith}
-use lib.ListN.{length, drop, length-map}
+use lib.ListN.{length, length-map}
 use lib.Seq.{sets}
 use lib.Dec.{eqb}
 use Rattle.geo.specs.Outcome.{gives}
@@ -102,20 +102,19 @@ first-lap (line x y ∷ cs) o h = absurd o
 first-lap (curve a b c d x y ∷ cs) o h = absurd o
 
 -- ---- the loop
-pub record Coursing (s : List ℕ) (l : ℕ) (out₀ out : List ℕ) (at to j : ℕ) : Type 0 where
+pub record Coursing (s : List ℕ) (l : ℕ) (out₀ out t : List ℕ) (to j : ℕ) : Type 0 where
   pub cs : List Drawn
   pub says : named s ≡ gives cs
   pub laps : l ≡ length (laps_drawn cs)
   pub few-laps : l ≤ 64
   pub few : command_count (course_laps cs) ≤ 800
   pub left : List Drawn
-  pub names : named_from (drop at s) ≡ gives left
+  pub names : named_from t ≡ gives left
   pub opens : Opened left
   pub to_come : j + length (laps_drawn left) ≡ l
   pub going : Going out₀ out l j to (course_laps left) (course_laps cs)
-  pub inside : at ≤ length s
 
-pub coursing_starts : (s out₁ out : List ℕ) (l : ℕ) → CourseFits s l (length out₁) → length out ≡ length out₁ → Coursing s l out out 0 (8 + 8 * l) 0
+pub coursing_starts : (s out₁ out : List ℕ) (l : ℕ) → CourseFits s l (length out₁) → length out ≡ length out₁ → Coursing s l out out s (8 + 8 * l) 0
 coursing_starts s out₁ out l f e =
     let m = count-commands f.cs in
     let r = f.room in
@@ -132,10 +131,9 @@ coursing_starts s out₁ out l f e =
       opens = opened s f.cs f.says;
       to_come = omega (arith, n);
       going = begin out l (course_laps f.cs) (omega (arith, m, r, e));
-      inside = omega arith;
     }
 
-module _ {s : List ℕ} {l : ℕ} {out₀ out : List ℕ} {at to j : ℕ} (k : Coursing s l out₀ out at to j) where
+module _ {s : List ℕ} {l : ℕ} {out₀ out t : List ℕ} {to j : ℕ} (k : Coursing s l out₀ out t to j) where
   module _ (h : j < l) where
     first-left : FirstLap k.left
     first-left = let t = k.to_come in first-lap k.left k.opens (omega (arith, t))
@@ -143,16 +141,16 @@ module _ {s : List ℕ} {l : ℕ} {out₀ out : List ℕ} {at to j : ℕ} (k : C
     going-first : Going out₀ out l j to (map inked (first-left.first ∷ until_move first-left.rest) ∷ course_laps (from_move first-left.rest)) (course_laps k.cs)
     going-first = subst (λ (ls : List Lap). Going out₀ out l j to ls (course_laps k.cs)) first-left.laps k.going
 
-    pub lap-fits : LapFits s at to (length out)
+    pub lap-fits : LapFits t to (length out)
     lap-fits =
         let f = fits_next out₀ out l j to _ _ _ going-first in
         let m = length-map (until_move first-left.rest) inked in
-        record { first = first-left.first; rest = first-left.rest; names = k.names ∙ ap gives first-left.are; room = omega (arith, f, m); inside = k.inside }
+        record { first = first-left.first; rest = first-left.rest; names = k.names ∙ ap gives first-left.are; room = omega (arith, f, m) }
 
     pub lap_entry : 16 + 8 * j ≤ length out
     lap_entry = let g = k.going in omega (arith, g.same, g.after, g.room)
 
-    module _ (out₁ : List ℕ) (r : LapRead) (p : LapPut s at out out₁ to r) where
+    module _ (out₁ : List ℕ) (r : LapRead) (p : LapPut t out out₁ to r) where
       same-lap : (p.first ≡ first-left.first) × (p.rest ≡ first-left.rest)
       same-lap = let e : gives (p.first ∷ p.rest) ≡ gives (first-left.first ∷ first-left.rest) = sym p.names ∙ k.names ∙ ap gives first-left.are in (cc, cc)
 
@@ -162,7 +160,7 @@ module _ {s : List ℕ} {l : ℕ} {out₀ out : List ℕ} {at to j : ℕ} (k : C
       pub lap-ends_by : to + 73 * r.commands ≤ 8 + 8 * l + 58400
       lap-ends_by = ends_by out₀ out l j to r.commands _ _ _ going-first lap-count k.few
 
-      pub coursing_goes-on : (out₂ : List ℕ) → out₂ ≡ sets out₁ (8 + 8 * j) (u32_bytes to ++ u32_bytes r.commands) → Coursing s l out₀ out₂ r.next (to + 73 * r.commands) (j + 1)
+      pub coursing_goes-on : (out₂ : List ℕ) → out₂ ≡ sets out₁ (8 + 8 * j) (u32_bytes to ++ u32_bytes r.commands) → Coursing s l out₀ out₂ r.rest.now (to + 73 * r.commands) (j + 1)
       coursing_goes-on out₂ e =
           let t = k.to_come in
           let f = first-left.fewer in
@@ -178,7 +176,6 @@ module _ {s : List ℕ} {l : ℕ} {out₀ out : List ℕ} {at to j : ℕ} (k : C
             opens = opens_on first-left.rest;
             to_come = omega (arith, t, f);
             going = turn out₀ out out₁ out₂ l j to r.commands _ _ _ going-first lap-count b e;
-            inside = p.inside;
           }
 
   pub course_put : (out_first : List ℕ) → out₀ ≡ sets out_first 0 (mark ++ u32_bytes l) → l ≤ j → CoursePut s out_first out to

@@ -8,7 +8,7 @@ use Rattle.svg.specs.declared.reading.LapRead.{LapRead}
 use Rattle.svg_text.specs.Path.{Drawn, move, line, curve, command, then_rest, others, named}
 use Rattle.svg.specs.Course.{until_move, laps_drawn, inked, course_file}
 
--- what a text names from a place on: nothing at its end, else a command stands there
+-- what the rest of a text names, from a command on: nothing where it is empty
 unfoldable pub named_from : List ℕ → Outcome (List Drawn)
 named_from [] = gives []
 named_from (b ∷ t) = then_rest others (command (b ∷ t))
@@ -20,23 +20,21 @@ from_move (move x y ∷ cs) = move x y ∷ cs
 from_move (line x y ∷ cs) = from_move cs
 from_move (curve a b c d x y ∷ cs) = from_move cs
 
--- a lap stands at `at`, and its bytes fit from `to` on
-pub record LapFits (s : List ℕ) (at to size : ℕ) : Type 0 where
+-- a lap stands at the front of s, and its bytes fit from `to` on
+pub record LapFits (s : List ℕ) (to size : ℕ) : Type 0 where
   pub first : Drawn
   pub rest : List Drawn
-  pub names : named_from (drop at s) ≡ gives (first ∷ rest)
+  pub names : named_from s ≡ gives (first ∷ rest)
   pub room : to + 73 * (1 + length (until_move rest)) ≤ size
-  pub inside : at ≤ length s
 
--- the lap from `at` on is written, and the text goes on at the next M, or ends
-pub record LapPut (s : List ℕ) (at : ℕ) (out out' : List ℕ) (to : ℕ) (r : LapRead) : Type 0 where
+-- the lap at the front of s is written, and the text behind it starts with the next M, or is empty
+pub record LapPut (s out out' : List ℕ) (to : ℕ) (r : LapRead) : Type 0 where
   pub first : Drawn
   pub rest : List Drawn
-  pub names : named_from (drop at s) ≡ gives (first ∷ rest)
+  pub names : named_from s ≡ gives (first ∷ rest)
   pub count : r.commands ≡ length (first ∷ until_move rest)
   pub bytes : out' ≡ sets out to (body (map inked (first ∷ until_move rest)))
-  pub goes : named_from (drop r.next s) ≡ gives (from_move rest)
-  pub inside : r.next ≤ length s
+  pub goes : named_from r.rest.now ≡ gives (from_move rest)
 
 -- a text of so many laps that passes every row
 pub record CourseFits (s : List ℕ) (laps size : ℕ) : Type 0 where

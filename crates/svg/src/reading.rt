@@ -1,75 +1,72 @@
 // The lap file of a text: the rows that refuse it, and the second walk, which writes lap after lap.
 ghost use Rattle.std.specs.Prelude.{◌≡◌, List, ℕ, length};
-ghost use Rattle.geo.specs.Outcome.{refusal, Wrote};
+ghost use Rattle.geo.specs.Outcome.{refusal};
+ghost use Rattle.geo.specs.Refusal.{refused_by};
+ghost use Rattle.geo.specs.Wrote.{Wrote};
 ghost use Rattle.svg.specs.Course.{read_rows, read_course};
 ghost use Rattle.svg.specs.Laps.{LapFits, LapPut, CourseFits, CoursePut};
 
 use crate::tally::{Tally, walk_text};
 use file::command::{COMMAND_BYTES, write_command};
-use geo::types::Answer;
+use geo::refusal::Refusal;
 use laps::lap_file::{MOST_COMMANDS, MOST_LAPS, put_entry, put_head};
-use svg_items::strokes::{Stroke, stroke_at};
-use svg_text::letters::MOVE;
+use svg_items::strokes::read_stroke;
 
 // "only a text above 65,536 bytes (2) is met before it".
 pub const MOST_TEXT: usize = 65536;
 
-// How many commands a lap of the text has, and where the text goes on behind it: at the next M, or at its end.
+// How many commands a lap of the text has, and the text behind it: from the next M on, or nothing.
 #[derive(Clone, Copy)]
-pub struct LapRead {
+pub struct LapRead<'a> {
     pub commands: usize,
-    pub next: usize,
+    pub rest: &'a [u8],
 }
 
-// The first of the rows 2, 5 and 9 that a text falls under which keeps the rules, or 0.
-fn check_counts(laps: usize, commands: usize, inside: bool, room: usize) -> u32
-    ensures { result ≡ refusal (read_rows laps commands inside room) }
+// The first of the rows 2, 5 and 9 that a text falls under which keeps the rules.
+#[tactic(auto, unfolding(crate::specs::Course::read_rows, geo::specs::Outcome::refusal))]
+fn check_counts(tally: Tally, room: usize) -> Result<(), Refusal>
+    ensures { refused_by result ≡ refusal (read_rows tally.laps tally.commands tally.inside room) }
 {
-    if MOST_LAPS < laps {
-        return 2;
+    if MOST_LAPS < tally.laps || MOST_COMMANDS < tally.commands {
+        return Err(Refusal::TooMany);
     }
-    if MOST_COMMANDS < commands {
-        return 2;
+    if !tally.inside {
+        return Err(Refusal::BadNumber);
     }
-    if !inside {
-        return 5;
+    if room < 8 + 8 * tally.laps + COMMAND_BYTES * tally.commands {
+        return Err(Refusal::NoRoom);
     }
-    if room < 8 + 8 * laps + COMMAND_BYTES * commands {
-        return 9;
-    }
-    0
+    Ok(())
 }
 
-// Writes the lap that stands at `start` from `to` on.
-fn put_lap(s: &[u8], start: usize, out: &mut [u8], to: usize) -> LapRead
-    requires { LapFits s.now start to (length out.old) }
-    ensures { LapPut s.now start out.old out.new to result }
+// Writes the lap that stands at the text's front from `to` on.
+fn put_lap<'a>(s: &'a [u8], out: &mut [u8], to: usize) -> LapRead<'a>
+    requires { LapFits s.now to (length out.old) }
+    ensures { LapPut s.now out.old out.new to result }
 {
-    let mut at = start;
+    let mut rest = s;
     let mut commands = 0;
-    let mut b = to;
     loop {
         // the first walk has read this command
-        let Stroke::Is { c, next } = stroke_at(s, at) else {
+        let Some((c, behind)) = read_stroke(rest) else {
             return LapRead {
                 commands: commands,
-                next: at,
+                rest: rest,
             };
         };
-        write_command(out, b, c);
+        write_command(out, to + COMMAND_BYTES * commands, c);
         commands += 1;
-        if next == s.len() {
+        if behind.is_empty() {
             return LapRead {
                 commands: commands,
-                next: next,
+                rest: behind,
             };
         }
-        b += COMMAND_BYTES;
-        at = next + 1;
-        if s[at] == MOVE {
+        rest = &behind[1..];
+        if rest[0] == b'M' {
             return LapRead {
                 commands: commands,
-                next: at,
+                rest: rest,
             };
         }
     }
@@ -81,37 +78,25 @@ fn put_laps(s: &[u8], laps: usize, out: &mut [u8]) -> usize
     ensures { CoursePut s.now out.old out.new result }
 {
     put_head(out, laps);
-    let mut at = 0;
+    let mut rest = s;
     let mut to = 8 + 8 * laps;
-    let mut j = 0;
-    while j < laps {
-        let lap = put_lap(s, at, out, to);
+    for j in 0..laps {
+        let lap = put_lap(rest, out, to);
         put_entry(out, j, to, lap.commands);
-        at = lap.next;
+        rest = lap.rest;
         to += COMMAND_BYTES * lap.commands;
-        j += 1;
     }
     to
 }
 
 // Reads a course of SVG path data, and writes its lap file to the front of out. A refusal changes nothing.
-pub fn read_course(text: &[u8], out: &mut [u8]) -> Answer
+pub fn read_course(text: &[u8], out: &mut [u8]) -> Result<usize, Refusal>
     ensures { Wrote (λ (bytes : List ℕ). bytes) (read_course text.now (length out.old)) out.old out.new result }
 {
     if MOST_TEXT < text.len() {
-        return Answer::Refused(2);
+        return Err(Refusal::TooMany);
     }
-    let Tally::Course {
-        laps,
-        commands,
-        inside,
-    } = walk_text(text)
-    else {
-        return Answer::Refused(14);
-    };
-    let refused = check_counts(laps, commands, inside, out.len());
-    if refused != 0 {
-        return Answer::Refused(refused);
-    }
-    Answer::Written(put_laps(text, laps, out))
+    let tally = walk_text(text)?;
+    check_counts(tally, out.len())?;
+    Ok(put_laps(text, tally.laps, out))
 }

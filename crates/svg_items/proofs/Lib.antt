@@ -1,3 +1,3 @@
-pub mod Cursor
 pub mod Signed
+pub mod Digits
 pub mod Drawing

@@ -1,83 +1,41 @@
-// The numbers of path data: read at a cursor, in whole thousandths, and then divided once. What is public serves the commands
-// alone; it refuses nothing, and asks that the cursor lies in the text.
-ghost use Rattle.std.specs.Prelude.{◌≡◌, ◌+◌, ◌*◌, ◌^◌, ◌≤◌, length};
+// The numbers of path data: each reader takes the front of a text, and gives what it read, in whole thousandths, and the rest. What
+// is public serves the commands alone.
+ghost use Rattle.std.specs.Prelude.{◌≡◌, ◌+◌, ◌*◌, ◌^◌, ◌≤◌, IfSome};
 ghost use Rattle.svg_text.specs.Thousandths.{TenDigits, float_of};
-ghost use Rattle.svg_text.specs.Path.{is_digit};
+ghost use Rattle.svg_text.specs.Path.{decimals, unsigned, number};
 ghost use Rattle.svg_text.specs.Spelling.{with_sign};
-ghost use Rattle.svg_items.specs.Numbers.{RunAt, DecimalsAt, UnsignedAt, FigureAt};
+ghost use Rattle.svg_items.specs.Readings.{reading, IsRun};
 
-use svg_text::letters::{MINUS, MOST_DECIMALS, MOST_DIGITS, NINE, POINT, ZERO};
+use svg_text::letters::{MOST_DECIMALS, MOST_DIGITS};
 
-// Digits that were read: their value, how many more there might have been, and where the text goes on.
+// Digits that were read: their value, how many more there might have been, and the text behind them.
 #[derive(Clone, Copy)]
-pub struct Run {
+pub struct Run<'a> {
     pub value: u64,
     pub room: usize,
-    pub next: usize,
+    pub rest: &'a [u8],
 }
 
-// A number without its sign, in thousandths.
-#[derive(Clone, Copy)]
-pub enum Magnitude {
-    Amount { value: u64, next: usize },
-    NoAmount,
-}
-
-// A number in thousandths.
-#[derive(Clone, Copy)]
-pub enum Figure {
-    Found { value: i64, next: usize },
-    Broken,
-}
-
-// A byte as a wider number.
-fn wide(b: u8) -> u64
-    ensures { result ≡ b }
-{
-    b as u64
-}
-
-fn is_digit(b: u8) -> bool
-    ensures { result ≡ is_digit b }
-{
-    if b < ZERO {
-        return false;
-    }
-    b <= NINE
-}
-
-// The value v goes on with the digits from `at` on, at most `most` of them.
-fn more_digits(s: &[u8], at: usize, v: u64, most: usize) -> Run
-    requires { (at ≤ length s.now) × ((v + 1) * 10 ^ most ≤ 10000000000) }
-    ensures { RunAt s.now at v most result }
+// The value v goes on with the digits at the front, at most `most` of them.
+fn more_digits(s: &[u8], v: u64, most: usize) -> Run<'_>
+    requires { (v + 1) * 10 ^ most ≤ 10000000000 }
+    ensures { IsRun v most s.now result }
 {
     let mut value = v;
-    let mut room = most;
-    let mut next = at;
-    while 0 < room {
-        if next == s.len() {
+    for i in 0..most {
+        if i == s.len() || !s[i].is_ascii_digit() {
             return Run {
                 value: value,
-                room: room,
-                next: next,
+                room: most - i,
+                rest: &s[i..],
             };
         }
-        let b = s[next];
-        if !is_digit(b) {
-            return Run {
-                value: value,
-                room: room,
-                next: next,
-            };
-        }
-        value = 10 * value + wide(b - ZERO);
-        room -= 1;
-        next += 1;
+        value = 10 * value + u64::from(s[i] - b'0');
     }
     Run {
         value: value,
-        room: room,
-        next: next,
+        room: 0,
+        rest: &s[most..],
     }
 }
 
@@ -86,52 +44,41 @@ fn noughts(room: usize) -> u64
     requires { room ≤ 2 }
     ensures { result ≡ 10 ^ room }
 {
-    if room == 0 {
-        return 1;
+    match room {
+        0 => 1,
+        1 => 10,
+        _ => 100,
     }
-    if room == 1 {
-        return 10;
-    }
-    100
 }
 
-// The thousandths of v units and of the decimals that may then_rest.
-fn decimals_at(s: &[u8], at: usize, v: u64) -> Magnitude
-    requires { (at ≤ length s.now) × (v + 1 ≤ 10000000) }
-    ensures { DecimalsAt s.now at v result }
+// The thousandths of v units and of the decimals that may follow.
+#[tactic(auto, unfolding(svg_text::specs::Path::decimals, svg_text::specs::Path::in_thousandths))]
+fn read_decimals(s: &[u8], v: u64) -> Option<(u64, &[u8])>
+    requires { v + 1 ≤ 10000000 }
+    ensures reads { reading result ≡ decimals v s.now }
+    ensures ten { IfSome result (λ n. n.0 ≤ 9999999999) }
 {
-    if at == s.len() {
-        return Magnitude::Amount {
-            value: v * 1000,
-            next: at,
-        };
-    }
-    if s[at] != POINT {
-        return Magnitude::Amount {
-            value: v * 1000,
-            next: at,
-        };
-    }
-    let d = more_digits(s, at + 1, v, MOST_DECIMALS);
+    let [b'.', behind @ ..] = s else {
+        return Some((v * 1000, s));
+    };
+    let d = more_digits(behind, v, MOST_DECIMALS);
     if d.room == MOST_DECIMALS {
-        return Magnitude::NoAmount;
+        return None;
     }
-    Magnitude::Amount {
-        value: d.value * noughts(d.room),
-        next: d.next,
-    }
+    Some((d.value * noughts(d.room), d.rest))
 }
 
-// The number without a sign that stands from `at` on.
-fn unsigned_at(s: &[u8], at: usize) -> Magnitude
-    requires { at ≤ length s.now }
-    ensures { UnsignedAt s.now at result }
+// A number without a sign.
+#[tactic(auto, using(crate::proofs::Digits::few_units), unfolding(svg_text::specs::Path::unsigned, svg_text::specs::Path::units))]
+fn read_unsigned(s: &[u8]) -> Option<(u64, &[u8])>
+    ensures reads { reading result ≡ unsigned s.now }
+    ensures ten { IfSome result (λ n. n.0 ≤ 9999999999) }
 {
-    let d = more_digits(s, at, 0, MOST_DIGITS);
+    let d = more_digits(s, 0, MOST_DIGITS);
     if d.room == MOST_DIGITS {
-        return Magnitude::NoAmount;
+        return None;
     }
-    decimals_at(s, d.next, d.value)
+    read_decimals(d.rest, d.value)
 }
 
 // An amount with its sign; −0 is 0.
@@ -139,36 +86,21 @@ fn with_sign(minus: bool, v: u64) -> i64
     requires { v ≤ 9999999999 }
     ensures { result ≡ with_sign minus v }
 {
-    if minus {
-        return 0 - (v as i64);
-    }
-    v as i64
+    if minus { -(v as i64) } else { v as i64 }
 }
 
-// The number that stands from `at` on.
-pub fn figure_at(s: &[u8], at: usize) -> Figure
-    requires { at ≤ length s.now }
-    ensures { FigureAt s.now at result }
+// A number.
+#[tactic(auto, unfolding(svg_text::specs::Path::number, svg_text::specs::Path::signed))]
+pub fn read_figure(s: &[u8]) -> Option<(i64, &[u8])>
+    ensures reads { reading result ≡ number s.now }
+    ensures ten { IfSome result (λ n. TenDigits n.0) }
 {
-    if at == s.len() {
-        return Figure::Broken;
-    }
-    if s[at] == MINUS {
-        let Magnitude::Amount { value, next } = unsigned_at(s, at + 1) else {
-            return Figure::Broken;
-        };
-        return Figure::Found {
-            value: with_sign(true, value),
-            next: next,
-        };
-    }
-    let Magnitude::Amount { value, next } = unsigned_at(s, at) else {
-        return Figure::Broken;
+    let (minus, amount) = match s {
+        [b'-', behind @ ..] => (true, behind),
+        _ => (false, s),
     };
-    Figure::Found {
-        value: with_sign(false, value),
-        next: next,
-    }
+    let (v, rest) = read_unsigned(amount)?;
+    Some((with_sign(minus, v), rest))
 }
 
 // The thousandths of a unit.

@@ -1,126 +1,72 @@
-// The commands of path data: read at a cursor, one at a time, as commands of a course. What is public serves the crate `svg`; it
-// refuses nothing, and asks that the cursor lies in the text.
-ghost use Rattle.std.specs.Prelude.{◌≤◌, length};
-ghost use Rattle.svg_items.specs.Strokes.{SpacedAt, PlaceAt, CurveAt, StraightAt, StrokeAt};
+// The commands of path data: each reader takes the front of a text, and gives a command of a course and the rest. What is public
+// serves the crate `svg`.
+ghost use Rattle.std.specs.Prelude.{◌≡◌, IfSome};
+ghost use Rattle.svg_text.specs.Thousandths.{TenDigits};
+ghost use Rattle.svg_text.specs.Path.{spaced, pair_of, command};
+ghost use Rattle.svg_text.specs.Drawing.{place, drawn};
+ghost use Rattle.svg_items.specs.Readings.{reading, mapped, bent};
 
-use crate::figures::{Figure, figure_at, from_thousandths};
+use crate::figures::{from_thousandths, read_figure};
 use geo::types::{Command, Point3D};
-use svg_text::letters::{CURVE, LINE, MOVE, SPACE};
 
-// A point that was read, and where the text goes on.
-#[derive(Clone, Copy)]
-pub enum Spot {
-    At { p: Point3D, next: usize },
-    Nowhere,
-}
-
-// A command that was read, and where the text goes on.
-#[derive(Clone, Copy)]
-pub enum Stroke {
-    Is { c: Command, next: usize },
-    Unread,
-}
-
-// The number that stands behind a space at `at`.
-fn spaced_at(s: &[u8], at: usize) -> Figure
-    requires { at ≤ length s.now }
-    ensures { SpacedAt s.now at result }
+// A number behind a space.
+#[tactic(auto, unfolding(svg_text::specs::Path::spaced))]
+fn read_spaced(s: &[u8]) -> Option<(i64, &[u8])>
+    ensures reads { reading result ≡ spaced s.now }
+    ensures ten { IfSome result (λ n. TenDigits n.0) }
 {
-    if at == s.len() {
-        return Figure::Broken;
+    match s {
+        [b' ', behind @ ..] => read_figure(behind),
+        _ => None,
     }
-    if s[at] != SPACE {
-        return Figure::Broken;
-    }
-    figure_at(s, at + 1)
 }
 
-// The point whose two numbers stand from `at` on, each behind a space.
-fn place_at(s: &[u8], at: usize) -> Spot
-    requires { at ≤ length s.now }
-    ensures { PlaceAt s.now at result }
+// A point: two numbers, each behind a space.
+#[tactic(auto, unfolding(svg_text::specs::Path::pair_of, svg_text::specs::Path::and_then, svg_text::specs::Drawing::place))]
+fn read_place(s: &[u8]) -> Option<(Point3D, &[u8])>
+    ensures { reading result ≡ pair_of place s.now }
 {
-    let Figure::Found {
-        value: x,
-        next: mid,
-    } = spaced_at(s, at)
-    else {
-        return Spot::Nowhere;
-    };
-    let Figure::Found { value: y, next } = spaced_at(s, mid) else {
-        return Spot::Nowhere;
-    };
+    let (x, s) = read_spaced(s)?;
+    let (y, s) = read_spaced(s)?;
     let p = Point3D {
         x: from_thousandths(x),
         y: from_thousandths(y),
         z: 0.0,
     };
-    Spot::At { p: p, next: next }
+    Some((p, s))
 }
 
 // A curve, its letter read: its controls and then its end.
-fn curve_at(s: &[u8], at: usize) -> Stroke
-    requires { at ≤ length s.now }
-    ensures { CurveAt s.now at result }
+#[tactic(auto, using(crate::proofs::Drawing::curve_drawn), unfolding(svg_text::specs::Path::and_then))]
+fn read_curve(s: &[u8]) -> Option<(Command, &[u8])>
+    ensures { reading result ≡ mapped drawn (bent s.now) }
 {
-    let Spot::At {
-        p: control1,
-        next: first,
-    } = place_at(s, at)
-    else {
-        return Stroke::Unread;
-    };
-    let Spot::At {
-        p: control2,
-        next: second,
-    } = place_at(s, first)
-    else {
-        return Stroke::Unread;
-    };
-    let Spot::At { p: end, next } = place_at(s, second) else {
-        return Stroke::Unread;
-    };
+    let (control1, s) = read_place(s)?;
+    let (control2, s) = read_place(s)?;
+    let (end, s) = read_place(s)?;
     let c = Command::Bezier {
         end: end,
         control1: control1,
         control2: control2,
     };
-    Stroke::Is { c: c, next: next }
+    Some((c, s))
 }
 
-// A move or a line, its letter read.
-fn straight_at(s: &[u8], at: usize, opens: bool) -> Stroke
-    requires { at ≤ length s.now }
-    ensures { StraightAt s.now at opens result }
+// A command.
+#[tactic(auto, using(std::proofs::lemmas::Grind::common_steps, crate::proofs::Drawing::move_drawn, crate::proofs::Drawing::line_drawn), unfolding(svg_text::specs::Path::command, svg_text::specs::Path::and_then))]
+pub fn read_stroke(s: &[u8]) -> Option<(Command, &[u8])>
+    ensures { reading result ≡ mapped drawn (command s.now) }
 {
-    let Spot::At { p, next } = place_at(s, at) else {
-        return Stroke::Unread;
-    };
-    if opens {
-        let c = Command::Move { end: p };
-        return Stroke::Is { c: c, next: next };
+    match s {
+        [b'M', behind @ ..] => {
+            let (end, rest) = read_place(behind)?;
+            Some((Command::Move { end: end }, rest))
+        }
+        [b'L', behind @ ..] => {
+            let (end, rest) = read_place(behind)?;
+            Some((Command::Line { end: end }, rest))
+        }
+        [b'C', behind @ ..] => read_curve(behind),
+        _ => None,
     }
-    let c = Command::Line { end: p };
-    Stroke::Is { c: c, next: next }
-}
-
-// The command that stands from `at` on.
-pub fn stroke_at(s: &[u8], at: usize) -> Stroke
-    requires { at ≤ length s.now }
-    ensures { StrokeAt s.now at result }
-{
-    if at == s.len() {
-        return Stroke::Unread;
-    }
-    let b = s[at];
-    if b == MOVE {
-        return straight_at(s, at + 1, true);
-    }
-    if b == LINE {
-        return straight_at(s, at + 1, false);
-    }
-    if b == CURVE {
-        return curve_at(s, at + 1);
-    }
-    Stroke::Unread
 }

@@ -1,23 +1,53 @@
 -- Document 02, §11: the theorems of `specs/Demand.antt` about texts: 14 is for those that the grammar does not spell, and for no other; and each M opens a lap. Assumes nothing.
 use Rattle.std.specs.Prelude.{if◌then◌else◌}
-use Prim.Native.Nat.{ℕ}
+use Prim.Native.Nat.{ℕ, zero, suc}
 use mathlib.Core.Path.{◌≡◌, refl, sym, ap, ◌∙◌, subst}
 use mathlib.Core.Bool.{Bool, true, false, not, ◌||◌}
 use mathlib.Core.List.{List, [], ◌∷◌, ◌++◌}
 use native.Mathlib.Omega.{arith}
 use borrow.Author.Tests.{le-ltb}
 use lib.ListN.{length}
-use lib.Dec.{ltb}
+use lib.Dec.{ltb, eqb}
 use Rattle.geo.specs.Lent.{flat}
 use Rattle.geo.specs.Outcome.{row, refusal, Outcome, refused, gives, unless}
 use Rattle.laps.specs.Rows.{file_size}
-use Rattle.svg_text.specs.Path.{Drawn, move, line, curve, named}
+use Rattle.svg_text.specs.Path.{Drawn, move, line, curve, Reading, broken, read, letter_m, space, command, bad, in_front, then_rest, more, others, named}
 use Rattle.svg_text.proofs.Read.{complete}
 use Rattle.svg_text.proofs.Spelled.{sound}
 use Rattle.svg_text.proofs.Tens.{Opened, opened}
 use Rattle.svg.specs.Course.{until_move, laps_drawn, course_file, all_in, read_rows, made, read_course}
-use Rattle.svg.proofs.Checking.{Only14, named_14}
 use Rattle.svg_laws.specs.Demand.{UnspelledIsRefused, RefusedIsUnspelled, NoMove, AreLaps, EachMoveOpens}
+
+-- ---- 14, and no other number
+abbrev Only14 : Outcome (List Drawn) → Type 0
+Only14 (refused n) = n ≡ 14
+Only14 (gives cs) = Unit
+
+front_14 : (c : Drawn) (o : Outcome (List Drawn)) → Only14 o → Only14 (in_front c o)
+unfolding in_front
+front_14 c (refused n) h = h
+front_14 c (gives cs) h = tt
+
+rest_14 : (f : List ℕ → Outcome (List Drawn)) → ((t : List ℕ) → Only14 (f t)) → (r : Reading Drawn) → Only14 (then_rest f r)
+unfolding then_rest
+rest_14 f h broken = refl
+rest_14 f h (read c t) = front_14 c (f t) (h t)
+
+either_14 : (b : Bool) (o : Outcome (List Drawn)) → Only14 o → Only14 (if b then o else bad)
+either_14 true o h = h
+either_14 false o h = refl
+
+more_14 : (n : ℕ) (t : List ℕ) → Only14 (more n t)
+unfolding more
+more_14 zero [] = tt
+more_14 zero (b ∷ t) = refl
+more_14 (suc n) [] = tt
+more_14 (suc n) (b ∷ t) = either_14 (eqb b space) (then_rest (more n) (command t)) (rest_14 (more n) (λ (u : List ℕ). more_14 n u) (command t))
+
+named_14 : (t : List ℕ) → Only14 (named t)
+unfolding named
+named_14 [] = tt
+named_14 (b ∷ t) = either_14 (eqb b letter_m) (then_rest others (command (b ∷ t))) (rest_14 others (λ (u : List ℕ). more_14 (length u) u) (command (b ∷ t)))
 
 -- a text that is not spelled names nothing
 pub unspelled_is-refused : UnspelledIsRefused

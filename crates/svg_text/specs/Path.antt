@@ -8,7 +8,7 @@ pub data Drawn : Type 0 where
   line : ℤ → ℤ → Drawn
   curve : ℤ → ℤ → ℤ → ℤ → ℤ → ℤ → Drawn
 
--- what was read, and the text behind it; or the text breaks the rules
+-- what was read, and the text behind it; or the text breaks the rules. An `Option` of a pair would be no plainer: its two parts would have no name
 pub data Reading (A : Type 0) : Type 0 where
   broken : Reading A
   read : A → List ℕ → Reading A
@@ -64,7 +64,7 @@ digits v (suc n) (b ∷ t) = if is_digit b then digits (10 * v + (b - nought)) n
 unfoldable pub in_thousandths : Digits → Reading ℕ
 in_thousandths d = if eqb d.room 3 then broken else read (d.value * 10 ^ d.room) d.rest
 
--- the thousandths of v units and the decimals that may then_rest
+-- the thousandths of v units and the decimals that may follow
 unfoldable pub decimals : ℕ → List ℕ → Reading ℕ
 decimals v [] = read (v * 1000) []
 decimals v (b ∷ t) = if eqb b full_stop then in_thousandths (digits v 3 t) else read (v * 1000) (b ∷ t)

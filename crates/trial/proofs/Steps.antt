@@ -4,6 +4,7 @@ use mathlib.Core.Path.{◌≡◌, sym, ap, ◌∙◌}
 use mathlib.Core.Logic.{⊎_elim}
 use mathlib.Core.Bool.{true, false}
 use lib.Ieee.{Float, lt, is_nan}
+use Rattle.std.specs.Prelude.{Some, None}
 use Rattle.floats.specs.Ops.{◌⊖◌}
 use Rattle.floats.specs.Root.{root_of}
 use Rattle.floats.proofs.Order.{either, clash, lt_gap, lt_trans}
@@ -15,7 +16,6 @@ use Rattle.circle.specs.declared.circle.Deviation.{Deviation}
 use Rattle.circle.specs.Worst.{worse}
 use Rattle.circle.specs.Three.{radius_from}
 use Rattle.trial.specs.declared.trial.Spoke.{Spoke}
-use Rattle.trial.specs.declared.trial.Measured.TheVariants.{Within, Outside}
 use Rattle.trial.specs.Trial.{measured_by}
 use Rattle.trial.specs.Deviation.{spoke_of, step_of, step_between}
 
@@ -60,15 +60,15 @@ far_stays f zero i w tol h = h
 far_stays f (suc n) i w tol h = far_stays f n (i + 1) (worse (f i) i w) tol (stays (f i) i w tol h)
 
 -- the walk may end as soon as the greatest so far is not below the tolerance
-pub too_far : (f : ℕ → Float) (n i : ℕ) (w all : Deviation) (tol : Float) → lt w.dist tol ≡ false → fold (walk f) n i w ≡ all → Outside ≡ measured_by all tol
+pub too_far : (f : ℕ → Float) (n i : ℕ) (w all : Deviation) (tol : Float) → lt w.dist tol ≡ false → fold (walk f) n i w ≡ all → None ≡ measured_by all tol
 unfolding measured_by
 too_far f n i w all tol h e = let g : lt all.dist tol ≡ false = ap (λ (x : Deviation). lt x.dist tol) (sym e) ∙ far_stays f n i w tol h in rw g
 
 -- at its end the greatest is that of all, by the test
-pub all-within : (w all : Deviation) (tol : Float) → w ≡ all → lt w.dist tol ≡ true → Within w.index ≡ measured_by all tol
+pub all-within : (w all : Deviation) (tol : Float) → w ≡ all → lt w.dist tol ≡ true → Some w.index ≡ measured_by all tol
 unfolding measured_by
 all-within w all tol e h = rw (← e, h)
 
-pub not_within : (w all : Deviation) (tol : Float) → w ≡ all → lt w.dist tol ≡ false → Outside ≡ measured_by all tol
+pub not_within : (w all : Deviation) (tol : Float) → w ≡ all → lt w.dist tol ≡ false → None ≡ measured_by all tol
 unfolding measured_by
 not_within w all tol e h = rw (← e, h)

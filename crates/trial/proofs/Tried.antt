@@ -4,27 +4,28 @@ use Prim.Native.Nat.{ℕ, ◌+◌, ◌-◌}
 use mathlib.Core.Path.{◌≡◌, refl, sym, ◌∙◌, subst}
 use mathlib.Core.Logic.{⊎_elim}
 use mathlib.Core.Bool.{Bool, true, false}
-use mathlib.Core.Option.{Option, none, some}
+use Rattle.std.specs.Prelude.{Option, Some, None}
 use native.Mathlib.Omega.{arith}
 use lib.Dec.{eqb}
 use lib.Ieee.{Float, lt}
 use Rattle.floats.proofs.Order.{either}
 use Rattle.geo.specs.declared.types.Point.{Point}
 use Rattle.geo.specs.declared.types.Point3D.{Point3D}
-use Rattle.circle.specs.declared.circle.Center as center
-use Rattle.circle.specs.Three.{Circle, radius_from, through_three}
+use Rattle.circle.specs.declared.circle.Center.{Center}
+use Rattle.circle.specs.declared.circle.Circle.{Circle}
+use Rattle.circle.specs.Three.{radius_from, through_three}
 use Rattle.circle.specs.Kasa.{kasa_center}
 use Rattle.circle.specs.Bisector.{projected}
 use Rattle.trial.specs.declared.trial.Trial.{Trial}
-use Rattle.trial.specs.declared.trial.Trial.TheVariants.{Arc, None}
 use Rattle.trial.specs.Deviation.{arc_deviation}
 use Rattle.trial.specs.Traversal.{traverses}
-use Rattle.trial.specs.Trial.{sharp_at, closed_range, measured_by, going_round, of_measured, trial_round, trial_of, of_circle, of_center, trial_three, trial_least, three_tried, least_tried, or_else, try_arcs}
+use Rattle.trial.specs.Trial.{Arc, sharp_at, closed_range, measured_by, going_round, of_measured, trial_round, trial_of, of_circle, of_center, trial_three, trial_least, three_tried, least_tried, or_else, try_arcs}
 use Rattle.trial.specs.Laws.{ArcPasses}
 
 -- ---- what a trial found passes, and its worst step is the first of its greatest deviation
-abbrev Found : Float → (ℕ → Point3D) → ℕ → ℕ → Trial → Type 0
-Found tol at lo hi (Arc c d w) = ArcPasses tol at lo hi c d × (w ≡ (arc_deviation c (radius_from c (at lo)) at lo hi).index)
+abbrev Found : Float → (ℕ → Point3D) → ℕ → ℕ → Option Trial → Type 0
+Found tol at lo hi (Some t) =
+    ArcPasses tol at lo hi t.center t.clockwise × (t.worst ≡ (arc_deviation t.center (radius_from t.center (at lo)) at lo hi).index)
 Found tol at lo hi None = Unit
 
 module _ (tol : Float) (at : ℕ → Point3D) (lo hi : ℕ) where
@@ -37,13 +38,13 @@ module _ (tol : Float) (at : ℕ → Point3D) (lo hi : ℕ) where
 
   found_circle : (c : Option Circle) → Found tol at lo hi (of_circle at lo hi tol c)
   unfolding of_circle trial_of
-  found_circle (some c) = found_round (projected (at lo) (at hi) c.center)
-  found_circle none = tt
+  found_circle (Some c) = found_round (projected (at lo) (at hi) c.center)
+  found_circle None = tt
 
-  found-center : (c : center.Center) → Found tol at lo hi (of_center at lo hi tol c)
+  found-center : (c : Option Center) → Found tol at lo hi (of_center at lo hi tol c)
   unfolding of_center trial_of
-  found-center (center.TheVariants.At c q) = found_round (projected (at lo) (at hi) c)
-  found-center center.TheVariants.None = tt
+  found-center (Some c) = found_round (projected (at lo) (at hi) c.center)
+  found-center None = tt
 
   found-three : (k : ℕ) → Found tol at lo hi (three_tried at lo hi k tol)
   unfolding three_tried trial_three
@@ -98,13 +99,13 @@ module _ (at : ℕ → Point3D) (lo hi k : ℕ) (tol : Float) where
   unfolding or_else
   none_tried e = neither (three_tried at lo hi k tol) (least_tried at lo hi k tol) (sym tried_both ∙ e)
     where
-      neither : (a b : Trial) → or_else a b ≡ None → (a ≡ None) × (b ≡ None)
-      neither (Arc m d w) b e = absurd (let z : ◌≡◌ {A = ℕ} 0 1 = cc in omega arith)
+      neither : (a b : Option Trial) → or_else a b ≡ None → (a ≡ None) × (b ≡ None)
+      neither (Some t) b e = absurd (let z : ◌≡◌ {A = ℕ} 0 1 = cc in omega arith)
       neither None b e = (refl, e)
 
-  found_or : (t u : Trial) → Found tol at lo hi t → Found tol at lo hi u → Found tol at lo hi (or_else t u)
+  found_or : (t u : Option Trial) → Found tol at lo hi t → Found tol at lo hi u → Found tol at lo hi (or_else t u)
   unfolding or_else
-  found_or (Arc c d w) u p q = p
+  found_or (Some t) u p q = p
   found_or None u p q = q
 
   -- The worst step of the range's arc is the first that reaches the arc's deviation, 0 where that is 0.

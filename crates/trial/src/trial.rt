@@ -1,6 +1,5 @@
-// src/geo/algo/fitting.rs: the arc's deviation, the traversal and the two arc trials. The inner functions take a range
-// of lent triples, from start to end.
-ghost use Rattle.std.specs.Prelude.{◌≡◌, true, false, ◌+◌, ◌*◌, ◌<◌, ◌≤◌, length};
+// src/geo/algo/fitting.rs: the arc's deviation, the traversal and the two arc trials.
+ghost use Rattle.std.specs.Prelude.{◌≡◌, true, false, ◌<◌, ◌≤◌};
 ghost use Rattle.std.specs.Float.Ieee.{is_nan};
 ghost use Rattle.std.specs.Int.Signed.{mag};
 ghost use Rattle.floats.specs.Ops.{◌⊖◌, ◌≺◌};
@@ -16,10 +15,10 @@ ghost use Rattle.trial.specs.Traversal.{offset_of, cross2, dot2, at_centre, half
 ghost use Rattle.trial.specs.Trial.{sharp_turn, sharp_at, closed_range, measured_by, going_round, trial_of, trial_three, trial_least, or_else, try_arcs};
 
 use arc::arc::turn;
-use circle::circle::{Center, CenterThrough, Deviation, to_bisector};
+use circle::circle::{Center, Circle, Deviation, center_through, to_bisector};
 use floats::float::{abs, clamp, max};
 use floats::root::sqrt;
-use geo::lent::point_at;
+use geo::lists::Stretch;
 use geo::point::get_length;
 use geo::types::{Point, Point3D};
 
@@ -38,6 +37,7 @@ impl Spoke {
     // The root of this is above SHORT: a step whose square is at least this is not short.
     const SHORT_SQUARE: f64 = 1e-17;
 
+    #[tactic(auto, unfolding(crate::specs::Deviation::spoke_of))]
     fn new(m: Point, p: Point3D) -> Self
         ensures { result ≡ spoke_of m p }
     {
@@ -51,142 +51,105 @@ impl Spoke {
     }
 }
 
-// How far the arc bulges beyond the step between two spokes.
-fn sagitta(s: Spoke, t: Spoke, r: f64) -> f64
-    ensures { result ≡ sagitta_of r s t }
-{
-    if s.len < Spoke::SHORT {
-        return 0.0;
-    }
-    if t.len < Spoke::SHORT {
-        return 0.0;
-    }
-    let c = clamp((s.x * t.x + s.y * t.y) / (s.len * t.len), -1.0, 1.0);
-    r * (1.0 - sqrt((1.0 + c) / 2.0))
+// A step along an arc: the spokes to its two ends, and the arc's radius.
+#[derive(Clone, Copy)]
+struct Step {
+    s: Spoke,
+    t: Spoke,
+    r: f64,
 }
 
-// The greater distance of the two ends from the circle.
-fn ends_off(s: Spoke, t: Spoke, r: f64) -> f64
-    ensures { result ≡ ends_of r s t }
-{
-    max(abs(s.len - r), abs(t.len - r))
-}
-
-// The deviation of one step, whose length is `len`.
-fn step_deviation(len: f64, s: Spoke, t: Spoke, r: f64) -> f64
-    ensures { result ≡ step_of r len s t }
-{
-    if len < Spoke::SHORT {
-        return abs(s.len - r);
-    }
-    let e = ends_off(s, t, r);
-    if len > 2.0 * r {
-        return e;
-    }
-    max(sagitta(s, t, r), e)
-}
-
-// The deviation of the step from p to q. r is the root of `square`: a step that is not short, and no longer than the
-// radius, needs no root.
-fn deviation_of_step(p: Point3D, q: Point3D, s: Spoke, t: Spoke, r: f64, square: f64) -> f64
-    requires { r ≡ root_of square }
-    ensures { result ≡ step_of r (length_of (q.x ⊖ p.x) (q.y ⊖ p.y)) s t }
-{
-    let dx = q.x - p.x;
-    let dy = q.y - p.y;
-    let l = dx * dx + dy * dy;
-    if Spoke::SHORT_SQUARE <= l {
-        if l <= square {
-            return max(sagitta(s, t, r), ends_off(s, t, r));
+impl Step {
+    // How far the arc bulges beyond the step.
+    #[tactic(auto, unfolding(crate::specs::Deviation::sagitta_of, crate::specs::Deviation::cosine))]
+    fn sagitta(self) -> f64
+        ensures { result ≡ sagitta_of self.r self.s self.t }
+    {
+        let s = self.s;
+        let t = self.t;
+        if s.len < Spoke::SHORT || t.len < Spoke::SHORT {
+            return 0.0;
         }
+        let c = clamp((s.x * t.x + s.y * t.y) / (s.len * t.len), -1.0, 1.0);
+        self.r * (1.0 - sqrt((1.0 + c) / 2.0))
     }
-    step_deviation(sqrt(l), s, t, r)
-}
 
-// Whether the end of the step from p to q, whose spoke is t, is off the circle by the tolerance or more, and the step not
-// short. Its deviation is no less then, whatever its sagitta.
-fn strays(p: Point3D, q: Point3D, t: Spoke, r: f64, tolerance: f64) -> bool
-    ensures { result ≡ true → (s : Spoke) → (is_nan (step_of r (length_of (q.x ⊖ p.x) (q.y ⊖ p.y)) s t) ≡ false) × ((step_of r (length_of (q.x ⊖ p.x) (q.y ⊖ p.y)) s t ≺ tolerance) ≡ false) }
-{
-    let dx = q.x - p.x;
-    let dy = q.y - p.y;
-    if Spoke::SHORT_SQUARE <= dx * dx + dy * dy {
-        return tolerance <= abs(t.len - r);
+    // The greater distance of the two ends from the circle.
+    #[tactic(auto, unfolding(crate::specs::Deviation::ends_of))]
+    fn ends_off(self) -> f64
+        ensures { result ≡ ends_of self.r self.s self.t }
+    {
+        max(abs(self.s.len - self.r), abs(self.t.len - self.r))
     }
-    false
+
+    // Its deviation, where its length is `len`.
+    #[tactic(auto, unfolding(crate::specs::Deviation::step_of))]
+    fn deviation(self, len: f64) -> f64
+        ensures { result ≡ step_of self.r len self.s self.t }
+    {
+        if len < Spoke::SHORT {
+            return abs(self.s.len - self.r);
+        }
+        let e = self.ends_off();
+        if len > 2.0 * self.r {
+            return e;
+        }
+        max(self.sagitta(), e)
+    }
+
+    // Its deviation, where it goes from p to q. The radius is the root of `square`: a step that is not short, and no longer than
+    // the radius, needs no root.
+    fn deviation_between(self, p: Point3D, q: Point3D, square: f64) -> f64
+        requires { self.r ≡ root_of square }
+        ensures { result ≡ step_of self.r (length_of (q.x ⊖ p.x) (q.y ⊖ p.y)) self.s self.t }
+    {
+        let dx = q.x - p.x;
+        let dy = q.y - p.y;
+        let l = dx * dx + dy * dy;
+        if Spoke::SHORT_SQUARE <= l && l <= square {
+            return max(self.sagitta(), self.ends_off());
+        }
+        self.deviation(sqrt(l))
+    }
+
+    // Whether the end of the step from p to q is off the circle by the tolerance or more, and the step not short. Its deviation is
+    // no less then, whatever its sagitta.
+    fn strays(self, p: Point3D, q: Point3D, tolerance: f64) -> bool
+        ensures { result ≡ true → (is_nan (step_of self.r (length_of (q.x ⊖ p.x) (q.y ⊖ p.y)) self.s self.t) ≡ false) × ((step_of self.r (length_of (q.x ⊖ p.x) (q.y ⊖ p.y)) self.s self.t ≺ tolerance) ≡ false) }
+    {
+        let dx = q.x - p.x;
+        let dy = q.y - p.y;
+        Spoke::SHORT_SQUARE <= dx * dx + dy * dy && tolerance <= abs(self.t.len - self.r)
+    }
 }
 
 // The greatest deviation of a step from the arc, and the first step that has it, 0 where there is none above 0. A
 // point's distance from the centre is worked out once: it serves the step before and the step after.
-pub fn arc_deviation(points: &[f64], start: usize, end: usize, m: Point, r: f64) -> Deviation
-    requires { (start ≤ end) × (3 * end + 2 < length points.now) }
-    ensures { result ≡ arc_deviation m r (point_at points.now) start end }
+pub fn arc_deviation(stretch: Stretch, arc: Circle) -> Deviation
+    ensures { result ≡ arc_deviation arc.center arc.radius (point_at stretch.entry.points.now) stretch.entry.start stretch.entry.end }
 {
     let mut worst = Deviation {
         dist: 0.0,
         index: 0,
     };
-    let mut p = point_at(points, start);
-    let mut s = Spoke::new(m, p);
-    for i in start..end {
-        let q = point_at(points, i + 1);
-        let t = Spoke::new(m, q);
-        let len = get_length(q.x - p.x, q.y - p.y);
-        worst = worst.or(step_deviation(len, s, t, r), i);
+    let mut p = stretch.first();
+    let mut s = Spoke::new(arc.center, p);
+    for i in stretch.start..stretch.end {
+        let q = stretch.at(i + 1);
+        let t = Spoke::new(arc.center, q);
+        let step = Step {
+            s,
+            t,
+            r: arc.radius,
+        };
+        worst = worst.or(step.deviation(get_length(q.x - p.x, q.y - p.y)), i);
         p = q;
         s = t;
     }
     worst
 }
 
-// What the walk along an arc's steps found: each is below the tolerance, and which is the worst; or one is not.
-#[derive(Clone, Copy)]
-enum Measured {
-    Within(usize),
-    Outside,
-}
-
-// Whether that deviation is below the tolerance, and its step, where `first` is the first point's spoke and its length
-// the radius: the walk ends at the first step that is not.
-fn measure_arc(
-    points: &[f64],
-    start: usize,
-    end: usize,
-    m: Point,
-    first: Spoke,
-    tolerance: f64,
-) -> Measured
-    requires { (first ≡ spoke_of m (point_at points.now start)) × ((start ≤ end) × (3 * end + 2 < length points.now)) }
-    ensures { result ≡ measured_by (arc_deviation m (radius_from m (point_at points.now start)) (point_at points.now) start end) tolerance }
-{
-    let mut worst = Deviation {
-        dist: 0.0,
-        index: 0,
-    };
-    let mut p = point_at(points, start);
-    let mut s = first;
-    let r = first.len;
-    let square = first.x * first.x + first.y * first.y;
-    for i in start..end {
-        let q = point_at(points, i + 1);
-        let t = Spoke::new(m, q);
-        if strays(p, q, t, r, tolerance) {
-            return Measured::Outside;
-        }
-        worst = worst.or(deviation_of_step(p, q, s, t, r, square), i);
-        let ok = worst.dist < tolerance;
-        if !ok {
-            return Measured::Outside;
-        }
-        p = q;
-        s = t;
-    }
-    if worst.dist < tolerance {
-        return Measured::Within(worst.index);
-    }
-    Measured::Outside
-}
-
+#[tactic(auto, unfolding(crate::specs::Traversal::offset_of))]
 fn offset(m: Point, p: Point3D) -> Point
     ensures { result ≡ offset_of m p }
 {
@@ -196,12 +159,14 @@ fn offset(m: Point, p: Point3D) -> Point
     }
 }
 
+#[tactic(auto, unfolding(crate::specs::Traversal::cross2))]
 fn cross(p: Point, q: Point) -> f64
     ensures { result ≡ cross2 p q }
 {
     p.x * q.y - p.y * q.x
 }
 
+#[tactic(auto, unfolding(crate::specs::Traversal::dot2))]
 fn dot(p: Point, q: Point) -> f64
     ensures { result ≡ dot2 p q }
 {
@@ -209,20 +174,17 @@ fn dot(p: Point, q: Point) -> f64
 }
 
 // Whether q lies in half 0 as seen from q0.
+#[tactic(auto, unfolding(crate::specs::Traversal::half_of))]
 fn half(q0: Point, q: Point) -> bool
     ensures { result ≡ half_of q0 q }
 {
     let c = cross(q0, q);
-    if c > 0.0 {
-        return true;
-    }
-    if c == 0.0 {
-        return dot(q0, q) > 0.0;
-    }
-    false
+    c > 0.0 || (c == 0.0 && dot(q0, q) > 0.0)
 }
 
-// W after one step more, of cross c, from half h to half k; true is half 0.
+// W after one step more, of cross c, from half h to half k; true is half 0. As two conjunctions of three tests the trial was
+// slower by a twentieth: the second tested `h` again.
+#[tactic(auto, unfolding(crate::specs::Traversal::turned))]
 fn turn_by(w: i64, h: bool, k: bool, c: f64) -> i64
     requires { mag w < most_points }
     ensures { result ≡ turned h k c w }
@@ -243,26 +205,18 @@ fn turn_by(w: i64, h: bool, k: bool, c: f64) -> i64
     w
 }
 
+#[tactic(auto, unfolding(crate::specs::Traversal::just_behind))]
 fn just_behind(c: f64, d: f64) -> bool
     ensures { result ≡ just_behind c d }
 {
-    if d > 0.0 {
-        if c < 0.0 {
-            return -c <= Trial::NEAR * d;
-        }
-    }
-    false
+    d > 0.0 && c < 0.0 && -c <= Trial::NEAR * d
 }
 
+#[tactic(auto, unfolding(crate::specs::Traversal::just_ahead))]
 fn just_ahead(c: f64, d: f64) -> bool
     ensures { result ≡ just_ahead c d }
 {
-    if d > 0.0 {
-        if c >= 0.0 {
-            return c <= Trial::NEAR * d;
-        }
-    }
-    false
+    d > 0.0 && c >= 0.0 && c <= Trial::NEAR * d
 }
 
 // Whether less than a whole turn was gone, by W and by where the last point lies.
@@ -280,29 +234,27 @@ fn passes(w: i64, q0: Point, q: Point) -> bool
     false
 }
 
+#[tactic(auto, unfolding(crate::specs::Traversal::at_centre))]
 fn at_centre(q: Point) -> bool
     ensures { result ≡ at_centre q }
 {
-    if q.x == 0.0 {
-        return q.y == 0.0;
-    }
-    false
+    q.x == 0.0 && q.y == 0.0
 }
 
 // Whether the points go round m by less than a whole turn.
-fn traversal_passes(points: &[f64], start: usize, end: usize, m: Point) -> bool
-    requires { (start ≤ end) × (end < most_points) × (3 * end + 2 < length points.now) }
-    ensures { result ≡ traverses m (point_at points.now) start end }
+fn traversal_passes(stretch: Stretch, m: Point) -> bool
+    requires { stretch.end < most_points }
+    ensures { result ≡ traverses m (point_at stretch.entry.points.now) stretch.entry.start stretch.entry.end }
 {
-    let q0 = offset(m, point_at(points, start));
+    let q0 = offset(m, stretch.first());
     if at_centre(q0) {
         return false;
     }
     let mut q = q0;
     let mut h = half(q0, q0);
     let mut w: i64 = 0;
-    for i in start..end {
-        let n = offset(m, point_at(points, i + 1));
+    for i in stretch.start..stretch.end {
+        let n = offset(m, stretch.at(i + 1));
         if at_centre(n) {
             return false;
         }
@@ -316,20 +268,20 @@ fn traversal_passes(points: &[f64], start: usize, end: usize, m: Point) -> bool
 }
 
 // Whether they go clockwise.
-fn goes_clockwise(points: &[f64], start: usize, end: usize, m: Point) -> bool
-    requires { (start ≤ end) × (3 * end + 2 < length points.now) }
-    ensures { result ≡ clockwise (λ i. flatten (point_at points.now i)) start end m }
+fn goes_clockwise(stretch: Stretch, m: Point) -> bool
+    ensures { result ≡ clockwise (λ i. flatten (point_at stretch.entry.points.now i)) stretch.entry.start stretch.entry.end m }
 {
     let mut sum = 0.0;
-    let mut p = point_at(points, start).truncate();
-    for i in start..end {
-        let q = point_at(points, i + 1).truncate();
-        sum = sum + turn(m, p, q);
+    let mut p = stretch.first().truncate();
+    for i in stretch.start..stretch.end {
+        let q = stretch.at(i + 1).truncate();
+        sum += turn(m, p, q);
         p = q;
     }
     sum < 0.0
 }
 
+#[tactic(auto, unfolding(crate::specs::Trial::sharp_turn))]
 fn sharp_turn(a: Point3D, b: Point3D, c: Point3D) -> bool
     ensures { result ≡ sharp_turn a b c }
 {
@@ -339,39 +291,31 @@ fn sharp_turn(a: Point3D, b: Point3D, c: Point3D) -> bool
     let dy2 = c.y - b.y;
     let len1 = get_length(dx1, dy1);
     let len2 = get_length(dx2, dy2);
-    if len1 > Spoke::SHORT {
-        if len2 > Spoke::SHORT {
-            return (dx1 * dx2 + dy1 * dy2) / (len1 * len2) < Trial::SHARP;
-        }
-    }
-    false
+    len1 > Spoke::SHORT
+        && len2 > Spoke::SHORT
+        && (dx1 * dx2 + dy1 * dy2) / (len1 * len2) < Trial::SHARP
 }
 
-// Whether the points turn sharply at `split`, strictly between start and end.
-fn is_sharp(points: &[f64], start: usize, end: usize, split: usize) -> bool
-    requires { 3 * end + 2 < length points.now }
-    ensures { result ≡ sharp_at (point_at points.now) start end split }
+// Whether the points turn sharply at `split`, strictly between the stretch's ends.
+#[tactic(auto, unfolding(crate::specs::Trial::sharp_at))]
+fn is_sharp(stretch: Stretch, split: usize) -> bool
+    ensures { result ≡ sharp_at (point_at stretch.entry.points.now) stretch.entry.start stretch.entry.end split }
 {
-    if start < split {
-        if split < end {
-            let a = point_at(points, split - 1);
-            let b = point_at(points, split);
-            let c = point_at(points, split + 1);
-            return sharp_turn(a, b, c);
-        }
-    }
-    false
+    stretch.start < split
+        && split < stretch.end
+        && sharp_turn(
+            stretch.at(split - 1),
+            stretch.at(split),
+            stretch.at(split + 1),
+        )
 }
 
-// What an arc trial found: the arc's centre, its direction and its worst step, or nothing.
+// What an arc trial found: the arc's centre, its direction and its worst step.
 #[derive(Clone, Copy)]
-pub enum Trial {
-    Arc {
-        center: Point,
-        clockwise: bool,
-        worst: usize,
-    },
-    None,
+pub struct Trial {
+    pub center: Point,
+    pub clockwise: bool,
+    pub worst: usize,
 }
 
 impl Trial {
@@ -386,89 +330,118 @@ impl Trial {
 
     // How near the last point may come to the first, as a share of a radius.
     const NEAR: f64 = 0.001;
+}
+
+// The two trials of a stretch that is not too long, by a tolerance.
+#[derive(Clone, Copy)]
+struct Trials<'a> {
+    stretch: Stretch<'a>,
+    tolerance: f64,
+    ghost few: { stretch.end < most_points },
+}
+
+impl<'a> Trials<'a> {
+    // Whether the deviation of the arc round m is below the tolerance, by its worst step, where `first` is the first point's spoke
+    // and its length the radius: the walk ends at the first step that is not. It takes no root where a square decides, which
+    // `arc_deviation` cannot: its radius is any.
+    fn measure(self, m: Point, first: Spoke) -> Option<usize>
+        requires { first ≡ spoke_of m (point_at self.stretch.points.now self.stretch.start) }
+        ensures { result ≡ measured_by (arc_deviation m (radius_from m (point_at self.entry.stretch.points.now self.entry.stretch.start)) (point_at self.entry.stretch.points.now) self.entry.stretch.start self.entry.stretch.end) self.entry.tolerance }
+    {
+        let mut worst = Deviation {
+            dist: 0.0,
+            index: 0,
+        };
+        let stretch = self.stretch;
+        let mut p = stretch.first();
+        let mut s = first;
+        let r = first.len;
+        let square = first.x * first.x + first.y * first.y;
+        for i in stretch.start..stretch.end {
+            let q = stretch.at(i + 1);
+            let t = Spoke::new(m, q);
+            let step = Step { s, t, r };
+            if step.strays(p, q, self.tolerance) {
+                return None;
+            }
+            worst = worst.or(step.deviation_between(p, q, square), i);
+            let ok = worst.dist < self.tolerance;
+            if !ok {
+                return None;
+            }
+            p = q;
+            s = t;
+        }
+        if worst.dist < self.tolerance {
+            return Some(worst.index);
+        }
+        None
+    }
 
     // The arc round a centre from which every step is within the tolerance: it passes where it goes less than a whole turn.
-    fn going(points: &[f64], start: usize, end: usize, center: Point, worst: usize) -> Self
-        requires { (start ≤ end) × (end < most_points) × (3 * end + 2 < length points.now) }
-        ensures { result ≡ going_round (point_at points.now) start end center worst }
+    #[tactic(auto, unfolding(crate::specs::Trial::going_round))]
+    fn going(self, center: Point, worst: usize) -> Option<Trial>
+        ensures { result ≡ going_round (point_at self.entry.stretch.points.now) self.entry.stretch.start self.entry.stretch.end center worst }
     {
-        if !traversal_passes(points, start, end, center) {
-            return Trial::None;
+        if !traversal_passes(self.stretch, center) {
+            return None;
         }
-        let clockwise = goes_clockwise(points, start, end, center);
-        Trial::Arc {
+        let clockwise = goes_clockwise(self.stretch, center);
+        Some(Trial {
             center,
             clockwise,
             worst,
-        }
+        })
     }
 
-    // The arc round a fitted centre, moved to the bisector of the range's ends. Its radius is measured again from there.
-    fn round(points: &[f64], start: usize, end: usize, tolerance: f64, fitted: Point) -> Self
-        requires { (start ≤ end) × (end < most_points) × (3 * end + 2 < length points.now) }
-        ensures { result ≡ trial_of (point_at points.now) start end tolerance fitted }
+    // The arc round a fitted centre, moved to the bisector of the stretch's ends. Its radius is measured again from there.
+    #[tactic(auto, unfolding(crate::specs::Trial::trial_of, crate::specs::Trial::trial_round, crate::specs::Trial::of_measured))]
+    fn round(self, fitted: Point) -> Option<Trial>
+        ensures { result ≡ trial_of (point_at self.entry.stretch.points.now) self.entry.stretch.start self.entry.stretch.end self.entry.tolerance fitted }
     {
-        let a = point_at(points, start);
-        let center = to_bisector(a, point_at(points, end), fitted);
+        let a = self.stretch.first();
+        let center = to_bisector(a, self.stretch.last(), fitted);
         let first = Spoke::new(center, a);
-        let t = measure_arc(points, start, end, center, first, tolerance);
-        match t {
-            Measured::Within(worst) => Trial::going(points, start, end, center, worst),
-            Measured::Outside => Trial::None,
-        }
+        let worst = self.measure(center, first)?;
+        self.going(center, worst)
     }
 
-    // By the circle through the range's first, second and last point.
-    fn of_three(points: &[f64], start: usize, end: usize, tolerance: f64) -> Self
-        requires { (start < end) × (end < most_points) × (3 * end + 2 < length points.now) }
-        ensures { result ≡ trial_three (point_at points.now) start end tolerance }
+    // By the circle through the stretch's first, second and last point.
+    #[tactic(auto, unfolding(crate::specs::Trial::trial_three, crate::specs::Trial::of_circle, circle::specs::Three::through_three, circle::specs::Three::circle_round))]
+    fn of_three(self) -> Option<Trial>
+        requires { self.stretch.start < self.stretch.end }
+        ensures { result ≡ trial_three (point_at self.entry.stretch.points.now) self.entry.stretch.start self.entry.stretch.end self.entry.tolerance }
     {
-        let a = point_at(points, start);
-        let b = point_at(points, start + 1);
-        let c = point_at(points, end);
-        let t = CenterThrough::of(a, b, c);
-        match t {
-            CenterThrough::At(center) => Trial::round(points, start, end, tolerance, center),
-            CenterThrough::None => Trial::None,
-        }
+        let a = self.stretch.first();
+        let b = self.stretch.at(self.stretch.start + 1);
+        let center = center_through(a, b, self.stretch.last())?;
+        self.round(center)
     }
 
     // By the circle of least squares.
-    fn of_least_squares(points: &[f64], start: usize, end: usize, tolerance: f64) -> Self
-        requires { (start ≤ end) × (end < most_points) × (3 * end + 2 < length points.now) }
-        ensures { result ≡ trial_least (point_at points.now) start end tolerance }
+    #[tactic(auto, unfolding(crate::specs::Trial::trial_least, crate::specs::Trial::of_center))]
+    fn of_least_squares(self) -> Option<Trial>
+        ensures { result ≡ trial_least (point_at self.entry.stretch.points.now) self.entry.stretch.start self.entry.stretch.end self.entry.tolerance }
     {
-        let t = Center::of(points, start, end);
-        match t {
-            Center::At { center, square: _ } => {
-                Trial::round(points, start, end, tolerance, center)
-            }
-            Center::None => Trial::None,
-        }
+        let circle = Center::of(self.stretch)?;
+        self.round(circle.center)
     }
 
     // By the first of the two that passes.
-    fn of_either(points: &[f64], start: usize, end: usize, tolerance: f64) -> Self
-        requires { (start < end) × (end < most_points) × (3 * end + 2 < length points.now) }
-        ensures { result ≡ or_else (trial_three (point_at points.now) start end tolerance) (trial_least (point_at points.now) start end tolerance) }
+    #[tactic(auto, unfolding(crate::specs::Trial::or_else))]
+    fn of_either(self) -> Option<Trial>
+        requires { self.stretch.start < self.stretch.end }
+        ensures { result ≡ or_else (trial_three (point_at self.entry.stretch.points.now) self.entry.stretch.start self.entry.stretch.end self.entry.tolerance) (trial_least (point_at self.entry.stretch.points.now) self.entry.stretch.start self.entry.stretch.end self.entry.tolerance) }
     {
-        let t = Trial::of_three(points, start, end, tolerance);
-        match t {
-            Trial::Arc {
-                center,
-                clockwise,
-                worst,
-            } => Trial::Arc {
-                center,
-                clockwise,
-                worst,
-            },
-            Trial::None => Trial::of_least_squares(points, start, end, tolerance),
+        // `or_else` of std would be no plainer: what its closure gives would need a proof of its own.
+        match self.of_three() {
+            Some(t) => Some(t),
+            None => self.of_least_squares(),
         }
     }
 }
 
-// Whether the range's ends all but meet.
+// Whether the ends of a range all but meet.
 fn is_closed_range(a: Point3D, b: Point3D) -> bool
     ensures { result ≡ closed_range a b }
 {
@@ -482,18 +455,20 @@ fn is_closed_range(a: Point3D, b: Point3D) -> bool
 }
 
 // The arc of the first trial that passes. A sharp turn at the split point or a closed range blocks both trials.
-pub fn try_arcs(points: &[f64], start: usize, end: usize, split: usize, tolerance: f64) -> Trial
-    requires { (start ≤ end) × (end < most_points) × (3 * end + 2 < length points.now) }
-    ensures { result ≡ try_arcs (point_at points.now) start end split tolerance }
+#[tactic(auto, unfolding(crate::specs::Trial::try_arcs))]
+pub fn try_arcs(stretch: Stretch, split: usize, tolerance: f64) -> Option<Trial>
+    requires { stretch.end < most_points }
+    ensures { result ≡ try_arcs (point_at stretch.entry.points.now) stretch.entry.start stretch.entry.end split tolerance }
 {
-    if is_sharp(points, start, end, split) {
-        return Trial::None;
+    if is_sharp(stretch, split) {
+        return None;
     }
-    if is_closed_range(point_at(points, start), point_at(points, end)) {
-        return Trial::None;
+    if is_closed_range(stretch.first(), stretch.last()) {
+        return None;
     }
-    if end - start == 2 {
-        return Trial::of_either(points, start, end, tolerance);
+    let trials = Trials { stretch, tolerance };
+    if stretch.end - stretch.start == 2 {
+        return trials.of_either();
     }
-    Trial::of_least_squares(points, start, end, tolerance)
+    trials.of_least_squares()
 }

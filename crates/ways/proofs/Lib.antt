@@ -5,3 +5,4 @@ pub mod Held
 pub mod Walk
 pub mod Laws
 pub mod Worked
+pub mod Told

@@ -1,9 +1,10 @@
--- What is filled lies in the buffer. The measure is how many bytes are left to fill.
-use Rattle.std.proofs.Common.{length, ◌-◌, ◌≤◌}
+-- What is filled lies in the buffer, and is what the reader gave. The measure is how many bytes are left to fill.
+use Rattle.std.proofs.Common.{length, take, ◌-◌, ◌≤◌}
+use Rattle.std.specs.Io.KnownBytes.{Consumes}
 use Rattle.buffers.proofs.read_full.Given as goal
 
 abbrev pub invariant-loop-n : goal.invariant-loop-n
-invariant-loop-n g l = l.n ≤ length l.buffer
+invariant-loop-n g l = (l.n ≤ length l.buffer) × Consumes (g.R.Read.remaining l.initial.reader) (g.R.Read.remaining l.reader) (take l.n l.buffer)
 
 abbrev pub decreases-loop-n : goal.decreases-loop-n
 decreases-loop-n g l = length l.initial.buffer - l.n

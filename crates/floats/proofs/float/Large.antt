@@ -1,13 +1,10 @@
--- Zero, the infinities, NaN, and every float from 2 ^ 52 up, of either sign, are their own ceilings: from there on each float is whole. Assumes nothing.
-use Rattle.std.proofs.Common.{◌≡◌, ℕ, zero, suc, ◌+◌, ◌-◌, ◌*◌, ◌/◌, ◌%◌, ◌^◌, ◌<◌, ◌≤◌, Bool, true, false, not, ◌&&◌, T, eqb, ltb, leb, ℤ, pos, negsuc, sym, refl, ap, ◌∙◌, subst, le_of_eq, lt_of_lt_of_le, zero-lt-suc, mul_assoc, mul-lt-mul_of_pos_right, mul-pos, one-mul, zero-mul, mul-one, arith, eqb→eq, ltb→lt, nltb→le, pow_pos, pow-add}
+-- Floats from 2 ^ 52 up are whole, zero is written in one way, and a sign turned twice. Assumes nothing.
+use Rattle.std.proofs.Common.{◌≡◌, ℕ, zero, suc, ◌+◌, ◌*◌, ◌%◌, ◌^◌, ◌<◌, ◌≤◌, Bool, true, false, not, ◌&&◌, T, eqb, ltb, leb, ℤ, pos, negsuc, sym, refl, ap, ◌∙◌, subst, le_of_eq, lt_of_lt_of_le, zero-lt-suc, mul_assoc, mul-lt-mul_of_pos_right, one-mul, mul-one, arith, eqb→eq, ltb→lt, nltb→le, pow_pos, pow-add}
 use native.Mathlib.Nat.{pow-succ'}
 use lib.Ieee.{Float, nan, inf, fin, binary64, up, down, lt, neg, round, fits}
-use lib.Ieee.Fits.{and_l, and_r, round-fits, up_pos}
+use lib.Ieee.Fits.{and_l, and_r, round-fits}
 use lib.Ieee.Exact.{round_exact}
 use lib.Ieee.Back.{whole_unique}
-use Rattle.floats.specs.Root.{plain}
-use Rattle.floats.specs.Float.{ceil_of}
-use Rattle.floats.proofs.Order.{clash}
 
 -- what `fits` says of a number that is not zero
 digits : (s : Bool) (m : ℕ) (e : ℤ) → T (fits binary64 (fin s (suc m) e)) → suc m < 2 ^ 53
@@ -59,13 +56,7 @@ pub whole-value : (m : ℕ) (e : ℤ) → T (fits binary64 (fin false (suc m) e)
 whole-value m (pos k) f h = (refl, rounds_back m k f)
 whole-value m (negsuc j) f h = absurd (no_fraction m j (digits false m (negsuc j) f) (not_below (suc m) (negsuc j) h))
 
--- ---- the ceiling of what is whole
-up-whole : (a d : ℕ) → d ≡ 1 → (a + (d - 1)) / d ≡ a
-up-whole a d e = rw e (omega arith)
-
-cut-whole : (a d : ℕ) → d ≡ 1 → a / d ≡ a
-cut-whole a d e = rw e (omega arith)
-
+-- ---- zero is written in one way
 unit_exponent : (e : ℤ) → up e * down e ≡ 1 → (e ≡ pos 0) × (down e ≡ 1)
 unit_exponent (pos zero) h = (refl, refl)
 unit_exponent (pos (suc k)) h = absurd (let p = pow_pos k in omega (arith, pow-succ' 2 k, mul-one (2 ^ suc k)))
@@ -75,78 +66,7 @@ pub zero_exponent : (s : Bool) (e : ℤ) → T (fits binary64 (fin s zero e)) �
 unfolding fits
 zero_exponent s e t = (unit_exponent e (eqb→eq (up e * down e) 1 t)).0
 
-zero_ceil : (s : Bool) (e : ℤ) → T (fits binary64 (fin s zero e)) → fin s zero e ≡ ceil_of (fin s zero e)
-unfolding ceil_of
-zero_ceil true e t = rw (zero_exponent true e t) refl
-zero_ceil false e t = rw (zero_exponent false e t) refl
-
--- a number below zero has its sign, and one above zero has none
-none_below : (m : ℕ) (e : ℤ) → lt (fin false m e) (fin false 0 (pos 0)) ≡ true → ⊥
-unfolding lt
-none_below m e h =
-    let l : m * up e * 1 < 0 * 1 * down e = ltb→lt (m * up e * 1) (0 * 1 * down e) (subst T (sym h) tt) in
-    omega (arith, zero-mul (down e))
-
-signed_zero : (m : ℕ) (e : ℤ) → lt (fin true (suc m) e) (fin false 0 (pos 0)) ≡ false → ⊥
-unfolding lt
-signed_zero m e h =
-    let l : suc m * up e * 1 + 0 * 1 * down e ≤ 0 = nltb→le 0 (suc m * up e * 1 + 0 * 1 * down e) (subst (λ (b : Bool). T (not b)) (sym h) tt) in
-    let p = mul-pos (zero-lt-suc m) (up_pos e) in
-    omega arith
-
-unsigned_zero : (m : ℕ) (e : ℤ) → lt (fin false 0 (pos 0)) (fin false (suc m) e) ≡ false → ⊥
-unfolding lt
-unsigned_zero m e h =
-    let l : suc m * up e * 1 ≤ 0 * 1 * down e = nltb→le (0 * 1 * down e) (suc m * up e * 1) (subst (λ (b : Bool). T (not b)) (sym h) tt) in
-    let p = mul-pos (zero-lt-suc m) (up_pos e) in
-    omega (arith, zero-mul (down e))
-
--- ---- for the function `ceil`, by the tests that it makes
-pub large_above : (x : Float) → T (fits binary64 x) → lt (fin false 0 (pos 0)) x ≡ true → lt x (fin false 1 (pos 52)) ≡ false → x ≡ ceil_of x
-unfolding ceil_of
-large_above nan f g h = refl
-large_above (inf s) f g h = refl
-large_above (fin s zero e) f g h = zero_ceil s e f
-large_above (fin true (suc m) e) f g h = clash (unfold lt in g)
-large_above (fin false (suc m) e) f g h =
-    let w = whole-value m e f h in
-    sym (ap (λ (n : ℕ). round binary64 false n 1) (up-whole (suc m * up e) (down e) w.0) ∙ w.1)
-
-pub large_below : (x : Float) → T (fits binary64 x) → lt x (fin false 0 (pos 0)) ≡ true → lt (neg x) (fin false 1 (pos 52)) ≡ false → x ≡ ceil_of x
-unfolding ceil_of neg
-large_below nan f g h = refl
-large_below (inf s) f g h = refl
-large_below (fin s zero e) f g h = zero_ceil s e f
-large_below (fin false (suc m) e) f g h = absurd (none_below (suc m) e g)
-large_below (fin true (suc m) e) f g h =
-    let w = whole-value m e (unsigned true (suc m) e f) h in
-    sym (ap (λ (n : ℕ). neg (round binary64 false n 1)) (cut-whole (suc m * up e) (down e) w.0) ∙ ap neg w.1)
-
-pub zero_or_nan : (x : Float) → T (fits binary64 x) → lt (fin false 0 (pos 0)) x ≡ false → lt x (fin false 0 (pos 0)) ≡ false → x ≡ ceil_of x
-unfolding ceil_of
-zero_or_nan nan f a b = refl
-zero_or_nan (inf s) f a b = refl
-zero_or_nan (fin s zero e) f a b = zero_ceil s e f
-zero_or_nan (fin true (suc m) e) f a b = absurd (signed_zero m e b)
-zero_or_nan (fin false (suc m) e) f a b = absurd (unsigned_zero m e a)
-
--- ---- what those tests say of x
-pub above-plain : (x : Float) → lt (fin false 0 (pos 0)) x ≡ true → lt x (fin false 1 (pos 52)) ≡ true → T (plain x)
-unfolding plain
-above-plain nan g h = clash (unfold lt in g)
-above-plain (inf true) g h = clash (unfold lt in g)
-above-plain (inf false) g h = clash (unfold lt in h)
-above-plain (fin true m e) g h = clash (unfold lt in g)
-above-plain (fin false m e) g h = tt
-
-pub below_plain : (x : Float) → lt x (fin false 0 (pos 0)) ≡ true → lt (neg x) (fin false 1 (pos 52)) ≡ true → T (plain (neg x))
-unfolding plain neg
-below_plain nan g h = clash (unfold lt in g)
-below_plain (inf true) g h = clash (unfold lt in h)
-below_plain (inf false) g h = clash (unfold lt in g)
-below_plain (fin true m e) g h = tt
-below_plain (fin false m e) g h = absurd (none_below m e g)
-
+-- ---- signs
 pub neg_neg : (x : Float) → neg (neg x) ≡ x
 unfolding neg
 neg_neg nan = refl

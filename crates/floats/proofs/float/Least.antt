@@ -1,6 +1,6 @@
 -- The ceiling of a finite float is the least whole number not below it: of its fraction a / d, by the laws of division; and where the whole number is too large to be
 -- rounded exactly, the float is whole already. Assumes nothing.
-use Rattle.std.proofs.Common.{◌≡◌, ℕ, zero, suc, ◌+◌, ◌-◌, ◌*◌, ◌/◌, ◌%◌, ◌^◌, ◌<◌, ◌≤◌, Bool, true, false, not, T, ltb, ℤ, pos, sym, refl, ap, ◌∙◌, subst, ⊎_elim, mul-le-mul_right, mod-lt, zero-lt-suc, div-lt_iff_lt-mul, add-mul, mul-lt-mul_of_pos_right, mul-pos, one-mul, div-add-mod', le-div_iff_mul-le, zero-mul, mul-one, mul_right_comm, div-mul-le_self, arith, ltb-false, le-ltb, lt-ltb, eq-eqb}
+use Rattle.std.proofs.Common.{◌≡◌, ℕ, zero, suc, ◌+◌, ◌-◌, ◌*◌, ◌/◌, ◌%◌, ◌^◌, ◌<◌, ◌≤◌, Bool, true, false, not, T, ltb, ltb→lt, ℤ, pos, sym, refl, ap, ◌∙◌, subst, ⊎_elim, mul-le-mul_right, mod-lt, zero-lt-suc, div-lt_iff_lt-mul, add-mul, mul-lt-mul_of_pos_right, mul-pos, one-mul, div-add-mod', le-div_iff_mul-le, zero-mul, mul-one, mul_right_comm, div-mul-le_self, arith, ltb-false, le-ltb, lt-ltb, eq-eqb}
 use lib.Ieee.{Float, nan, inf, fin, binary64, up, down, below, level, lt, eq, neg, round, fits}
 use lib.Ieee.Fits.{down_pos}
 use lib.Ieee.Exact.{HasValue}
@@ -8,8 +8,14 @@ use lib.Ieee.Back.{round_whole}
 use lib.Ieee.Scale.{finite}
 use Rattle.floats.specs.Float.{ceil_of, is_minus, whole_number, LeastWhole}
 use Rattle.floats.proofs.Order.{either, lt_or_ge}
-use Rattle.floats.proofs.float.Ceiling.{cut_lt}
 use Rattle.floats.proofs.float.Large.{unsigned, whole-value}
+
+below-cut : (m : ℕ) (e : ℤ) → T (lt (fin false m e) (fin false 1 (pos 52))) → m * up e < 2 ^ 52 * down e
+unfolding lt
+below-cut m e h = let l = ltb→lt (m * up e * 1) (1 * 2 ^ 52 * down e) h in subst (λ (x : ℕ). x < 2 ^ 52 * down e) (mul-one (m * up e)) l
+
+cut_lt : (m : ℕ) (e : ℤ) → T (lt (fin false m e) (fin false 1 (pos 52))) → m * up e / down e < 2 ^ 52
+cut_lt m e h = (div-lt_iff_lt-mul (down_pos e)).1 (below-cut m e h)
 
 -- ---- comparisons of fractions with a common divisor
 ltb_scale : (a b c : ℕ) → 0 < c → ltb (a * c) (b * c) ≡ ltb a b

@@ -1,7 +1,7 @@
 -- What the program reads in a pattern: the value, in units of the format's smallest. Assumes nothing.
-use Rattle.std.proofs.Common.{◌≡◌, ℕ, zero, suc, ◌+◌, ◌-◌, ◌*◌, ◌/◌, ◌%◌, ◌^◌, ◌<◌, ◌≤◌, Bool, true, false, cond, not, ◌&&◌, T, eqb, ltb, leb, sym, refl, ap, ◌∙◌, subst, le_of_eq, lt_of_lt_of_le, mod-eq_of_lt, mul_assoc, div-lt_iff_lt-mul, add_comm, mul-lt-mul_of_pos_right, mul-pos, zero-mul, mul-one, mul_right_comm, not-le_of_lt, mul-div_cancel, arith, eqb→eq, ltb→lt, leb→le, pow_pos, pow-add}
+use Rattle.std.proofs.Common.{◌≡◌, ℕ, zero, suc, ◌+◌, ◌-◌, ◌*◌, ◌/◌, ◌%◌, ◌^◌, ◌<◌, Bool, true, false, cond, ◌&&◌, T, eqb, ltb, leb, sym, refl, ap, ◌∙◌, subst, le_of_eq, lt_of_lt_of_le, mod-eq_of_lt, div-lt_iff_lt-mul, mul-lt-mul_of_pos_right, mul-pos, zero-mul, mul_right_comm, not-le_of_lt, mul-div_cancel, arith, eqb→eq, ltb→lt, leb→le, pow_pos}
 use lib.Dec.{not_T}
-use lib.Ieee.{Float, nan, inf, fin, binary64, up, down, size, odd, of_fields, of_bits, to_bits, fits, is_nan}
+use lib.Ieee.{Float, nan, inf, fin, binary64, up, down, size, odd, of_fields, of_bits, to_bits, fits}
 use lib.Ieee.Digits.{size-le}
 use lib.Ieee.Bits.{is_false, cond_no, of_bits-to_bits}
 use lib.Ieee.Exact.{HasValue, odd_sign}
@@ -49,18 +49,6 @@ units_of_value nan n h = absurd h
 units_of_value (inf s) n h = absurd h
 units_of_value (fin s m e) n h = ap (λ (y : ℕ). y / down e) h.1 ∙ mul-div_cancel n (down_pos e)
 
-pub read_small : (x : Float) → T (fits binary64 x) → to_bits binary64 x / 0x10_0000_0000_0000 ≡ 0 → in_units x ≡ to_bits binary64 x % 0x10_0000_0000_0000
-read_small x f z =
-    let b = to_bits binary64 x in
-    units_of_value x (b % 0x10_0000_0000_0000 * 2 ^ 0) (subst (λ (y : Float). HasValue y false (b % 0x10_0000_0000_0000 * 2 ^ 0) (2 ^ 1074)) (of_bits-to_bits binary64 x f) (value_small b z)) ∙ mul-one (b % 0x10_0000_0000_0000)
-
-pub read-normal : (x : Float) → T (fits binary64 x) → (to_bits binary64 x / 0x10_0000_0000_0000 ≡ 0 → ⊥) → to_bits binary64 x < 0x7ff0_0000_0000_0000
-    → in_units x ≡ (0x10_0000_0000_0000 + to_bits binary64 x % 0x10_0000_0000_0000) * 2 ^ (to_bits binary64 x / 0x10_0000_0000_0000 - 1)
-read-normal x f z h =
-    let b = to_bits binary64 x in
-    let n = (0x10_0000_0000_0000 + b % 0x10_0000_0000_0000) * 2 ^ (b / 0x10_0000_0000_0000 - 1) in
-    units_of_value x n (subst (λ (y : Float). HasValue y false n (2 ^ 1074)) (of_bits-to_bits binary64 x f) (value-normal b z h))
-
 -- ---- a finite float with no sign has a pattern below the infinity's
 fin_bits : (m : ℕ) (e : _) → to_bits binary64 (fin false m e) ≡ 0 + (size (m * up e * 2 ^ 1074 / down e) - 53) * 2 ^ 52 + m * up e * 2 ^ 1074 / down e / 2 ^ (size (m * up e * 2 ^ 1074 / down e) - 53)
 unfolding to_bits
@@ -87,12 +75,6 @@ plain_bits (inf s) f r = absurd r
 plain_bits (fin true m e) f r = absurd r
 plain_bits (fin false m e) f r = subst (λ (y : ℕ). y < 0x7ff0_0000_0000_0000) (sym (fin_bits m e)) (below_inf (m * up e * 2 ^ 1074 / down e) (in_range m e f))
 
-pub plain_no_nan : (x : Float) → T (plain x) → T (not (is_nan x))
-unfolding plain is_nan
-plain_no_nan nan r = absurd r
-plain_no_nan (inf s) r = absurd r
-plain_no_nan (fin s m e) r = tt
-
 -- ---- what `root_of` is there
 pub root_of-is : (x : Float) → T (plain x) → root_of x ≡ root_from (in_units x * 2 ^ 1074)
 unfolding root_of plain
@@ -107,24 +89,3 @@ unfolding root_of of_bits
 zero_root x f z =
     let e : of_bits binary64 0 ≡ x = ap (λ (b : ℕ). of_bits binary64 b) (sym z) ∙ of_bits-to_bits binary64 x f in
     subst (λ (y : Float). y ≡ root_of y) e refl
-
--- ---- the root of what was read
-pub small_root : (x : Float) → T (fits binary64 x) → T (plain x) → to_bits binary64 x < 2 ^ 52 → root_from (to_bits binary64 x * 2 ^ 1074) ≡ root_of x
-small_root x f r h =
-    let z : to_bits binary64 x / 0x10_0000_0000_0000 ≡ 0 = omega arith in
-    let s : to_bits binary64 x % 0x10_0000_0000_0000 ≡ to_bits binary64 x = omega arith in
-    ap (λ (n : ℕ). root_from (n * 2 ^ 1074)) (sym (read_small x f z ∙ s)) ∙ sym (root_of-is x r)
-
-joined : (t f : ℕ) → 1 ≤ f → (t + 0x10_0000_0000_0000) * 2 ^ (f + 1073) ≡ (0x10_0000_0000_0000 + t) * 2 ^ (f - 1) * 2 ^ 1074
-joined t f h =
-    let z : f + 1073 ≡ f - 1 + 1074 = omega arith in
-    ap (λ (a : ℕ). a * 2 ^ (f + 1073)) (add_comm t 0x10_0000_0000_0000)
-    ∙ ap (λ (a : ℕ). (0x10_0000_0000_0000 + t) * a) (ap (λ (k : ℕ). 2 ^ k) z ∙ pow-add 2 (f - 1) 1074)
-    ∙ sym (mul_assoc (0x10_0000_0000_0000 + t) (2 ^ (f - 1)) (2 ^ 1074))
-
-pub normal_root : (x : Float) → T (fits binary64 x) → T (plain x) → (to_bits binary64 x / 0x10_0000_0000_0000 ≡ 0 → ⊥)
-    → root_from ((to_bits binary64 x % 0x10_0000_0000_0000 + 0x10_0000_0000_0000) * 2 ^ (to_bits binary64 x / 0x10_0000_0000_0000 + 1073)) ≡ root_of x
-normal_root x f r z =
-    let b = to_bits binary64 x in
-    ap root_from (joined (b % 0x10_0000_0000_0000) (b / 0x10_0000_0000_0000) (omega arith) ∙ ap (λ (n : ℕ). n * 2 ^ 1074) (sym (read-normal x f z (plain_bits x f r))))
-    ∙ sym (root_of-is x r)

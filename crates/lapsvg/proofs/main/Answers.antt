@@ -1,11 +1,8 @@
 -- `lapsvg::main` meets its contract: what is printed lies in the output. Assumes nothing.
 use native.Mathlib.Omega.{arith}
-use lib.ListN.{length, length-append, length-take}
+use lib.ListN.{length, length-append}
 use mathlib.Core.Path.{ap}
 use Rattle.lapsvg.proofs.main.Goals as goal
 
-pub slice_bounds-out-end : goal.slice_bounds-out-end
-slice_bounds-out-end c = omega (arith, c.print_input-m.ensures.count, simp length-append at (ap length c.print_input-m.ensures.bytes))
-
-pub slice_bounds-write_all-end : goal.slice_bounds-write_all-end
-slice_bounds-write_all-end c = simp length-take (omega (arith, c.print_input-m.ensures.count, simp length-append at (ap length c.print_input-m.ensures.bytes)))
+pub run-requires-clause-within : goal.run-requires-clause-within
+run-requires-clause-within c input out n out' e p = omega (arith, p.0, simp length-append at (ap length p.1))

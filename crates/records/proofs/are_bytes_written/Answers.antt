@@ -1,36 +1,7 @@
--- `records::are_bytes_written` meets its contract: the bytes that are not compared yet decide the whole answer. The measure is how many they are. Assumes nothing.
-use mathlib.Core.Path.{refl}
-use native.Mathlib.Omega.{arith}
-use borrow.Author.Tests.{eq-eqb, ne_eqb}
-use Rattle.records.specs.Words.{bytes_written}
-use Rattle.geo.proofs.Every.{every_start, every_done}
-use Rattle.records.proofs.Lists.{every_step, every_stop}
+-- `records::are_bytes_written` meets its contract: two stretches of bytes are equal where each byte is. Assumes nothing.
+use mathlib.Core.Path.{◌∙◌}
+use Rattle.records.proofs.Lists.{same_bytes}
 use Rattle.records.proofs.are_bytes_written.Goals as goal
 
-pub loop-i-init : goal.loop-i-init
-unfolding bytes_written
-loop-i-init c = every_start _ c.args.n _ refl
-
-pub bounds-bytes-i : goal.bounds-bytes-i
-bounds-bytes-i c = omega arith
-
-pub overflow_add-at : goal.overflow_add-at
-overflow_add-at c = omega arith
-
-pub bounds-s-at : goal.bounds-s-at
-bounds-s-at c = omega arith
-
-pub returns-then-bytes-i : goal.returns-then-bytes-i
-returns-then-bytes-i c = every_stop _ c.args.n _ _ c.loop-i-test.true (ne_eqb _ _ c.if-bytes-i.true) c.loop-i.invariant
-
-pub overflow_step-i : goal.overflow_step-i
-overflow_step-i c = omega arith
-
-pub loop-i-smaller : goal.loop-i-smaller
-loop-i-smaller c = omega arith
-
-pub loop-i-preserved : goal.loop-i-preserved
-loop-i-preserved c = every_step _ c.args.n _ _ c.loop-i-test.true (eq-eqb _ _ c.if-bytes-i.false) c.loop-i.invariant
-
 pub returns : goal.returns
-returns c = every_done _ c.args.n _ _ c.loop-i-test.false c.loop-i.invariant
+returns c = c.eq.ensures ∙ same_bytes c.args.bytes.now c.args.s.now c.args.at c.args.n c.requires.0 c.requires.1

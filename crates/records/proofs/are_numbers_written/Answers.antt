@@ -1,7 +1,6 @@
 -- `records::are_numbers_written` meets its contract: the numbers that are not compared yet decide the whole answer. The measure is how many they are. Assumes nothing.
 use Rattle.std.proofs.Common.{not}
 use mathlib.Core.Path.{refl, sym, ap, ◌∙◌}
-use native.Mathlib.Omega.{arith}
 use borrow.Author.Tests.{not-true, not-false}
 use Rattle.records.specs.Words.{has_pattern, numbers_written}
 use Rattle.geo.proofs.Every.{every_start, every_done}
@@ -12,29 +11,8 @@ pub loop-i-init : goal.loop-i-init
 unfolding numbers_written
 loop-i-init c = every_start _ c.args.n _ refl
 
-pub offset_bounds-out-i : goal.offset_bounds-out-i
-offset_bounds-out-i c = omega arith
-
-pub bounds-out-i : goal.bounds-out-i
-bounds-out-i c = omega arith
-
-pub overflow_mul-i : goal.overflow_mul-i
-overflow_mul-i c = omega arith
-
-pub overflow_add-at : goal.overflow_add-at
-overflow_add-at c = omega arith
-
-pub word_at-requires : goal.word_at-requires
-word_at-requires c = omega arith
-
 pub returns-then-not-has_pattern : goal.returns-then-not-has_pattern
 returns-then-not-has_pattern c = every_stop _ c.args.n _ _ c.loop-i-test.true (sym (c.has_pattern.ensures ∙ ap (has_pattern _) c.word_at.ensures) ∙ not-true _ (ap not c.if-not-has_pattern.true)) c.loop-i.invariant
-
-pub overflow_step-i : goal.overflow_step-i
-overflow_step-i c = omega arith
-
-pub loop-i-smaller : goal.loop-i-smaller
-loop-i-smaller c = omega arith
 
 pub loop-i-preserved : goal.loop-i-preserved
 loop-i-preserved c = every_step _ c.args.n _ _ c.loop-i-test.true (sym (c.has_pattern.ensures ∙ ap (has_pattern _) c.word_at.ensures) ∙ not-false _ (ap not c.if-not-has_pattern.false)) c.loop-i.invariant

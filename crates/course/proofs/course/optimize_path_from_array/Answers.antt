@@ -1,18 +1,19 @@
 -- `course::course::optimize_path_from_array` meets its contract: a refusal is the table's, and the most of a path is its command count. Assumes nothing.
 use mathlib.Core.Path.{refl}
-use Rattle.geo.proofs.Outcomes.{commands-refused}
+use borrow.Author.Rules.{rules}
+use Rattle.geo.proofs.Wrote.{commands-refused}
 use Rattle.course.specs.Course.{optimize_call}
 use Rattle.course.proofs.Paths.{path_accepted, wrote_path}
 use Rattle.course.proofs.course.optimize_path_from_array.Goals as goal
 
-pub returns-then-refused-ne0 : goal.returns-then-refused-ne0
+pub returns-in_err-refuse_commands : goal.returns-in_err-refuse_commands
 unfolding optimize_call
-returns-then-refused-ne0 c = commands-refused _ _ c.refuse_commands-refused.ensures _ _ _ c.if-refused-ne0.true
+returns-in_err-refuse_commands c = commands-refused _ _ c.in_err-refuse_commands.ensures _ _ _ _ (search rules)
 
 pub walk_course-requires : goal.walk_course-requires
 walk_course-requires c = let a = c.args in
-    let q = path_accepted a.kinds.now a.nums.now a.tolerance a.use_fit_arcs a.out_kinds.now a.out_nums.now _ c.refuse_commands-refused.ensures c.if-refused-ne0.false in
+    let q = path_accepted a.kinds.now a.nums.now a.tolerance a.use_fit_arcs a.out_kinds.now a.out_nums.now c.in_ok-refuse_commands.ensures in
     rw (c.path_flush-how.ensures, c.of_points-rule.ensures) (q.0, (q.1.0, q.1.1, q.1.2, q.1.3, refl))
 
 pub returns : goal.returns
-returns c = let a = c.args in wrote_path a.kinds.now a.nums.now a.tolerance a.use_fit_arcs a.out_kinds.now a.out_nums.now _ c.refuse_commands-refused.ensures c.if-refused-ne0.false _ c.path_flush-how.ensures _ _ _ _ _ (rw c.of_points-rule.ensures at c.walk_course.ensures)
+returns c = let a = c.args in wrote_path a.kinds.now a.nums.now a.tolerance a.use_fit_arcs a.out_kinds.now a.out_nums.now c.in_ok-refuse_commands.ensures _ c.path_flush-how.ensures _ _ _ _ _ (rw c.of_points-rule.ensures at c.walk_course.ensures)

@@ -1,12 +1,18 @@
--- `deviations::deviations::get_polyline_arc_deviation` meets its contract: a refusal is the table's; two points or more are what `arc_deviation` asks. Assumes nothing.
-use Rattle.deviations.proofs.Accepted.{arc-refused-answer, arc-given-answer, arc_no_step}
+-- `deviations::deviations::get_polyline_arc_deviation` meets its contract: a refusal is the table's; two points or more are a stretch. Assumes nothing.
+use Rattle.std.proofs.Common.{rules}
+use Rattle.geo.proofs.Wrote.{outcome-refused, outcome-gives}
+use Rattle.deviations.specs.Calls.{arc_call}
+use Rattle.deviations.proofs.Accepted.{no_step}
 use Rattle.deviations.proofs.deviations.get_polyline_arc_deviation.Goals as goal
 
-pub returns-then-refused-ne0 : goal.returns-then-refused-ne0
-returns-then-refused-ne0 c = let a = c.args in arc-refused-answer a.points.now a.center a.radius _ c.check_arc-refused.ensures c.if-refused-ne0.true
+pub returns-in_err-check_arc : goal.returns-in_err-check_arc
+unfolding arc_call
+returns-in_err-check_arc c = outcome-refused _ _ c.in_err-check_arc.ensures _ _ (search rules)
 
 pub returns-then-n-lt2 : goal.returns-then-n-lt2
-returns-then-n-lt2 c = let a = c.args in arc_no_step a.points.now a.center a.radius _ c.check_arc-refused.ensures c.if-refused-ne0.false c.if-n-lt2.true
+unfolding arc_call
+returns-then-n-lt2 c = outcome-gives _ c.in_ok-check_arc.ensures _ _ (no_step _ _ _ _ c.if-n-lt2.true)
 
 pub returns : goal.returns
-returns c = let a = c.args in arc-given-answer a.points.now a.center a.radius _ c.check_arc-refused.ensures c.if-refused-ne0.false c.arc_deviation.ensures
+unfolding arc_call
+returns c = outcome-gives _ c.in_ok-check_arc.ensures _ _ c.arc_deviation.ensures

@@ -1,13 +1,20 @@
--- `deviations::deviations::get_polyline_line_deviation` meets its contract: a refusal is the table's; indices that passed it are what `line_deviation` asks. Assumes nothing.
+-- `deviations::deviations::get_polyline_line_deviation` meets its contract: a refusal is the table's; indices that passed it are what a stretch asks. Assumes nothing.
 use native.Mathlib.Omega.{arith}
-use Rattle.deviations.proofs.Accepted.{line-accepted, line-refused-answer, line-given-answer}
+use Rattle.std.proofs.Common.{rules}
+use Rattle.geo.proofs.Wrote.{outcome-refused, outcome-gives}
+use Rattle.deviations.specs.Calls.{line_call}
+use Rattle.deviations.proofs.Accepted.{line-accepted}
 use Rattle.deviations.proofs.deviations.get_polyline_line_deviation.Goals as goal
 
-pub returns-then-refused-ne0 : goal.returns-then-refused-ne0
-returns-then-refused-ne0 c = let a = c.args in line-refused-answer a.points.now a.start a.end _ c.check_line-refused.ensures c.if-refused-ne0.true
-
-pub line_deviation-requires : goal.line_deviation-requires
-line_deviation-requires c = let a = c.args in let r = line-accepted a.points.now a.start a.end _ c.check_line-refused.ensures c.if-refused-ne0.false in (omega (arith, r.0), omega (arith, r.1))
+pub returns-in_err-check_line : goal.returns-in_err-check_line
+unfolding line_call
+returns-in_err-check_line c = outcome-refused _ _ c.in_err-check_line.ensures _ _ (search rules)
 
 pub returns : goal.returns
-returns c = let a = c.args in line-given-answer a.points.now a.start a.end _ c.check_line-refused.ensures c.if-refused-ne0.false c.line_deviation.ensures
+unfolding line_call
+returns c = outcome-gives _ c.in_ok-check_line.ensures _ _ c.deviation_of.ensures
+
+pub deviation_of-requires : goal.deviation_of-requires
+deviation_of-requires c = let a = c.args in
+    let r = line-accepted a.points.now a.start a.end c.in_ok-check_line.ensures in
+    (omega (arith, r.0), omega (arith, r.1))

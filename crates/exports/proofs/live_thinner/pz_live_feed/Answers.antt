@@ -1,12 +1,26 @@
--- `exports::live_thinner::pz_live_feed` meets its contract: by the end's case, the next state and the end are stored, or the number is handed back. Assumes nothing.
-use Rattle.exports.proofs.LiveThinner.{at_point, fed_at, fed-none, fed-refused}
+-- `exports::live_thinner::pz_live_feed` meets its contract: the state and the end are stored, or the number of the refusal is handed back. Assumes nothing.
+use Rattle.std.specs.Prelude.{Some, None, Ok}
+use mathlib.Core.Path.{refl, ap, ◌∙◌}
+use Rattle.geo.specs.Lent.{flat}
+use Rattle.exports.proofs.LiveThinner.{at_point, was-fed, not_fed}
 use Rattle.exports.proofs.live_thinner.pz_live_feed.Goals as goal
 
-pub returns-in-At : goal.returns-in-At
-returns-in-At c = let a = c.args in record { state = (fed_at _ _ _ (at_point _ _ _ _ c.feed-fed.ensures c.point_at.ensures) a.points.now a.count.now a.end.now a.handed.now _ _ c.in-At.is c.put_point.ensures).0; end = (fed_at _ _ _ (at_point _ _ _ _ c.feed-fed.ensures c.point_at.ensures) a.points.now a.count.now a.end.now a.handed.now _ _ c.in-At.is c.put_point.ensures).1 }
+pub returns-in-Ok-Some : goal.returns-in-Ok-Some
+unfolding flat
+returns-in-Ok-Some c =
+    let a = c.args in
+    let t = was-fed _ _ _ _ (at_point _ _ _ _ _ c.feed.ensures c.point_at.ensures) a.points.now a.count.now a.end.now a.handed.now (Some _) _ (c.in-Ok-Some.is ∙ ap Ok c.in-Ok-Some.field-0-is) c.put_point.ensures in
+    record { state = t.0; end = t.1 }
 
-pub returns-in-Nothing : goal.returns-in-Nothing
-returns-in-Nothing c = let a = c.args in record { state = (fed-none _ _ _ (at_point _ _ _ _ c.feed-fed.ensures c.point_at.ensures) a.points.now a.count.now a.end.now a.handed.now c.in-Nothing.is).0; end = (fed-none _ _ _ (at_point _ _ _ _ c.feed-fed.ensures c.point_at.ensures) a.points.now a.count.now a.end.now a.handed.now c.in-Nothing.is).1 }
+pub returns-in-Ok-None : goal.returns-in-Ok-None
+unfolding flat
+returns-in-Ok-None c =
+    let a = c.args in
+    let t = was-fed _ _ _ _ (at_point _ _ _ _ _ c.feed.ensures c.point_at.ensures) a.points.now a.count.now a.end.now a.handed.now None _ (c.in-Ok-None.is ∙ ap Ok c.in-Ok-None.field-0-is) refl in
+    record { state = t.0; end = t.1 }
 
-pub returns-in-Refused : goal.returns-in-Refused
-returns-in-Refused c = let a = c.args in record { state = (fed-refused _ _ _ (at_point _ _ _ _ c.feed-fed.ensures c.point_at.ensures) a.points.now a.count.now a.end.now a.handed.now _ c.in-Refused.is).0; end = (fed-refused _ _ _ (at_point _ _ _ _ c.feed-fed.ensures c.point_at.ensures) a.points.now a.count.now a.end.now a.handed.now _ c.in-Refused.is).1 }
+pub returns-in-Err : goal.returns-in-Err
+returns-in-Err c =
+    let a = c.args in
+    let t = not_fed _ _ _ _ (at_point _ _ _ _ _ c.feed.ensures c.point_at.ensures) a.points.now a.count.now a.end.now a.handed.now _ _ c.in-Err.is c.from.ensures in
+    record { state = t.0; end = t.1 }

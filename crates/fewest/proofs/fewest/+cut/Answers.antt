@@ -1,25 +1,10 @@
 -- `fewest::fewest::cut` meets its contract: a cut lies strictly inside its range, so that both parts are shorter, and the left leaves room for the right. The measure is hi - lo. Assumes nothing.
-use mathlib.Core.Path.{refl, ◌∙◌}
+use mathlib.Core.Path.{refl}
 use native.Mathlib.Omega.{arith}
 use Rattle.geo.proofs.Placed.{placed_one, placed-both}
 use Rattle.fewest.specs.Straights.{numbers_at}
 use Rattle.fewest.proofs.Cut.{passing-inside, cut_most, cut-none, cut-two}
 use Rattle.fewest.proofs.fewest.+cut.Goals as goal
-
-pub line_deviation-w-requires : goal.line_deviation-w-requires
-line_deviation-w-requires t c = omega (arith, c.requires.1)
-
-pub overflow_mul-at : goal.overflow_mul-at
-overflow_mul-at t c = omega (arith, c.requires.1)
-
-pub point_at-requires : goal.point_at-requires
-point_at-requires t c = omega (arith, c.requires.1)
-
-pub put_point-requires : goal.put_point-requires
-put_point-requires t c = omega (arith, c.requires.1)
-
-pub shape_of-out-then-w-tolerance : goal.shape_of-out-then-w-tolerance
-shape_of-out-then-w-tolerance t c = c.put_point.auto.out
 
 pub returns-then-w-tolerance : goal.returns-then-w-tolerance
 returns-then-w-tolerance t c = let a = c.args in let p = c.requires in
@@ -48,9 +33,6 @@ overflow_add-result t c = let a = c.args in let p = c.requires in
     let m = cut_most a.points.now a.tolerance p.0 a.lo _ i.0 in
     let n = cut_most a.points.now a.tolerance p.0 _ a.hi i.1 in
     omega (arith, i, m, n, c.cut-n.ensures.count, c.cut-m.ensures.count, p.1.2)
-
-pub shape_of-out : goal.shape_of-out
-shape_of-out t c = c.cut-m.auto.out ∙ c.cut-n.auto.out
 
 pub returns : goal.returns
 returns t c = let a = c.args in let p = c.requires in

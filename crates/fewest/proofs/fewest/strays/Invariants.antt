@@ -1,9 +1,6 @@
--- `fewest::fewest::strays` meets its contract: a point of the range whose root reaches the tolerance lies strictly between, and so the Line does not pass. The measure is how many are left. Assumes nothing.
-use Prim.Native.Nat.{◌-◌, ◌<◌}
+-- `fewest::fewest::strays` meets its contract: a point of the range whose root reaches the tolerance lies strictly between, and so the Line does not pass.  Assumes nothing.
+use Prim.Native.Nat.{◌<◌}
 use Rattle.fewest.proofs.fewest.strays.Given as goal
 
 abbrev pub invariant-loop-i : goal.invariant-loop-i
-invariant-loop-i l = l.u < l.i
-
-abbrev pub decreases-loop-i : goal.decreases-loop-i
-decreases-loop-i l = l.to - l.i
+invariant-loop-i l = l.between.start < l.i

@@ -5,5 +5,5 @@ use Rattle.file.proofs.words.is_plus_zero_at.Goals as goal
 pub returns-then-low-eq0 : goal.returns-then-low-eq0
 returns-then-low-eq0 c = let l = c.half_at-low.ensures in let h = c.half_at-high.ensures in high_half _ c.args.at _ _ l.0 h.0 l.1 h.1 c.if-low-eq0.true
 
-pub returns : goal.returns
-returns c = let l = c.half_at-low.ensures in let h = c.half_at-high.ensures in low_half _ c.args.at _ _ l.0 h.0 l.1 h.1 c.if-low-eq0.false
+pub returns-else-low-eq0 : goal.returns-else-low-eq0
+returns-else-low-eq0 c = let l = c.half_at-low.ensures in let h = c.half_at-high.ensures in low_half _ c.args.at _ _ l.0 h.0 l.1 h.1 c.if-low-eq0.false

@@ -1,17 +1,17 @@
 -- `file::words::put_u32` meets its contract: four bytes, one behind the other. Assumes nothing.
-use native.Mathlib.Omega.{arith}
-use lib.ListN.{length-set}
-use Rattle.file.proofs.Stores.{four}
+use Prim.Native.Nat.{ℕ}
+use mathlib.Core.Path.{ap, ◌∙◌}
+use mathlib.Core.List.{List}
+use Rattle.std.proofs.Common.{slice_index_or}
+use Rattle.file.proofs.Stores.{four, digit-0, digit-1, digit-2, digit-3}
 use Rattle.file.proofs.words.put_u32.Goals as goal
 
-pub bounds-out-at-2 : goal.bounds-out-at-2
-bounds-out-at-2 c = simp length-set (omega arith)
-
-pub bounds-out-at-3 : goal.bounds-out-at-3
-bounds-out-at-3 c = simp length-set (omega arith)
-
-pub bounds-out-at-4 : goal.bounds-out-at-4
-bounds-out-at-4 c = simp length-set (omega arith)
-
 pub returns : goal.returns
-returns c = let a = c.args in four a.out.now a.at a.n _ _ _ _ c.low.ensures c.low-2.ensures c.low-3.ensures c.low-4.ensures
+returns c =
+    let a = c.args in
+    let e = c.to_le_bytes.ensures in
+    four a.out.now a.at a.n _ _ _ _
+    (ap (λ (l : List ℕ). slice_index_or l 0 0) e ∙ digit-0 a.n)
+    (ap (λ (l : List ℕ). slice_index_or l 1 0) e ∙ digit-1 a.n)
+    (ap (λ (l : List ℕ). slice_index_or l 2 0) e ∙ digit-2 a.n)
+    (ap (λ (l : List ℕ). slice_index_or l 3 0) e ∙ digit-3 a.n)

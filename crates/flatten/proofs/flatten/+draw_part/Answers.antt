@@ -5,42 +5,18 @@ use lib.Pow.{pow_pos}
 use Rattle.flatten.proofs.Passes.{bulge-is, ray_to, ray_len, half_power, none_left, stays_whole, is_cut, whole-placed, both-low}
 use Rattle.flatten.proofs.flatten.+draw_part.Goals as goal
 
-pub put_line-requires : goal.put_line-requires
-put_line-requires t c = omega (arith, c.requires.2, c.requires.3, pow_pos c.args.left)
-
-pub shape_of-kinds-then-left-eq0 : goal.shape_of-kinds-then-left-eq0
-shape_of-kinds-then-left-eq0 t c = c.put_line.auto.kinds
-
-pub shape_of-nums-then-left-eq0 : goal.shape_of-nums-then-left-eq0
-shape_of-nums-then-left-eq0 t c = c.put_line.auto.nums
-
 pub returns-then-left-eq0 : goal.returns-then-left-eq0
 returns-then-left-eq0 t c = let a = c.args in record { lines = whole-placed a.g.center a.at a.kinds.now a.nums.now _ a.u.to a.w.to _ _ (none_left a.g.radius a.g.limit a.left a.u.to a.w.to c.if-left-eq0.true) c.put_line.ensures; few = (omega arith, omega (arith, pow_pos a.left)) }
-
-pub put_line-requires-then-bulge_of-g : goal.put_line-requires-then-bulge_of-g
-put_line-requires-then-bulge_of-g t c = omega (arith, c.requires.2, c.requires.3, pow_pos c.args.left)
-
-pub shape_of-kinds-then-bulge_of-g : goal.shape_of-kinds-then-bulge_of-g
-shape_of-kinds-then-bulge_of-g t c = c.put_line-then-bulge_of-g.auto.kinds
-
-pub shape_of-nums-then-bulge_of-g : goal.shape_of-nums-then-bulge_of-g
-shape_of-nums-then-bulge_of-g t c = c.put_line-then-bulge_of-g.auto.nums
 
 pub returns-then-bulge_of-g : goal.returns-then-bulge_of-g
 returns-then-bulge_of-g t c = let a = c.args in
     let e = c.bulge_of.ensures ∙ bulge-is a.g.radius a.u a.w c.requires.0 c.requires.1 in record { lines = whole-placed a.g.center a.at a.kinds.now a.nums.now _ a.u.to a.w.to _ _ (stays_whole a.g.radius a.g.limit a.left a.u.to a.w.to _ e c.if-bulge_of-g.true) c.put_line-then-bulge_of-g.ensures; few = (omega arith, omega (arith, pow_pos a.left)) }
-
-pub overflow_sub-left : goal.overflow_sub-left
-overflow_sub-left t c = let h = c.if-left-eq0.false in omega arith
 
 pub draw_part-n-requires : goal.draw_part-n-requires
 draw_part-n-requires t c = let h = c.if-left-eq0.false in
     let p = c.requires in
     let q = half_power c.args.left h in
     (omega (arith, h), (p.0, ray_len _ _ c.halfway-v.ensures, omega (arith, p.2, q), omega (arith, p.3, q)))
-
-pub overflow_sub-left-2 : goal.overflow_sub-left-2
-overflow_sub-left-2 t c = let h = c.if-left-eq0.false in omega arith
 
 pub overflow_add-at : goal.overflow_add-at
 overflow_add-at t c = let h = c.if-left-eq0.false in
@@ -58,12 +34,6 @@ draw_part-k-requires t c = let h = c.if-left-eq0.false in
 pub overflow_add-result : goal.overflow_add-result
 overflow_add-result t c = let h = c.if-left-eq0.false in
     omega (arith, c, half_power c.args.left h, c.draw_part-n.ensures.few, c.draw_part-k.ensures.few)
-
-pub shape_of-kinds : goal.shape_of-kinds
-shape_of-kinds t c = c.draw_part-k.auto.kinds ∙ c.draw_part-n.auto.kinds
-
-pub shape_of-nums : goal.shape_of-nums
-shape_of-nums t c = c.draw_part-k.auto.nums ∙ c.draw_part-n.auto.nums
 
 pub returns : goal.returns
 returns t c = let a = c.args in

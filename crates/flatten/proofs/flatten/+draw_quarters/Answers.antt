@@ -1,17 +1,7 @@
 -- `flatten::flatten::draw_quarters` meets its contract: the Lines of the first quarter, and behind them those of the rest. The measure is the number of quarter turns left. Assumes nothing.
-use mathlib.Core.Path.{◌∙◌}
 use native.Mathlib.Omega.{arith}
 use Rattle.flatten.proofs.Passes.{ray_to, ray_len, same-placed, both-low, last-quarter, more_quarters}
 use Rattle.flatten.proofs.flatten.+draw_quarters.Goals as goal
-
-pub draw_part-requires : goal.draw_part-requires
-draw_part-requires t c = let p = c.requires in (p.0, p.1, omega (arith, p.2), omega (arith, p.3))
-
-pub shape_of-kinds-then-k-eq0 : goal.shape_of-kinds-then-k-eq0
-shape_of-kinds-then-k-eq0 t c = c.draw_part.auto.kinds
-
-pub shape_of-nums-then-k-eq0 : goal.shape_of-nums-then-k-eq0
-shape_of-nums-then-k-eq0 t c = c.draw_part.auto.nums
 
 pub returns-then-k-eq0 : goal.returns-then-k-eq0
 returns-then-k-eq0 t c = let a = c.args in
@@ -22,13 +12,6 @@ draw_part-n-requires t c = let h = c.if-k-eq0.false in
     let p = c.requires in
     (p.0, ray_len _ _ c.turn-v.ensures, omega (arith, p.2, h), omega (arith, p.3, h))
 
-pub overflow_sub-k : goal.overflow_sub-k
-overflow_sub-k t c = let h = c.if-k-eq0.false in omega arith
-
-pub overflow_add-at : goal.overflow_add-at
-overflow_add-at t c = let h = c.if-k-eq0.false in
-    omega (arith, c, h, c.draw_part-n.ensures.few)
-
 pub draw_quarters-j-requires : goal.draw_quarters-j-requires
 draw_quarters-j-requires t c = let h = c.if-k-eq0.false in
     let p = c.requires in
@@ -36,16 +19,6 @@ draw_quarters-j-requires t c = let h = c.if-k-eq0.false in
     let k = c.draw_part-n.auto.kinds in
     let l = c.draw_part-n.auto.nums in
     (omega (arith, h), (ray_len _ _ c.turn-v.ensures, p.1, omega (arith, p.2, h, f, k), omega (arith, p.3, h, f, l)))
-
-pub overflow_add-result : goal.overflow_add-result
-overflow_add-result t c = let h = c.if-k-eq0.false in
-    omega (arith, c, h, c.draw_part-n.ensures.few, c.draw_quarters-j.ensures.few)
-
-pub shape_of-kinds : goal.shape_of-kinds
-shape_of-kinds t c = c.draw_quarters-j.auto.kinds ∙ c.draw_part-n.auto.kinds
-
-pub shape_of-nums : goal.shape_of-nums
-shape_of-nums t c = c.draw_quarters-j.auto.nums ∙ c.draw_part-n.auto.nums
 
 pub returns : goal.returns
 returns t c = let a = c.args in

@@ -2,7 +2,6 @@
 use mathlib.Core.Path.{refl}
 use mathlib.Core.Bool.{Bool}
 use Prim.Native.Nat.{ℕ}
-use native.Mathlib.Omega.{arith}
 use lib.ListN.{length, get_or}
 use lib.Ieee.{nan}
 use Rattle.geo.specs.Domain.{coordinate, numbers_in}
@@ -14,18 +13,6 @@ use Rattle.std.proofs.Common.{ap, not}
 pub loop-i-init : goal.loop-i-init
 unfolding numbers_in
 loop-i-init c = every_start _ (length c.args.nums.now) _ refl
-
-pub offset_bounds-nums-i : goal.offset_bounds-nums-i
-offset_bounds-nums-i c = omega arith
-
-pub bounds-nums-i : goal.bounds-nums-i
-bounds-nums-i c = omega arith
-
-pub overflow_step-i : goal.overflow_step-i
-overflow_step-i c = omega arith
-
-pub loop-i-smaller : goal.loop-i-smaller
-loop-i-smaller c = omega arith
 
 pub loop-i-preserved : goal.loop-i-preserved
 loop-i-preserved c =

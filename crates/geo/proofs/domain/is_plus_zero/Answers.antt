@@ -1,5 +1,5 @@
 -- `geo::domain::is_plus_zero` meets its contract: among what equals 0 the pattern tells +0 from -0. Assumes nothing.
-use mathlib.Core.Path.{sym, subst}
+use mathlib.Core.Path.{sym, subst, ◌∙◌}
 use lib.Dec.{T}
 use lib.Ieee.{binary64, fits}
 use Rattle.geo.proofs.Zero.{eq_no_nan, plus_zero_is, not_plus_zero}
@@ -16,5 +16,5 @@ float_to_bits-result c = eq_no_nan _ _ c.if-x.true
 pub returns-then-x : goal.returns-then-x
 returns-then-x c = plus_zero_is _ (held (goal.at.returns-then-x c).Start) c.if-x.true
 
-pub returns : goal.returns
-returns c = not_plus_zero _ c.if-x.false
+pub returns-else-x : goal.returns-else-x
+returns-else-x c = c.if-x.false ∙ not_plus_zero _ c.if-x.false

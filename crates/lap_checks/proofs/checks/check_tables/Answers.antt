@@ -2,39 +2,33 @@
 use mathlib.Core.Path.{sym, ◌∙◌}
 use Rattle.geo.proofs.Rows.{row_fails, row-passes, done}
 use Rattle.lap_checks.specs.Checks.{table_rows}
-use Rattle.lap_checks.proofs.Rows.{past_1, past_2, found_1, found_2, found_3}
+use Rattle.lap_checks.proofs.Rows.{past_1, past_2, past_3}
 use Rattle.lap_checks.proofs.checks.check_tables.Goals as goal
 
-pub returns-then-any : goal.returns-then-any
+pub returns-then-fails_1-clause-row : goal.returns-then-fails_1-clause-row
 unfolding table_rows
-returns-then-any c = let a = c.args in sym (row_fails _ _ _ (sym (found_1 a.s.now a.f.now a.whole _ _ _ c.any.ensures c.too_short.ensures c.too_short-2.ensures) ∙ c.if-any.true))
+returns-then-fails_1-clause-row c = sym (row_fails _ _ _ (sym c.fails_1.ensures ∙ c.if-fails_1.true))
 
-pub too_big-requires : goal.too_big-requires
-too_big-requires c = let a = c.args in (past_1 a.s.now a.f.now _ (sym (found_1 a.s.now a.f.now a.whole _ _ _ c.any.ensures c.too_short.ensures c.too_short-2.ensures) ∙ c.if-any.false)).0
+pub fails_2-requires : goal.fails_2-requires
+fails_2-requires c = let a = c.args in let p = past_1 a.s.now a.f.now _ (sym c.fails_1.ensures ∙ c.if-fails_1.false) in (p.0, p.1)
 
-pub too_big-requires-2 : goal.too_big-requires-2
-too_big-requires-2 c = let a = c.args in (past_1 a.s.now a.f.now _ (sym (found_1 a.s.now a.f.now a.whole _ _ _ c.any.ensures c.too_short.ensures c.too_short-2.ensures) ∙ c.if-any.false)).1
-
-pub returns-then-any-2 : goal.returns-then-any-2
+pub returns-then-fails_2-clause-row : goal.returns-then-fails_2-clause-row
 unfolding table_rows
-returns-then-any-2 c = let a = c.args in sym (row-passes _ _ _ (sym (found_1 a.s.now a.f.now a.whole _ _ _ c.any.ensures c.too_short.ensures c.too_short-2.ensures) ∙ c.if-any.false) ∙ row_fails _ _ _ (sym (found_2 a.s.now a.f.now a.few _ _ _ c.any-2.ensures c.too_big.ensures c.too_big-2.ensures) ∙ c.if-any-2.true))
+returns-then-fails_2-clause-row c = sym (row-passes _ _ _ (sym c.fails_1.ensures ∙ c.if-fails_1.false) ∙ row_fails _ _ _ (sym c.fails_2.ensures ∙ c.if-fails_2.true))
 
-pub has_table-requires : goal.has_table-requires
-has_table-requires c = let a = c.args in ((past_1 a.s.now a.f.now _ (sym (found_1 a.s.now a.f.now a.whole _ _ _ c.any.ensures c.too_short.ensures c.too_short-2.ensures) ∙ c.if-any.false)).0, (past_2 a.s.now a.f.now _ (sym (found_2 a.s.now a.f.now a.few _ _ _ c.any-2.ensures c.too_big.ensures c.too_big-2.ensures) ∙ c.if-any-2.false)).0)
+pub fails_3-requires : goal.fails_3-requires
+fails_3-requires c = let a = c.args in let p = past_1 a.s.now a.f.now _ (sym c.fails_1.ensures ∙ c.if-fails_1.false) in let q = past_2 a.s.now a.f.now _ (sym c.fails_2.ensures ∙ c.if-fails_2.false) in (p.0, p.1, q.0, q.1)
 
-pub has_table-requires-2 : goal.has_table-requires-2
-has_table-requires-2 c = let a = c.args in ((past_1 a.s.now a.f.now _ (sym (found_1 a.s.now a.f.now a.whole _ _ _ c.any.ensures c.too_short.ensures c.too_short-2.ensures) ∙ c.if-any.false)).1, (past_2 a.s.now a.f.now _ (sym (found_2 a.s.now a.f.now a.few _ _ _ c.any-2.ensures c.too_big.ensures c.too_big-2.ensures) ∙ c.if-any-2.false)).1)
-
-pub lap_count-requires : goal.lap_count-requires
-lap_count-requires c = let a = c.args in (past_1 a.s.now a.f.now _ (sym (found_1 a.s.now a.f.now a.whole _ _ _ c.any.ensures c.too_short.ensures c.too_short-2.ensures) ∙ c.if-any.false)).0
-
-pub lap_count-requires-2 : goal.lap_count-requires-2
-lap_count-requires-2 c = let a = c.args in (past_1 a.s.now a.f.now _ (sym (found_1 a.s.now a.f.now a.whole _ _ _ c.any.ensures c.too_short.ensures c.too_short-2.ensures) ∙ c.if-any.false)).1
-
-pub returns-then-any-3 : goal.returns-then-any-3
+pub returns-then-fails_3-clause-row : goal.returns-then-fails_3-clause-row
 unfolding table_rows
-returns-then-any-3 c = let a = c.args in sym (row-passes _ _ _ (sym (found_1 a.s.now a.f.now a.whole _ _ _ c.any.ensures c.too_short.ensures c.too_short-2.ensures) ∙ c.if-any.false) ∙ row-passes _ _ _ (sym (found_2 a.s.now a.f.now a.few _ _ _ c.any-2.ensures c.too_big.ensures c.too_big-2.ensures) ∙ c.if-any-2.false) ∙ row_fails _ _ _ (sym (found_3 a.s.now a.f.now _ _ _ _ _ c.any-3.ensures c.has_table.ensures c.has_table-2.ensures c.lap_count.ensures.0 c.lap_count-2.ensures.0) ∙ c.if-any-3.true))
+returns-then-fails_3-clause-row c = sym (row-passes _ _ _ (sym c.fails_1.ensures ∙ c.if-fails_1.false) ∙ row-passes _ _ _ (sym c.fails_2.ensures ∙ c.if-fails_2.false) ∙ row_fails _ _ _ (sym c.fails_3.ensures ∙ c.if-fails_3.true))
 
-pub returns : goal.returns
+pub invariant_of-result : goal.invariant_of-result
+invariant_of-result c = let a = c.args in record { long = (past_1 a.s.now a.f.now _ (sym c.fails_1.ensures ∙ c.if-fails_1.false)).0; table = (past_3 a.s.now a.f.now (sym c.fails_3.ensures ∙ c.if-fails_3.false)).0 }
+
+pub invariant_of-result-2 : goal.invariant_of-result-2
+invariant_of-result-2 c = let a = c.args in record { long = (past_1 a.s.now a.f.now _ (sym c.fails_1.ensures ∙ c.if-fails_1.false)).1; table = (past_3 a.s.now a.f.now (sym c.fails_3.ensures ∙ c.if-fails_3.false)).1 }
+
+pub returns-clause-row : goal.returns-clause-row
 unfolding table_rows
-returns c = let a = c.args in sym (row-passes _ _ _ (sym (found_1 a.s.now a.f.now a.whole _ _ _ c.any.ensures c.too_short.ensures c.too_short-2.ensures) ∙ c.if-any.false) ∙ row-passes _ _ _ (sym (found_2 a.s.now a.f.now a.few _ _ _ c.any-2.ensures c.too_big.ensures c.too_big-2.ensures) ∙ c.if-any-2.false) ∙ row-passes _ _ _ (sym (found_3 a.s.now a.f.now _ _ _ _ _ c.any-3.ensures c.has_table.ensures c.has_table-2.ensures c.lap_count.ensures.0 c.lap_count-2.ensures.0) ∙ c.if-any-3.false) ∙ done)
+returns-clause-row c = sym (row-passes _ _ _ (sym c.fails_1.ensures ∙ c.if-fails_1.false) ∙ row-passes _ _ _ (sym c.fails_2.ensures ∙ c.if-fails_2.false) ∙ row-passes _ _ _ (sym c.fails_3.ensures ∙ c.if-fails_3.false) ∙ done)

@@ -8,10 +8,10 @@ use Rattle.laps.proofs.Rows.{nines}
 use Rattle.lap_checks.specs.Checks.{lent_whole}
 use Rattle.lap_checks.proofs.checks.is_whole.Goals as goal
 
-pub returns-then-size-ne0 : goal.returns-then-size-ne0
+pub returns-then-size-eq0 : goal.returns-then-size-eq0
 unfolding lent_whole
-returns-then-size-ne0 c = let a = c.args in sym (ne_eqb (length a.nums.now) (9 * length a.kinds.now) (λ e. omega (arith, e, c.if-size-ne0.true)))
+returns-then-size-eq0 c = let a = c.args in nines (length a.nums.now) (length a.kinds.now) c.if-size-eq0.true
 
-pub returns : goal.returns
+pub returns-else-size-eq0 : goal.returns-else-size-eq0
 unfolding lent_whole
-returns c = let a = c.args in nines (length a.nums.now) (length a.kinds.now) c.if-size-ne0.false
+returns-else-size-eq0 c = let a = c.args in rw (ne_eqb _ _ c.if-size-eq0.false) (sym (ne_eqb (length a.nums.now) (9 * length a.kinds.now) (λ e. c.if-size-eq0.false (omega (arith, e)))))

@@ -1,13 +1,30 @@
--- `lap_checks::checks::look_at_new` meets its contract: what passed the rows is what the counts ask. Assumes nothing.
-use native.Mathlib.Omega.{arith}
+-- `lap_checks::checks::look_at_new` meets its contract: rows 1 to 3, then rows 4 to 7, by what was found of the new commands; what passed them is what the counts ask. Assumes nothing.
+use Rattle.std.proofs.Common.{rules}
+use mathlib.Core.Path.{refl}
 use Rattle.laps.specs.File.{laps_of}
+use Rattle.laps.proofs.Rows.{refused_on}
 use Rattle.lap_fit.proofs.Cap.{cap_small}
 use Rattle.lap_checks.specs.Checks.{lent_new}
-use Rattle.lap_checks.proofs.Rows.{lent-nine, past_1, past_3, past_7, new_passed}
+use Rattle.lap_checks.proofs.Rows.{lent-nine, past_1, past_7, new_passed, tables_of, laps_of_lem, tables_passed, tables_refused, laps_decide}
 use Rattle.lap_checks.proofs.checks.look_at_new.Goals as goal
 
+pub returns-in_err-files-clause-row : goal.returns-in_err-files-clause-row
+returns-in_err-files-clause-row c = let a = c.args in refused_on _ _ _ (search rules) (tables_refused a.s.now a.f.now a.k (lent_new a.tolerance (laps_of a.s.now) a.k a.kinds.now a.nums.now) a.tolerance _ (tables_of a.s.now a.f.now _ _ _ _ c.in_err-files.ensures.row c.is_whole.ensures))
+
+pub invariant_of-commands : goal.invariant_of-commands
+invariant_of-commands c = let a = c.args in let p = tables_passed a.s.now a.f.now _ _ (tables_of a.s.now a.f.now _ _ _ 0 c.in_ok-files.ensures.row c.is_whole.ensures) in record { whole = lent-nine a.kinds.now a.nums.now (past_1 a.s.now a.f.now _ p.0).2 }
+
+pub returns-in_err-check_laps-clause-row : goal.returns-in_err-check_laps-clause-row
+returns-in_err-check_laps-clause-row c = let a = c.args in let e = c.in_ok-files.ensures.same in refused_on _ _ _ (search rules)
+    (laps_decide a.s.now a.f.now a.k (lent_new a.tolerance (laps_of a.s.now) a.k a.kinds.now a.nums.now) a.tolerance (tables_of a.s.now a.f.now _ _ _ 0 c.in_ok-files.ensures.row c.is_whole.ensures) refl _ (laps_of_lem a.s.now a.k _ _ _ _ a.tolerance _ (rw e.0 at c.in_err-check_laps.ensures) c.is_lap-formed.ensures c.are_in.ensures))
+
 pub most_new-own-requires : goal.most_new-own-requires
-most_new-own-requires c = let a = c.args in let p = new_passed a.s.now a.f.now a.k (lent_new a.tolerance (laps_of a.s.now) a.k a.kinds.now a.nums.now) a.tolerance _ c.check_new-refused.ensures c.if-refused-ne0.false in let e = lent-nine a.kinds.now a.nums.now (past_1 a.s.now a.f.now _ p.p1).2 in (omega (arith, e), (past_1 a.s.now a.f.now _ p.p1).0, (past_3 a.s.now a.f.now p.p3).0, (past_7 a.k a.s.now p.p7).0, (past_7 a.k a.s.now p.p7).1)
+most_new-own-requires c = let a = c.args in let e = c.in_ok-files.ensures.same in
+    let p = new_passed a.s.now a.f.now a.k (lent_new a.tolerance (laps_of a.s.now) a.k a.kinds.now a.nums.now) a.tolerance (laps_decide a.s.now a.f.now a.k (lent_new a.tolerance (laps_of a.s.now) a.k a.kinds.now a.nums.now) a.tolerance (tables_of a.s.now a.f.now _ _ _ 0 c.in_ok-files.ensures.row c.is_whole.ensures) refl 0 (laps_of_lem a.s.now a.k _ _ _ _ a.tolerance 0 (rw e.0 at c.in_ok-check_laps.ensures) c.is_lap-formed.ensures c.are_in.ensures)) in rw e.0 (past_7 a.k a.s.now p.p7)
 
 pub with_others-all-requires : goal.with_others-all-requires
-with_others-all-requires c = let a = c.args in let p = new_passed a.s.now a.f.now a.k (lent_new a.tolerance (laps_of a.s.now) a.k a.kinds.now a.nums.now) a.tolerance _ c.check_new-refused.ensures c.if-refused-ne0.false in let q = past_1 a.s.now a.f.now _ p.p1 in let t = past_3 a.s.now a.f.now p.p3 in (q.0, t.0, q.1, t.1, (past_7 a.k a.s.now p.p7).0, cap_small _ _ c.most_new-own.ensures)
+with_others-all-requires c = let a = c.args in let e = c.in_ok-files.ensures.same in
+    let p = new_passed a.s.now a.f.now a.k (lent_new a.tolerance (laps_of a.s.now) a.k a.kinds.now a.nums.now) a.tolerance (laps_decide a.s.now a.f.now a.k (lent_new a.tolerance (laps_of a.s.now) a.k a.kinds.now a.nums.now) a.tolerance (tables_of a.s.now a.f.now _ _ _ 0 c.in_ok-files.ensures.row c.is_whole.ensures) refl 0 (laps_of_lem a.s.now a.k _ _ _ _ a.tolerance 0 (rw e.0 at c.in_ok-check_laps.ensures) c.is_lap-formed.ensures c.are_in.ensures)) in ((past_7 a.k a.s.now p.p7).0, cap_small _ _ c.most_new-own.ensures)
+
+pub returns-clause-row : goal.returns-clause-row
+returns-clause-row c = let a = c.args in let e = c.in_ok-files.ensures.same in laps_decide a.s.now a.f.now a.k (lent_new a.tolerance (laps_of a.s.now) a.k a.kinds.now a.nums.now) a.tolerance (tables_of a.s.now a.f.now _ _ _ 0 c.in_ok-files.ensures.row c.is_whole.ensures) refl 0 (laps_of_lem a.s.now a.k _ _ _ _ a.tolerance 0 (rw e.0 at c.in_ok-check_laps.ensures) c.is_lap-formed.ensures c.are_in.ensures)

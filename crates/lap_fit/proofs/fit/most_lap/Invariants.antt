@@ -8,8 +8,5 @@ use Rattle.lap_fit.proofs.Lap.{weights}
 use Rattle.lap_fit.proofs.fit.most_lap.Given as goal
 
 abbrev pub invariant-loop-i : goal.invariant-loop-i
-invariant-loop-i l = (l.i ≤ l.n) × (l.most ≤ 801)
-    × (cap (l.most + weights l.tolerance l.s (lap_end l.start (commands_at l.s l.at l.i)) (l.at + 73 * l.i) (l.n - l.i)) ≡ cap (most_lap l.tolerance l.start (commands_at l.s l.at l.n)))
-
-abbrev pub decreases-loop-i : goal.decreases-loop-i
-decreases-loop-i l = l.n - l.i
+invariant-loop-i l = (l.most ≤ 801)
+    × (cap (l.most + weights l.tolerance l.lap.bytes.now (lap_end l.start (commands_at l.lap.bytes.now l.lap.at l.i)) (l.lap.at + 73 * l.i) (l.lap.count - l.i)) ≡ cap (most_lap l.tolerance l.start (commands_at l.lap.bytes.now l.lap.at l.lap.count)))

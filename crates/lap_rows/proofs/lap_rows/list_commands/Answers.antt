@@ -1,5 +1,5 @@
 -- `lap_rows::lap_rows::list_commands` meets its contract: what was read into the arrays are the commands of the lap, and the rows are what their fit notes. Assumes nothing.
-use mathlib.Core.Path.{refl, sym, ap}
+use mathlib.Core.Path.{refl, ap}
 use native.Mathlib.Omega.{arith}
 use Rattle.pieces.specs.Pieces.{laps_rule}
 use Rattle.listing.specs.Rows.{rows_on}
@@ -9,20 +9,14 @@ use Rattle.lap_rows.specs.Listing.{lap_rows}
 use Rattle.lap_text.proofs.Lines.{placed_same}
 use Rattle.lap_rows.proofs.lap_rows.list_commands.Goals as goal
 
-pub slice_bounds-fit_course_with_steps-end-2 : goal.slice_bounds-fit_course_with_steps-end-2
-slice_bounds-fit_course_with_steps-end-2 c = let a = c.args in let p = c.requires in sym (long_kinds a.s.now a.at a.n _ _ _ _ p.2 p.3 c.read_commands.ensures.kinds c.read_commands.ensures.numbers)
-
-pub slice_bounds-fit_course_with_steps-end-4 : goal.slice_bounds-fit_course_with_steps-end-4
-slice_bounds-fit_course_with_steps-end-4 c = let a = c.args in let p = c.requires in sym (long_numbers a.s.now a.at a.n _ _ _ _ p.2 p.3 c.read_commands.ensures.kinds c.read_commands.ensures.numbers)
-
 pub fit_course_with_steps-requires : goal.fit_course_with_steps-requires
-fit_course_with_steps-requires c = let a = c.args in let p = c.requires in let r = c.read_commands.ensures in
-    let x = long_kinds a.s.now a.at a.n _ _ _ _ p.2 p.3 r.kinds r.numbers in
-    let y = long_numbers a.s.now a.at a.n _ _ _ _ p.2 p.3 r.kinds r.numbers in
-    let z = most-read a.s.now a.at a.n _ _ _ _ p.2 p.3 r.kinds r.numbers (laps_rule a.tolerance) a.start in
-    rw c.of_laps-rule.ensures (p.0, (omega arith, omega (arith, p.4), omega (arith, p.5), omega (arith, p.6), p.7))
+fit_course_with_steps-requires c = let a = c.args in let l = a.lap in let p = c.requires in let r = c.read_commands.ensures in
+    let x = long_kinds l.bytes.now l.at l.count _ _ _ _ (omega (arith, p)) (omega (arith, p)) r.kinds r.numbers in
+    let y = long_numbers l.bytes.now l.at l.count _ _ _ _ (omega (arith, p)) (omega (arith, p)) r.kinds r.numbers in
+    let z = most-read l.bytes.now l.at l.count _ _ _ _ (omega (arith, p)) (omega (arith, p)) r.kinds r.numbers (laps_rule a.tolerance) a.start in
+    rw c.of_laps-rule.ensures (p.0, (omega arith, omega (arith, p.2), omega (arith, p.2), omega (arith, p.2), omega arith))
 
 pub returns : goal.returns
 unfolding lap_rows
-returns c = let a = c.args in let p = c.requires in let r = c.read_commands.ensures in
-    placed_same _ _ _ _ _ _ _ (ap (rows_on (laps_rule a.tolerance) a.start) (read_back a.s.now a.at a.n _ _ _ _ p.2 p.3 r.kinds r.numbers)) (rows-placed (laps_rule a.tolerance) refl a.start _ _ a.out_kinds.now _ a.out_nums.now _ a.out_steps.now _ (rw c.of_laps-rule.ensures at c.fit_course_with_steps.ensures))
+returns c = let a = c.args in let l = a.lap in let p = c.requires in let r = c.read_commands.ensures in
+    placed_same _ _ _ _ _ _ _ (ap (rows_on (laps_rule a.tolerance) a.start) (read_back l.bytes.now l.at l.count _ _ _ _ (omega (arith, p)) (omega (arith, p)) r.kinds r.numbers)) (rows-placed (laps_rule a.tolerance) refl a.start _ _ _ _ _ _ _ _ (rw c.of_laps-rule.ensures at c.fit_course_with_steps.ensures))

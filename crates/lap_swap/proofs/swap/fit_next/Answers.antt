@@ -2,5 +2,5 @@
 use Rattle.lap_swap.proofs.Next.{put-none}
 use Rattle.lap_swap.proofs.swap.fit_next.Goals as goal
 
-pub returns-then-n-eq0 : goal.returns-then-n-eq0
-returns-then-n-eq0 c = let a = c.args in put-none a.rule a.start a.s.now a.at a.n _ a.to c.if-n-eq0.true
+pub returns-in-None : goal.returns-in-None
+returns-in-None c = let a = c.args in rw c.in-None.is (put-none a.rule a.start _ a.to)

@@ -1,11 +1,17 @@
 -- `lap_swap::swap::put_part` meets its contract: whether the next lap is replaced too is told by the recorded file. Assumes nothing.
-use Rattle.lap_swap.specs.Swap.{stored_laps}
+use mathlib.Core.Path.{sym, ◌∙◌}
+use Rattle.laps.specs.File.{laps_of}
+use Rattle.lap_swap.proofs.Body.{two_stored, one_stored}
 use Rattle.lap_swap.proofs.swap.put_part.Goals as goal
 
 pub put_file-requires : goal.put_file-requires
-unfolding stored_laps
-put_file-requires c = let p = c.requires in rw c.next_of-next.ensures.0 (p.0, p.3, p.4, p.5, p.6, p.7)
+put_file-requires c = let a = c.args in rw (← two_stored a.k (laps_of a.recorded.bytes.now) (laps_of a.fitted.bytes.now) a.part.bytes.now a.part.count a.part.next c.first-new.result c.first-new.ensures c.second.result c.second.ensures (sym c.if-is_some.true ∙ c.is_some.ensures ∙ c.next_of.ensures.lacks)) c.requires
+
+pub returns-then-is_some : goal.returns-then-is_some
+returns-then-is_some c = let a = c.args in rw (two_stored a.k (laps_of a.recorded.bytes.now) (laps_of a.fitted.bytes.now) a.part.bytes.now a.part.count a.part.next c.first-new.result c.first-new.ensures c.second.result c.second.ensures (sym c.if-is_some.true ∙ c.is_some.ensures ∙ c.next_of.ensures.lacks)) c.put_file.ensures
+
+pub put_file-requires-2 : goal.put_file-requires-2
+put_file-requires-2 c = let a = c.args in rw (← one_stored a.k (laps_of a.recorded.bytes.now) (laps_of a.fitted.bytes.now) a.part.bytes.now a.part.count a.part.next c.first-new.result c.first-new.ensures (sym c.if-is_some.false ∙ c.is_some.ensures ∙ c.next_of.ensures.lacks)) c.requires
 
 pub returns : goal.returns
-unfolding stored_laps
-returns c = rw c.next_of-next.ensures.0 at c.put_file.ensures
+returns c = let a = c.args in rw (one_stored a.k (laps_of a.recorded.bytes.now) (laps_of a.fitted.bytes.now) a.part.bytes.now a.part.count a.part.next c.first-new.result c.first-new.ensures (sym c.if-is_some.false ∙ c.is_some.ensures ∙ c.next_of.ensures.lacks)) c.put_file-2.ensures

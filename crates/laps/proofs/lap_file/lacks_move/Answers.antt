@@ -1,9 +1,10 @@
 -- `laps::lap_file::lacks_move` meets its contract: by the first byte of the lap. Assumes nothing.
+use borrow.Author.Tests.{eq-eqb}
 use Rattle.laps.proofs.Walks.{lacks-none, lacks-first}
 use Rattle.laps.proofs.lap_file.lacks_move.Goals as goal
 
-pub returns-then-n-eq0 : goal.returns-then-n-eq0
-returns-then-n-eq0 c = let a = c.args in lacks-none a.s.now a.at a.n c.if-n-eq0.true
+pub returns-then-lap-ne0 : goal.returns-then-lap-ne0
+returns-then-lap-ne0 c = let l = c.args.lap in lacks-first l.bytes.now l.at l.count c.if-lap-ne0.true l.inside
 
-pub returns : goal.returns
-returns c = let a = c.args in lacks-first a.s.now a.at a.n c.if-n-eq0.false c.requires
+pub returns-else-lap-ne0 : goal.returns-else-lap-ne0
+returns-else-lap-ne0 c = let l = c.args.lap in rw (eq-eqb _ _ c.if-lap-ne0.false) (lacks-none l.bytes.now l.at l.count c.if-lap-ne0.false)

@@ -4,47 +4,17 @@ use native.Mathlib.Nat.{sub-zero}
 use Rattle.laps.proofs.Walks.{walk_gap, walk_none, walk_many, walk_go, walk_end}
 use Rattle.laps.proofs.lap_file.walks.Goals as goal
 
-pub overflow_mul-at : goal.overflow_mul-at
-overflow_mul-at c = omega arith
-
-pub overflow_add-at : goal.overflow_add-at
-overflow_add-at c = omega arith
-
 pub loop-j-init : goal.loop-j-init
 loop-j-init c = (omega arith, omega arith, omega arith, rw sub-zero)
-
-pub offset_at-requires : goal.offset_at-requires
-offset_at-requires c = omega arith
 
 pub returns-then-offset_at-at : goal.returns-then-offset_at-at
 returns-then-offset_at-at c = let a = c.args in let l = c.loop-j in walk_gap a.s.now l.j l.at l.total a.l _ c.loop-j-test.true _ c.offset_at.ensures.0 l.invariant.3 c.if-offset_at-at.true
 
-pub count_at-n-requires : goal.count_at-n-requires
-count_at-n-requires c = omega arith
-
 pub returns-then-n-eq0 : goal.returns-then-n-eq0
 returns-then-n-eq0 c = let a = c.args in let l = c.loop-j in walk_none a.s.now l.j l.at l.total a.l _ c.loop-j-test.true _ c.offset_at.ensures.0 l.invariant.3 c.if-offset_at-at.false _ c.count_at-n.ensures.0 c.if-n-eq0.true
 
-pub overflow_add-total : goal.overflow_add-total
-overflow_add-total c = omega arith
-
 pub returns-then-total-n-gt-MOST_COMMANDS : goal.returns-then-total-n-gt-MOST_COMMANDS
 returns-then-total-n-gt-MOST_COMMANDS c = let a = c.args in let l = c.loop-j in walk_many a.s.now l.j l.at l.total a.l _ c.loop-j-test.true _ c.offset_at.ensures.0 l.invariant.3 c.if-offset_at-at.false _ c.count_at-n.ensures.0 c.if-n-eq0.false c.if-total-n-gt-MOST_COMMANDS.true
-
-pub overflow_mul-at-in-loop-j : goal.overflow_mul-at-in-loop-j
-overflow_mul-at-in-loop-j c = omega arith
-
-pub overflow_add-at-in-loop-j : goal.overflow_add-at-in-loop-j
-overflow_add-at-in-loop-j c = omega arith
-
-pub overflow_add-total-in-loop-j : goal.overflow_add-total-in-loop-j
-overflow_add-total-in-loop-j c = omega arith
-
-pub overflow_add-j : goal.overflow_add-j
-overflow_add-j c = omega arith
-
-pub loop-j-smaller : goal.loop-j-smaller
-loop-j-smaller c = omega arith
 
 pub loop-j-preserved : goal.loop-j-preserved
 loop-j-preserved c = let a = c.args in let l = c.loop-j in (omega arith, omega arith, omega arith, walk_go a.s.now l.j l.at l.total a.l _ c.loop-j-test.true _ c.offset_at.ensures.0 l.invariant.3 c.if-offset_at-at.false _ c.count_at-n.ensures.0 c.if-n-eq0.false c.if-total-n-gt-MOST_COMMANDS.false)

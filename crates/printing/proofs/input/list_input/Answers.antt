@@ -7,15 +7,17 @@ use borrow.Author.Tests.{lt-ltb, le-ltb}
 use lib.ListN.{length, take, drop, length-drop}
 use lib.Seq.{take_all}
 use lib.Ieee.{Float}
-use Rattle.geo.specs.declared.types.Answer.TheVariants.{Refused}
-use Rattle.geo.specs.Outcome.{answer, left, Wrote}
-use Rattle.geo.proofs.Outcomes.{wrote-same}
+use Rattle.std.specs.Prelude.{Err}
+use Rattle.geo.specs.declared.refusal.Refusal.TheVariants.{NotWhole}
+use Rattle.geo.specs.Outcome.{left}
+use Rattle.geo.specs.Wrote.{answer, Wrote}
+use Rattle.geo.proofs.Wrote.{wrote-same}
 use Rattle.file.specs.Bytes.{number_at}
 use Rattle.lap_rows.specs.Listing.{list_file}
 use Rattle.printing.specs.Input.{list_input}
 use Rattle.printing.proofs.input.list_input.Goals as goal
 
-below : (s : List ℕ) (room : ℕ) (out : List ℕ) → length s < 16 → Wrote (λ (bytes : List ℕ). bytes) (list_input s room) out out (Refused 1)
+below : (s : List ℕ) (room : ℕ) (out : List ℕ) → length s < 16 → Wrote (λ (bytes : List ℕ). bytes) (list_input s room) out out (Err NotWhole)
 unfolding list_input answer left
 below s room out h = rw (lt-ltb (length s) 16 h) record { says = refl; leaves = refl }
 

@@ -12,21 +12,28 @@ returns-then-n-lt2 c = let a = c.args in none-noted _ (no_noted a.rule a.chain.n
 pub thin_in_place-k-requires : goal.thin_in_place-k-requires
 thin_in_place-k-requires c = (square_not_negative c.args.rule.tolerance, omega (arith, c.requires))
 
-pub overflow_mul-k : goal.overflow_mul-k
-overflow_mul-k c = let a = c.args in
+pub overflow_mul-kept : goal.overflow_mul-kept
+overflow_mul-kept c = let a = c.args in
     let f = kept-few a.rule a.chain.now in
     let e = c.thin_in_place-k.ensures.count in omega (arith, c.requires)
 
-pub slice_bounds-fit_range-end : goal.slice_bounds-fit_range-end
-slice_bounds-fit_range-end c = let a = c.args in kept-fits a.rule a.chain.now _ _ _ c.thin_in_place-k.ensures (omega arith)
+pub slice_bounds-kept-end : goal.slice_bounds-kept-end
+slice_bounds-kept-end c = let a = c.args in kept-fits a.rule a.chain.now _ _ _ c.thin_in_place-k.ensures (omega arith)
 
-pub slice_bounds-fit_range-end-2 : goal.slice_bounds-fit_range-end-2
-slice_bounds-fit_range-end-2 c = let a = c.args in sym (kept_wide a.rule a.chain.now _ _ _ c.thin_in_place-k.ensures (omega arith))
+pub slice_bounds-kept-end-2 : goal.slice_bounds-kept-end-2
+slice_bounds-kept-end-2 c = let a = c.args in sym (kept_wide a.rule a.chain.now _ _ _ c.thin_in_place-k.ensures (omega arith))
 
-pub overflow_sub-k : goal.overflow_sub-k
-overflow_sub-k c = let a = c.args in
+pub overflow_sub-kept : goal.overflow_sub-kept
+overflow_sub-kept c = let a = c.args in
     let f = kept-some a.rule a.chain.now (omega (arith, c.if-n-lt2.false)) in
     let e = c.thin_in_place-k.ensures.count in omega arith
+
+pub invariant_of-kept : goal.invariant_of-kept
+invariant_of-kept c = let a = c.args in
+    let l = kept-some a.rule a.chain.now (omega (arith, c.if-n-lt2.false)) in
+    let e = c.thin_in_place-k.ensures.count in
+    let w = kept_wide a.rule a.chain.now _ _ _ c.thin_in_place-k.ensures (omega arith) in
+    record { ordered = omega arith; inside = omega arith }
 
 pub fit_range-requires : goal.fit_range-requires
 fit_range-requires c = let a = c.args in
@@ -35,7 +42,7 @@ fit_range-requires c = let a = c.args in
     let e = c.thin_in_place-k.ensures.count in
     let w = kept_wide a.rule a.chain.now _ _ _ c.thin_in_place-k.ensures (omega arith) in
     let p = c.requires in
-    (p.0, (omega arith, omega (arith, p.1), omega arith, omega (arith, p.1), omega (arith, p.1)))
+    (p.0, (omega arith, omega (arith, p.1), omega (arith, p.1), omega (arith, p.1)))
 
 pub returns : goal.returns
 returns c = let a = c.args in

@@ -1,24 +1,14 @@
--- `simplify::simplify::thin_in_place` meets its contract: the flags set are those of the kept indices, which ascend, so that what closes up is the list, thinned. Assumes nothing.
-use mathlib.Core.Path.{◌≡◌, ◌∙◌}
-use mathlib.Core.Bool.{true, false}
-use native.Mathlib.Omega.{arith}
-use lib.ListN.{length, replicate, length-set, length-replicate}
+-- `simplify::simplify::thin_in_place` meets its contract: none of the triples is always kept. Assumes nothing.
+use Prim.Native.Nat.{◌/◌}
+use lib.ListN.{length}
+use Rattle.std.proofs.Common.{rules}
 use Rattle.geo.specs.Lent.{triple, point_at}
 use Rattle.farthest.specs.Measure.{measure_of}
-use Rattle.simplify.proofs.Flags.{copied_thinned, copied_none}
+use Rattle.simplify.proofs.Accepted.{copied-points}
 use Rattle.simplify.proofs.simplify.thin_in_place.Goals as goal
-
-pub returns-then-n-eq0 : goal.returns-then-n-eq0
-returns-then-n-eq0 c = let a = c.args in
-    copied_none (measure_of a.ruler) a.limit (point_at a.points.now) a.n triple a.points.now c.if-n-eq0.true
-
-pub mark-requires : goal.mark-requires
-mark-requires c = (c.requires.0, simp (length-set, length-replicate) (omega (arith, c.requires.1)))
-
-pub close_up-requires : goal.close_up-requires
-close_up-requires c = let e : length c.mark.new.keep ≡ 2048 = c.mark.auto.keep ∙ length-set (replicate 2048 false) 0 true ∙ length-replicate 2048 false in
-    simp length-set (omega (arith, e, c.requires.1))
 
 pub returns : goal.returns
 returns c = let a = c.args in
-    copied_thinned (measure_of a.ruler) a.limit c.requires.0 (point_at a.points.now) 2048 a.n (omega arith) c.requires.1.0 _ c.mark.ensures triple _ _ _ c.close_up.ensures
+    let same = c.thin.ensures.items.0 in
+    let items = c.thin.ensures.items.1 in
+    copied-points (measure_of a.ruler) a.limit c.requires.0 (point_at a.points.now) (length a.points.now / 3) triple a.points.now _ _ c.thin.ensures.count (search rules)

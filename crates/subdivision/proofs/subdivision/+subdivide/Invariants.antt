@@ -2,4 +2,4 @@
 use Rattle.subdivision.proofs.subdivision.+subdivide.Given as goal
 
 abbrev pub decreases-subdivide : goal.decreases-subdivide
-decreases-subdivide l = l.depth
+decreases-subdivide g l = l.depth

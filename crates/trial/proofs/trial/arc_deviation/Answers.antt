@@ -8,32 +8,17 @@ use Rattle.trial.specs.Deviation.{spoke_of, arc_deviation}
 use Rattle.trial.proofs.Steps.{step_is}
 use Rattle.trial.proofs.trial.arc_deviation.Goals as goal
 
-pub point_at-p-requires : goal.point_at-p-requires
-point_at-p-requires c = omega arith
-
 pub loop-i-init : goal.loop-i-init
 unfolding arc_deviation worstOf
-loop-i-init c = (omega arith, omega arith, c.point_at-p.ensures, c.new-s.ensures ∙ ap (spoke_of _) c.point_at-p.ensures, refl)
-
-pub overflow_add-i : goal.overflow_add-i
-overflow_add-i c = omega arith
-
-pub point_at-q-requires : goal.point_at-q-requires
-point_at-q-requires c = omega arith
-
-pub overflow_step-i : goal.overflow_step-i
-overflow_step-i c = omega (arith, c.loop-i-test.true, c)
-
-pub loop-i-smaller : goal.loop-i-smaller
-loop-i-smaller c = omega arith
+loop-i-init c = (omega arith, omega arith, c.first-p.ensures, c.new-s.ensures ∙ ap (spoke_of _) c.first-p.ensures, refl)
 
 pub loop-i-preserved : goal.loop-i-preserved
 loop-i-preserved c = let a = c.args in
     let v = c.loop-i.invariant in
-    let d = step_is a.m a.r _ _ _ _ _ _ _ _ v.2 c.point_at-q.ensures v.3 c.new-t.ensures c.get_length-len.ensures c.step_deviation.ensures in
+    let d = step_is a.arc.center a.arc.radius _ _ _ _ _ _ _ _ v.2 c.at-q.ensures v.3 c.new-t.ensures c.get_length.ensures c.deviation.ensures in
     let n = ap (λ (x : Float). worse x c.loop-i.i c.loop-i.worst) d in
-    (omega arith, omega arith, c.point_at-q.ensures, c.new-t.ensures ∙ ap (spoke_of _) c.point_at-q.ensures, fold_turn _ a.end _ _ _ _ c.loop-i-test.true (c.or-worst.ensures ∙ n) v.4)
+    (omega arith, omega arith, c.at-q.ensures, c.new-t.ensures ∙ ap (spoke_of _) c.at-q.ensures, fold_turn _ a.stretch.end _ _ _ _ c.loop-i-test.true (c.or-worst.ensures ∙ n) v.4)
 
 pub returns : goal.returns
 returns c = let a = c.args in
-    fold_done _ a.end _ _ _ c.loop-i-test.false c.loop-i.invariant.4
+    fold_done _ a.stretch.end _ _ _ c.loop-i-test.false c.loop-i.invariant.4

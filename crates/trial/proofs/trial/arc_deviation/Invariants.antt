@@ -8,7 +8,7 @@ use Rattle.trial.proofs.Steps.{walk}
 use Rattle.trial.proofs.trial.arc_deviation.Given as goal
 
 abbrev pub invariant-loop-i : goal.invariant-loop-i
-invariant-loop-i l = (l.start ≤ l.i) × (l.i ≤ l.end) × (l.p ≡ point_at l.points l.i) × (l.s ≡ spoke_of l.m (point_at l.points l.i)) × (fold (walk (λ j. step_between l.m l.r (point_at l.points j) (point_at l.points (j + 1)))) (l.end - l.i) l.i l.worst ≡ arc_deviation l.m l.r (point_at l.points) l.start l.end)
+invariant-loop-i l = (l.stretch.start ≤ l.i) × (l.i ≤ l.stretch.end) × (l.p ≡ point_at l.stretch.points.now l.i) × (l.s ≡ spoke_of l.arc.center (point_at l.stretch.points.now l.i)) × (fold (walk (λ j. step_between l.arc.center l.arc.radius (point_at l.stretch.points.now j) (point_at l.stretch.points.now (j + 1)))) (l.stretch.end - l.i) l.i l.worst ≡ arc_deviation l.arc.center l.arc.radius (point_at l.stretch.points.now) l.stretch.start l.stretch.end)
 
 abbrev pub decreases-loop-i : goal.decreases-loop-i
-decreases-loop-i l = l.end - l.i
+decreases-loop-i l = l.stretch.end - l.i

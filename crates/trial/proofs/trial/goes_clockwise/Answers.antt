@@ -9,32 +9,17 @@ use Rattle.geo.proofs.Walk.{fold_turn, fold_done}
 use Rattle.arc.specs.Direction.{cross_sum, clockwise}
 use Rattle.trial.proofs.trial.goes_clockwise.Goals as goal
 
-pub point_at-requires : goal.point_at-requires
-point_at-requires c = omega arith
-
 pub loop-i-init : goal.loop-i-init
 unfolding cross_sum
-loop-i-init c = (omega arith, omega arith, c.truncate-p.ensures ∙ ap (λ (q : Point3D). flatten q) c.point_at.ensures, refl)
-
-pub overflow_add-i : goal.overflow_add-i
-overflow_add-i c = omega arith
-
-pub point_at-requires-in-loop-i : goal.point_at-requires-in-loop-i
-point_at-requires-in-loop-i c = omega arith
-
-pub overflow_step-i : goal.overflow_step-i
-overflow_step-i c = omega arith
-
-pub loop-i-smaller : goal.loop-i-smaller
-loop-i-smaller c = omega arith
+loop-i-init c = (omega arith, omega arith, c.truncate-p.ensures ∙ ap (λ (q : Point3D). flatten q) c.first.ensures, refl)
 
 pub loop-i-preserved : goal.loop-i-preserved
 loop-i-preserved c = let a = c.args in
     let v = c.loop-i.invariant in
-    let q = c.truncate-q.ensures ∙ ap (λ (x : Point3D). flatten x) c.point_at-in-loop-i.ensures in
-    (omega arith, omega arith, q, fold_turn _ a.end _ _ _ _ c.loop-i-test.true (ap (λ (x : Float). c.loop-i.sum ⊕ x) (c.turn-sum.ensures ∙ rw (v.2, q))) v.3)
+    let q = c.truncate-q.ensures ∙ ap (λ (x : Point3D). flatten x) c.at.ensures in
+    (omega arith, omega arith, q, fold_turn _ a.stretch.end _ _ _ _ c.loop-i-test.true (ap (λ (x : Float). c.loop-i.sum ⊕ x) (c.turn-sum.ensures ∙ rw (v.2, q))) v.3)
 
 pub returns : goal.returns
 unfolding clockwise
 returns c = let a = c.args in
-    ap (λ (x : Float). lt x +0) (fold_done _ a.end _ _ _ c.loop-i-test.false c.loop-i.invariant.3)
+    ap (λ (x : Float). lt x +0) (fold_done _ a.stretch.end _ _ _ c.loop-i-test.false c.loop-i.invariant.3)

@@ -9,7 +9,7 @@ use Rattle.arc.specs.Direction.{turn_at, cross_sum}
 use Rattle.trial.proofs.trial.goes_clockwise.Given as goal
 
 abbrev pub invariant-loop-i : goal.invariant-loop-i
-invariant-loop-i l = (l.start ≤ l.i) × (l.i ≤ l.end) × (l.p ≡ flatten (point_at l.points l.i)) × (fold (λ j x. x ⊕ turn_at l.m (flatten (point_at l.points j)) (flatten (point_at l.points (j + 1)))) (l.end - l.i) l.i l.sum ≡ cross_sum (λ j. flatten (point_at l.points j)) l.start l.end l.m)
+invariant-loop-i l = (l.stretch.start ≤ l.i) × (l.i ≤ l.stretch.end) × (l.p ≡ flatten (point_at l.stretch.points.now l.i)) × (fold (λ j x. x ⊕ turn_at l.m (flatten (point_at l.stretch.points.now j)) (flatten (point_at l.stretch.points.now (j + 1)))) (l.stretch.end - l.i) l.i l.sum ≡ cross_sum (λ j. flatten (point_at l.stretch.points.now j)) l.stretch.start l.stretch.end l.m)
 
 abbrev pub decreases-loop-i : goal.decreases-loop-i
-decreases-loop-i l = l.end - l.i
+decreases-loop-i l = l.stretch.end - l.i

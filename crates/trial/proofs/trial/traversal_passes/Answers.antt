@@ -6,41 +6,26 @@ use Rattle.trial.specs.Traversal.{offset_of}
 use Rattle.trial.proofs.Going.{go_start, go_turn, go_kept, go_first, go_stop, go_done}
 use Rattle.trial.proofs.trial.traversal_passes.Goals as goal
 
-pub point_at-requires : goal.point_at-requires
-point_at-requires c = omega arith
-
 pub returns-then-at_centre : goal.returns-then-at_centre
-returns-then-at_centre c = let a = c.args in go_first a.m (point_at a.points.now) a.start a.end _ _ (omega arith) (c.offset-q0.ensures ∙ ap (offset_of _) c.point_at.ensures) c.at_centre.ensures c.if-at_centre.true
+returns-then-at_centre c = let a = c.args in go_first a.m (point_at a.stretch.points.now) a.stretch.start a.stretch.end _ _ (omega arith) (c.offset-q0.ensures ∙ ap (offset_of _) c.first.ensures) c.at_centre.ensures c.if-at_centre.true
 
 pub loop-i-init : goal.loop-i-init
 loop-i-init c = let a = c.args in
-    let e = c.offset-q0.ensures ∙ ap (offset_of _) c.point_at.ensures in
-    (e, go_start (λ j. offset_of a.m (point_at a.points.now j)) a.start a.end _ _ _ (omega arith) e c.half-h.ensures c.at_centre.ensures c.if-at_centre.false)
-
-pub overflow_add-i : goal.overflow_add-i
-overflow_add-i c = omega arith
-
-pub point_at-requires-in-loop-i : goal.point_at-requires-in-loop-i
-point_at-requires-in-loop-i c = omega arith
+    let e = c.offset-q0.ensures ∙ ap (offset_of _) c.first.ensures in
+    (e, go_start (λ j. offset_of a.m (point_at a.stretch.points.now j)) a.stretch.start a.stretch.end _ _ _ (omega arith) e c.half-h.ensures c.at_centre.ensures c.if-at_centre.false)
 
 pub returns-then-at_centre-2 : goal.returns-then-at_centre-2
-returns-then-at_centre-2 c = let a = c.args in go_stop a.m (point_at a.points.now) a.start a.end _ _ _ _ _ _ c.loop-i.invariant.1 c.loop-i-test.true (c.offset-n.ensures ∙ ap (offset_of _) c.point_at-in-loop-i.ensures) c.at_centre-in-loop-i.ensures c.if-at_centre-2.true
+returns-then-at_centre-2 c = let a = c.args in go_stop a.m (point_at a.stretch.points.now) a.stretch.start a.stretch.end _ _ _ _ _ _ c.loop-i.invariant.1 c.loop-i-test.true (c.offset-n.ensures ∙ ap (offset_of _) c.at.ensures) c.at_centre-in-loop-i.ensures c.if-at_centre-2.true
 
 pub turn_by-w-requires : goal.turn_by-w-requires
 turn_by-w-requires c = let g = c.loop-i.invariant.1 in omega (arith, g.small, g.to)
 
-pub overflow_step-i : goal.overflow_step-i
-overflow_step-i c = omega arith
-
-pub loop-i-smaller : goal.loop-i-smaller
-loop-i-smaller c = omega arith
-
 pub loop-i-preserved : goal.loop-i-preserved
 loop-i-preserved c = let a = c.args in
     let v = c.loop-i.invariant in
-    let n = c.offset-n.ensures ∙ ap (offset_of _) c.point_at-in-loop-i.ensures in
-    let g = go_turn (λ j. offset_of a.m (point_at a.points.now j)) a.start a.end _ _ _ _ _ _ _ _ _ _ v.1 c.loop-i-test.true v.0 n c.half-k.ensures c.cross-c.ensures c.turn_by-w.ensures c.at_centre-in-loop-i.ensures c.if-at_centre-2.false in
-    (v.0, go_kept (λ j. offset_of a.m (point_at a.points.now j)) a.start a.end _ _ _ _ (omega arith) g)
+    let n = c.offset-n.ensures ∙ ap (offset_of _) c.at.ensures in
+    let g = go_turn (λ j. offset_of a.m (point_at a.stretch.points.now j)) a.stretch.start a.stretch.end _ _ _ _ _ _ _ _ _ _ v.1 c.loop-i-test.true v.0 n c.half-k.ensures c.cross-c.ensures c.turn_by-w.ensures c.at_centre-in-loop-i.ensures c.if-at_centre-2.false in
+    (v.0, go_kept (λ j. offset_of a.m (point_at a.stretch.points.now j)) a.stretch.start a.stretch.end _ _ _ _ (omega arith) g)
 
 pub returns : goal.returns
-returns c = let a = c.args in go_done a.m (point_at a.points.now) a.start a.end _ _ _ _ _ _ c.loop-i.invariant.1 c.loop-i-test.false c.loop-i.invariant.0 c.passes.ensures
+returns c = let a = c.args in go_done a.m (point_at a.stretch.points.now) a.stretch.start a.stretch.end _ _ _ _ _ _ c.loop-i.invariant.1 c.loop-i-test.false c.loop-i.invariant.0 c.passes.ensures

@@ -7,7 +7,7 @@ use Rattle.trial.proofs.Going.{Going}
 use Rattle.trial.proofs.trial.traversal_passes.Given as goal
 
 abbrev pub invariant-loop-i : goal.invariant-loop-i
-invariant-loop-i l = (l.q0 ≡ offset_of l.m (point_at l.points l.start)) × Going (λ j. offset_of l.m (point_at l.points j)) l.start l.end l.q l.h l.w l.i
+invariant-loop-i l = (l.q0 ≡ offset_of l.m (point_at l.stretch.points.now l.stretch.start)) × Going (λ j. offset_of l.m (point_at l.stretch.points.now j)) l.stretch.start l.stretch.end l.q l.h l.w l.i
 
 abbrev pub decreases-loop-i : goal.decreases-loop-i
-decreases-loop-i l = l.end - l.i
+decreases-loop-i l = l.stretch.end - l.i

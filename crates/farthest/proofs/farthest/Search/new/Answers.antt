@@ -1,11 +1,8 @@
--- `farthest::farthest::Search::new` meets its contract: its best is what `Farthest::new` gives. Assumes nothing.
-use mathlib.Core.Path.{ap}
+-- `farthest::farthest::Search::new` meets its contract: below every spread the search is sound. Assumes nothing.
 use lib.Ieee.{neg, of_bits}
-use Rattle.floats.specs.Ops.{one}
-use Rattle.farthest.specs.declared.farthest.Farthest.{Farthest}
-use Rattle.farthest.specs.declared.farthest.Search.{Search}
+use Rattle.farthest.proofs.Search.{sound_start}
 use Rattle.farthest.proofs.farthest.Search.new.Goals as goal
 
-pub returns : goal.returns
+pub invariant_of-result : goal.invariant_of-result
 unfolding neg of_bits
-returns c = ap {B = Search} (λ (best : Farthest). record { top = neg one; best = best }) c.new-best.ensures
+invariant_of-result c = record { sound = sound_start c.args.chord _ _ c.new.ensures }

@@ -1,18 +1,19 @@
 -- `live::live::Live::feed` meets its contract: the rows decide, and then the push. Assumes nothing.
+use borrow.Author.Rules.{rules}
 use mathlib.Core.Path.{ap, ◌∙◌}
 use mathlib.Core.Bool.{Bool, true}
 use Rattle.geo.specs.Outcome.{refusal}
 use Rattle.live.specs.Calls.{feed, state_rows, live_rows, next_of}
-use Rattle.live.proofs.Answers.{answer-refused, answer-given, few-accepted}
+use Rattle.live.proofs.Answers.{fed_refused, fed_given, few-accepted}
 use Rattle.live.proofs.live.Live.feed.Goals as goal
 
-pub returns-then-n-ne0 : goal.returns-then-n-ne0
+pub returns-in_err-refuse : goal.returns-in_err-refuse
 unfolding live_rows
-returns-then-n-ne0 c = answer-refused c.args.self (feed c.args.p) _ (c.refuse-n.ensures ∙ ap (λ (b : Bool). refusal (state_rows c.args.self b true)) c.point3_in.ensures) c.if-n-ne0.true
+returns-in_err-refuse c = fed_refused c.args.self.now (feed c.args.p) _ (c.in_err-refuse.ensures ∙ ap (λ (b : Bool). refusal (state_rows c.args.self.now b true)) c.point3_in.ensures) _ (search rules)
 
 pub push-requires : goal.push-requires
-push-requires c = few-accepted _ _ _ _ c.refuse-n.ensures c.if-n-ne0.false
+push-requires c = few-accepted _ _ _ c.in_ok-refuse.ensures
 
 pub returns : goal.returns
 unfolding live_rows next_of
-returns c = answer-given c.args.self (feed c.args.p) _ (c.refuse-n.ensures ∙ ap (λ (b : Bool). refusal (state_rows c.args.self b true)) c.point3_in.ensures) _ c.if-n-ne0.false c.push.ensures
+returns c = fed_given c.args.self.now (feed c.args.p) (c.in_ok-refuse.ensures ∙ ap (λ (b : Bool). refusal (state_rows c.args.self.now b true)) c.point3_in.ensures) _ _ c.push.ensures.end c.push.ensures.state

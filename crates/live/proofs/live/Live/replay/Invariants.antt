@@ -8,7 +8,4 @@ use Rattle.live.proofs.Replaying.{Replaying}
 use Rattle.live.proofs.live.Live.replay.Given as goal
 
 abbrev pub invariant-loop-i : goal.invariant-loop-i
-invariant-loop-i l = (length l.points ≡ 195) × (l.n ≤ 65) × (length (feed_again (point_at l.points) (l.n - 1) 1 l.initial.state).ends ≤ 63) × (1 ≤ l.i) × Replaying (point_at l.points) l.n (feed_again (point_at l.points) (l.n - 1) 1 l.initial.state) l.initial.out l.out l.state l.count l.i
-
-abbrev pub decreases-loop-i : goal.decreases-loop-i
-decreases-loop-i l = l.n - l.i
+invariant-loop-i l = (length l.points ≡ 195) × (l.n ≤ 65) × (length (feed_again (point_at l.points) (l.n - 1) 1 l.initial.self).ends ≤ 63) × (1 ≤ l.i) × Replaying (point_at l.points) l.n (feed_again (point_at l.points) (l.n - 1) 1 l.initial.self) l.initial.out l.out l.self l.count l.i

@@ -6,4 +6,4 @@ pub returns-then-self-eq0 : goal.returns-then-self-eq0
 returns-then-self-eq0 c = next-none _ _ _ _ c.if-self-eq0.true
 
 pub returns : goal.returns
-returns c = next-some _ _ _ _ _ c.if-self-eq0.false c.wide.ensures
+returns c = next-some _ _ _ _ _ c.if-self-eq0.false c.from.ensures

@@ -4,12 +4,12 @@ use Rattle.segment.proofs.segment.Segment.is_inside.Goals as goal
 
 pub returns-then-self : goal.returns-then-self
 unfolding is_inside
-returns-then-self c = rw c.if-self.true
+returns-then-self g c = rw c.if-self.true
 
 pub returns-then-self-along : goal.returns-then-self-along
 unfolding is_inside
-returns-then-self-along c = rw (c.if-self.false, c.if-self-along.true)
+returns-then-self-along g c = rw (c.if-self.false, c.if-self-along.true)
 
 pub returns : goal.returns
 unfolding is_inside
-returns c = rw (c.if-self.false, c.if-self-along.false)
+returns g c = rw (c.if-self.false, c.if-self-along.false)

@@ -1,0 +1,103 @@
+// Lists as they are lent, each in one value: commands, and a stretch of a list of points.
+ghost use Rattle.std.specs.Prelude.{◌≡◌, ◌+◌, ◌*◌, ◌<◌, ◌≤◌, length};
+ghost use Rattle.geo.specs.Lent.{command_at, point_at};
+ghost use Rattle.geo.specs.Domain.{commands_in, commands_formed};
+
+use crate::domain::{all_coordinates, command_in, is_formed};
+use crate::lent::make_command;
+use crate::types::{Command, Point3D};
+
+// The points of a list of triples from one index to another, both among them.
+#[derive(Clone, Copy)]
+pub struct Stretch<'a> {
+    pub points: &'a [f64],
+    pub start: usize,
+    pub end: usize,
+    ghost ordered: { start ≤ end },
+    ghost inside: { 3 * end + 2 < length points.now },
+}
+
+impl<'a> Stretch<'a> {
+    // The point at an index of the list, between the two.
+    pub fn at(self, i: usize) -> Point3D
+        requires { i ≤ self.end }
+        ensures { result ≡ point_at self.entry.points.now i }
+    {
+        crate::lent::point_at(self.points, i)
+    }
+
+    pub fn first(self) -> Point3D
+        ensures { result ≡ point_at self.entry.points.now self.entry.start }
+    {
+        self.at(self.start)
+    }
+
+    pub fn last(self) -> Point3D
+        ensures { result ≡ point_at self.entry.points.now self.entry.end }
+    {
+        self.at(self.end)
+    }
+}
+
+// Commands: their kinds, and nine numbers for each.
+#[derive(Clone, Copy)]
+pub struct Commands<'a> {
+    pub kinds: &'a [u8],
+    pub nums: &'a [f64],
+    ghost whole: { length nums.now ≡ 9 * length kinds.now },
+}
+
+impl<'a> Commands<'a> {
+    pub fn len(self) -> usize
+        ensures { result ≡ length self.entry.kinds.now }
+    {
+        self.kinds.len()
+    }
+
+    // The command at an index.
+    #[tactic(auto, unfolding(crate::specs::Lent::command_at))]
+    pub fn at(self, i: usize) -> Command
+        requires { i < length self.kinds.now }
+        ensures { result ≡ command_at self.entry.kinds.now self.entry.nums.now i }
+    {
+        let b = 3 * i;
+        let p = crate::lent::point_at(self.nums, b);
+        let q = crate::lent::point_at(self.nums, b + 1);
+        let r = crate::lent::point_at(self.nums, b + 2);
+        make_command(self.kinds[i], p, q, r)
+    }
+
+    // Row 4: whether each kind is known, and the numbers that it does not use are +0, wherever a Move may stand.
+    pub fn are_formed(self) -> bool
+        ensures { result ≡ commands_formed self.entry.kinds.now self.entry.nums.now }
+    {
+        for i in 0..self.kinds.len() {
+            let q = crate::lent::point_at(self.nums, 3 * i + 1);
+            let r = crate::lent::point_at(self.nums, 3 * i + 2);
+            if !is_formed(self.kinds[i], q, r) {
+                return false;
+            }
+        }
+        true
+    }
+
+    // Row 5: whether the numbers of each are in the domain. Where each number may be a coordinate, so are those that count, and
+    // no kind needs to be looked at.
+    #[tactic(auto, using(crate::proofs::Coordinates::all_in))]
+    pub fn are_in(self) -> bool
+        ensures { result ≡ commands_in self.entry.kinds.now self.entry.nums.now }
+    {
+        all_coordinates(self.nums) || self.each_is_in()
+    }
+
+    fn each_is_in(self) -> bool
+        ensures { result ≡ commands_in self.entry.kinds.now self.entry.nums.now }
+    {
+        for i in 0..self.kinds.len() {
+            if !command_in(self.at(i)) {
+                return false;
+            }
+        }
+        true
+    }
+}
