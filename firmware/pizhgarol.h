@@ -38,26 +38,26 @@
    n counts points; for thinning commands and for a path, commands; for a course, a file, a replacement and an asking it is the
    most of the course, of the longest lap, and of the new lap.
      pz_simplify_polyline             2048 +  96 * n   198656
-     pz_simplify_polyline_3d          2048 +  80 * n   165888
-     pz_simplify_data                 2048 +  80 * n    66048
-     pz_optimize_path_from_array     24320 +  80 * n    88320
-     pz_fit_points_with_primitives    5120               5120
-     pz_fit_points_recursive          5120               5120
-     pz_fit_arcs                     24576 +  80 * n    88576
-     pz_fit_file                    141952 +  80 * n   205952
-     pz_fit_hills                   141824 +  80 * n   205824
-     pz_replace_lap                 200192 +  80 * n   264192
-     pz_ask_lap                     141824 +  80 * n   205824
+     pz_simplify_polyline_3d          2048 +  96 * n   198656
+     pz_simplify_data                 2176 +  80 * n    66176
+     pz_optimize_path_from_array     24576 +  96 * n   101376
+     pz_fit_points_with_primitives    4864               4864
+     pz_fit_points_recursive          4864               4864
+     pz_fit_arcs                     24832 +  96 * n   101632
+     pz_fit_file                    142080 +  96 * n   218880
+     pz_fit_hills                   142080 +  96 * n   218880
+     pz_replace_lap                 200448 +  96 * n   277248
+     pz_ask_lap                     142208 +  96 * n   219008
      pz_commit_lap                     512                512
-     pz_fewest_straights              1280 + 144 * n    38144
-     pz_flatten_arc                   3968               3968
-     pz_read_course                    640                640
-     pz_live_feed                    11392              11392
-     pz_live_retune                  11392              11392
-     pz_fit_cubic_bezier             16640              16640
-     pz_linearize_bezier_adaptive     2048               2048
-     pz_linearize_bezier_segment      3328               3328
-     others                           1920               1920
+     pz_fewest_straights              1280 + 112 * n    29952
+     pz_flatten_arc                   3200               3200
+     pz_read_course                    384                384
+     pz_live_feed                     1792               1792
+     pz_live_retune                   3328               3328
+     pz_fit_cubic_bezier             16512              16512
+     pz_linearize_bezier_adaptive     2688               2688
+     pz_linearize_bezier_segment      3968               3968
+     others                           1792               1792
    No input recurses deeper than the zigzags, since each cut takes a point off: thinning, and the cut of the fewest straights,
    recurse as deep as they cut, the fit of points does not. Bytes that a call reserves but never writes do not show: leave a
    margin of some KiB. The rows are those of x86-64: another processor's have to be measured there. */
