@@ -29,7 +29,7 @@ pub struct Deviation {
 }
 
 impl Deviation {
-    // A later distance that is equal does not replace the earlier one.
+    // A later distance that is equal does not replace the earlier one. No logical operator: of two points it takes one.
     #[tactic(auto, unfolding(crate::specs::Worst::worse))]
     pub fn or(self, dist: f64, index: usize) -> Self
         ensures { result ≡ worse dist index self }
@@ -58,6 +58,7 @@ impl Chord {
     // A chord whose square is below this has no bisector.
     const DEGENERATE: f64 = 1e-12;
 
+    // A chord is itself the value of its two ends, and so takes them as two.
     #[tactic(auto, unfolding(crate::specs::Collinear::ends_chord))]
     fn new(a: Point3D, b: Point3D) -> Self
         ensures { result ≡ ends_chord a b }
@@ -97,7 +98,7 @@ impl Chord {
 fn is_collinear(stretch: Stretch, tolerance: f64) -> bool
     ensures { result ≡ collinear tolerance (point_at stretch.entry.points.now) stretch.entry.start stretch.entry.end }
 {
-    if stretch.end - stretch.start < 2 {
+    if stretch.end < stretch.start + 2 {
         return true;
     }
     let c = Chord::new(stretch.first(), stretch.last());
@@ -115,7 +116,8 @@ fn get_radius(center: Point, p: Point3D) -> f64
     get_length(p.x - center.x, p.y - center.y)
 }
 
-// Twice the signed area of a triangle.
+// Twice the signed area of a triangle. Its corners are three parameters, here and below: of a struct each coordinate in these formulas
+// would be read by one name more.
 #[tactic(auto, unfolding(crate::specs::Three::area_of))]
 fn area(a: Point3D, b: Point3D, c: Point3D) -> f64
     ensures { result ≡ area_of a b c }
@@ -191,7 +193,9 @@ impl Circle {
         abs(get_radius(self.center, p) - self.radius)
     }
 
-    // The greatest of these.
+    // The greatest of these. A `for`: the index goes along, of equal errors the first counts, and the closure of a `fold` would need a
+    // contract that says `or` again.
+    #[tactic(auto, unfolding(crate::specs::Kasa::worst_error, crate::specs::Worst::worst))]
     fn worst_error(self, stretch: Stretch) -> Deviation
         ensures { result ≡ worst_error self.center self.radius (point_at stretch.entry.points.now) stretch.entry.start stretch.entry.end }
     {
@@ -240,7 +244,8 @@ impl Sums {
         }
     }
 
-    // Of the points of a stretch.
+    // Of the points of a stretch. A `for`: each sum is rounded after each point, from the first on, and the closure of a `fold` would need
+    // a contract that says `add` again.
     fn of(stretch: Stretch) -> Self
         ensures { result ≡ sums_of (point_at stretch.entry.points.now) stretch.entry.start stretch.entry.end }
     {
@@ -373,7 +378,7 @@ impl Center {
     // A squared radius below this is none.
     const LEAST_SQUARE: f64 = 1e-10;
 
-    // By Kasa's normal equations; or none. How many points there are has to be a float: two functions here and the trials' entry
+    // By Kasa's normal equations; or none. How many points there are has to be a float: two functions here and two of the trials
     // ask for it, and a type of its own would be no plainer, since every caller had to make it.
     #[tactic(auto, unfolding(crate::specs::Kasa::kasa_center, crate::specs::Kasa::centered))]
     pub fn of(stretch: Stretch) -> Option<Self>

@@ -8,7 +8,7 @@ ghost use Rattle.deviations.specs.Line.{line_deviation};
 ghost use Rattle.deviations.specs.Calls.{line_rows, line_call, arc_rows, arc_call};
 
 use circle::circle::{Circle, Deviation, check_points};
-use farthest::farthest::{Ruler, farthest_between, farthest_of};
+use farthest::farthest::{Ruler, farthest_between};
 use floats::root::sqrt;
 use geo::domain::{is_centre, is_radius};
 use geo::lists::Stretch;
@@ -16,7 +16,8 @@ use geo::refusal::Refusal;
 use geo::types::Point;
 use trial::trial::arc_deviation;
 
-// The greatest distance of a point from the Line between the stretch's ends, and the first point that has it.
+// The greatest distance of a point from the Line between the stretch's ends, and the first point that has it: the start with 0
+// where nothing lies between.
 #[tactic(auto, unfolding(crate::specs::Line::line_deviation, crate::specs::Line::rooted))]
 pub fn line_deviation(ruler: Ruler, stretch: Stretch) -> Deviation
     ensures { result ≡ line_deviation (measure_of ruler) (point_at stretch.entry.points.now) stretch.entry.start stretch.entry.end }
@@ -28,20 +29,8 @@ pub fn line_deviation(ruler: Ruler, stretch: Stretch) -> Deviation
     }
 }
 
-// The same between any two indices of a list, in either order.
-#[tactic(auto, unfolding(crate::specs::Line::line_deviation, crate::specs::Line::rooted))]
-pub fn deviation_of(ruler: Ruler, points: &[f64], start: usize, end: usize) -> Deviation
-    requires { (3 * start + 2 < length points.now) × (3 * end + 2 < length points.now) }
-    ensures { result ≡ line_deviation (measure_of ruler) (point_at points.now) start end }
-{
-    let w = farthest_of(ruler, points, start, end);
-    Deviation {
-        dist: sqrt(w.square),
-        index: w.index,
-    }
-}
-
-// The first row that a line's deviation falls under.
+// The first row that a line's deviation falls under. The list and its two indices stand one by one, here and in the call: they make a
+// `Stretch` only once they are checked. It and `check_arc` are two, since they follow two tables.
 #[tactic(auto, using(crate::proofs::Accepted::points_refused, crate::proofs::Accepted::points_passed), unfolding(crate::specs::Calls::line_rows, geo::specs::Outcome::refusal))]
 fn check_line(points: &[f64], start: usize, end: usize) -> Result<(), Refusal>
     ensures { refused_by result ≡ refusal (line_rows points.now start end) }
@@ -64,7 +53,8 @@ pub fn get_polyline_line_deviation(
     ensures { outcome result ≡ line_call points.now start end }
 {
     check_line(points, start, end)?;
-    Ok(deviation_of(Ruler::Line, points, start, end))
+    let range = Stretch { points, start, end };
+    Ok(line_deviation(Ruler::Line, range))
 }
 
 // The first row that an arc's deviation falls under.
@@ -79,8 +69,8 @@ fn check_arc(points: &[f64], arc: Circle) -> Result<(), Refusal>
     Ok(())
 }
 
-// Maximum deviation of a polyline from the circle around center, and the first step that reaches it: 0 where there is
-// none above 0.
+// Maximum deviation of a polyline from the circle around center, which C hands over by its parts, and the first step that reaches it:
+// 0 where there is none above 0.
 pub fn get_polyline_arc_deviation(
     points: &[f64],
     center: Point,

@@ -71,11 +71,11 @@ impl<'a> Ends for Pairs<'a> {
     }
 }
 
-// The points of a list up to a stretch's end.
+// All points of the list that a stretch is of.
 impl<'a> Ends for Stretch<'a> {
     type Item = Point3D;
 
-    ghost size = { λ s. s.end + 1 };
+    ghost size = { λ s. length s.points.now / 3 };
 
     ghost item = { λ s. point_at s.points.now };
 

@@ -31,6 +31,8 @@ pub struct Chord {
 }
 
 impl Chord {
+    // A chord is itself the value of its two ends, and so takes them as two.
+    #[tactic(auto, unfolding(crate::specs::Measure::chord_of))]
     pub fn new(a: Point3D, b: Point3D) -> Self
         ensures { result ≡ chord_of a b }
     {
@@ -86,7 +88,7 @@ impl Farthest {
         }
     }
 
-    // Of equal farthest points the first counts, so a later point has to be farther.
+    // Of equal farthest points the first counts, so a later point has to be farther. No logical operator: of two points it takes one.
     fn or(self, square: f64, index: usize) -> Self
         ensures { result ≡ farther square index self }
     {
@@ -148,7 +150,7 @@ impl Search {
 }
 
 // The first farthest of the items strictly between start and end from the endless line; z is not measured, and not each item is
-// a candidate.
+// a candidate. The ends stand beside the items, which are of any form: a `Stretch` is of points.
 pub fn farthest_from_line<T: Ends>(track: T, start: usize, end: usize) -> Farthest
     requires { (start < T.size track) × (end < T.size track) }
     ensures { result ≡ farthest_in T.measure (T.item track) start end }
@@ -205,16 +207,4 @@ pub fn farthest_between(ruler: Ruler, stretch: Stretch) -> Farthest
         Ruler::Segment => farthest_from_segment::<Point>(stretch),
         Ruler::Space => farthest_from_each::<Point3D>(stretch),
     }
-}
-
-// The same between any two indices of a list, in either order: nothing lies between where the second stands before the first.
-pub fn farthest_of(ruler: Ruler, points: &[f64], start: usize, end: usize) -> Farthest
-    requires { (3 * start + 2 < length points.now) × (3 * end + 2 < length points.now) }
-    ensures { result ≡ farthest_in (measure_of ruler) (point_at points.now) start end }
-{
-    if end < start {
-        return Farthest::new(start);
-    }
-    let stretch = Stretch { points, start, end };
-    farthest_between(ruler, stretch)
 }

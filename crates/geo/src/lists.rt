@@ -1,5 +1,5 @@
 // Lists as they are lent, each in one value: commands, and a stretch of a list of points.
-ghost use Rattle.std.specs.Prelude.{◌≡◌, ◌+◌, ◌*◌, ◌<◌, ◌≤◌, length};
+ghost use Rattle.std.specs.Prelude.{◌≡◌, ◌+◌, ◌*◌, ◌<◌, length};
 ghost use Rattle.geo.specs.Lent.{command_at, point_at};
 ghost use Rattle.geo.specs.Domain.{commands_in, commands_formed};
 
@@ -7,20 +7,20 @@ use crate::domain::{all_coordinates, command_in, is_formed};
 use crate::lent::make_command;
 use crate::types::{Command, Point3D};
 
-// The points of a list of triples from one index to another, both among them.
+// Two points of a list of triples, and what lies between them: nothing does where the second stands before the first.
 #[derive(Clone, Copy)]
 pub struct Stretch<'a> {
     pub points: &'a [f64],
     pub start: usize,
     pub end: usize,
-    ghost ordered: { start ≤ end },
-    ghost inside: { 3 * end + 2 < length points.now },
+    ghost start_inside: { 3 * start + 2 < length points.now },
+    ghost end_inside: { 3 * end + 2 < length points.now },
 }
 
 impl<'a> Stretch<'a> {
-    // The point at an index of the list, between the two.
+    // The point at any index of the list.
     pub fn at(self, i: usize) -> Point3D
-        requires { i ≤ self.end }
+        requires { 3 * i + 2 < length self.points.now }
         ensures { result ≡ point_at self.entry.points.now i }
     {
         crate::lent::point_at(self.points, i)

@@ -37,6 +37,7 @@ impl Spoke {
     // The root of this is above SHORT: a step whose square is at least this is not short.
     const SHORT_SQUARE: f64 = 1e-17;
 
+    // Of the centre m and the point p: the spoke is itself the value of both.
     #[tactic(auto, unfolding(crate::specs::Deviation::spoke_of))]
     fn new(m: Point, p: Point3D) -> Self
         ensures { result ≡ spoke_of m p }
@@ -97,8 +98,8 @@ impl Step {
         max(self.sagitta(), e)
     }
 
-    // Its deviation, where it goes from p to q. The radius is the root of `square`: a step that is not short, and no longer than
-    // the radius, needs no root.
+    // Its deviation, where it goes from p to q; they serve this and `strays` alone, so they are no fields. The radius is the root of
+    // `square`: a step that is not short, and no longer than the radius, needs no root.
     fn deviation_between(self, p: Point3D, q: Point3D, square: f64) -> f64
         requires { self.r ≡ root_of square }
         ensures { result ≡ step_of self.r (length_of (q.x ⊖ p.x) (q.y ⊖ p.y)) self.s self.t }
@@ -159,6 +160,7 @@ fn offset(m: Point, p: Point3D) -> Point
     }
 }
 
+// The vectors of a product, and below a cross beside a dot, are operands: a struct of two would be made for one call.
 #[tactic(auto, unfolding(crate::specs::Traversal::cross2))]
 fn cross(p: Point, q: Point) -> f64
     ensures { result ≡ cross2 p q }
@@ -243,7 +245,7 @@ fn at_centre(q: Point) -> bool
 
 // Whether the points go round m by less than a whole turn.
 fn traversal_passes(stretch: Stretch, m: Point) -> bool
-    requires { stretch.end < most_points }
+    requires { (stretch.start ≤ stretch.end) × (stretch.end < most_points) }
     ensures { result ≡ traverses m (point_at stretch.entry.points.now) stretch.entry.start stretch.entry.end }
 {
     let q0 = offset(m, stretch.first());
@@ -267,7 +269,7 @@ fn traversal_passes(stretch: Stretch, m: Point) -> bool
     passes(w, q0, q)
 }
 
-// Whether they go clockwise.
+// Whether they go clockwise. A `for`: the sum is rounded after each step, from the first on, and a step needs the point before it.
 fn goes_clockwise(stretch: Stretch, m: Point) -> bool
     ensures { result ≡ clockwise (λ i. flatten (point_at stretch.entry.points.now i)) stretch.entry.start stretch.entry.end m }
 {
@@ -281,6 +283,7 @@ fn goes_clockwise(stretch: Stretch, m: Point) -> bool
     sum < 0.0
 }
 
+// Three points one after the other, which no other function takes.
 #[tactic(auto, unfolding(crate::specs::Trial::sharp_turn))]
 fn sharp_turn(a: Point3D, b: Point3D, c: Point3D) -> bool
     ensures { result ≡ sharp_turn a b c }
@@ -337,6 +340,7 @@ impl Trial {
 struct Trials<'a> {
     stretch: Stretch<'a>,
     tolerance: f64,
+    ghost ordered: { stretch.start ≤ stretch.end },
     ghost few: { stretch.end < most_points },
 }
 
@@ -441,7 +445,7 @@ impl<'a> Trials<'a> {
     }
 }
 
-// Whether the ends of a range all but meet.
+// Whether the ends of a range all but meet: it needs no more of a range.
 fn is_closed_range(a: Point3D, b: Point3D) -> bool
     ensures { result ≡ closed_range a b }
 {
@@ -457,7 +461,7 @@ fn is_closed_range(a: Point3D, b: Point3D) -> bool
 // The arc of the first trial that passes. A sharp turn at the split point or a closed range blocks both trials.
 #[tactic(auto, unfolding(crate::specs::Trial::try_arcs))]
 pub fn try_arcs(stretch: Stretch, split: usize, tolerance: f64) -> Option<Trial>
-    requires { stretch.end < most_points }
+    requires { (stretch.start ≤ stretch.end) × (stretch.end < most_points) }
     ensures { result ≡ try_arcs (point_at stretch.entry.points.now) stretch.entry.start stretch.entry.end split tolerance }
 {
     if is_sharp(stretch, split) {

