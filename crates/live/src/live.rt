@@ -48,7 +48,9 @@ impl Live {
     // "Its most is 63 ends."
     pub const MOST: usize = 63;
 
-    fn new(tolerance: f64) -> Self
+    // A thinner of any tolerance, to which no point was fed. `start` refuses a tolerance that is out of the domain, and each call
+    // refuses a thinner that has such a one.
+    pub fn new(tolerance: f64) -> Self
         ensures { result ≡ started tolerance }
     {
         Self {
@@ -106,7 +108,8 @@ impl Live {
         is_below(farthest_between(Ruler::Line, held).square, self.tolerance)
     }
 
-    // Hands out the last point, which becomes the anchor, and holds p alone after it.
+    // Hands out the last point, which becomes the anchor, and holds p alone after it. That no more than the slots are in use is asked
+    // here, of `push` and of `replay`: C lends any count, and the calls refuse it, so no field of the type can say it.
     #[tactic(auto, unfolding(crate::specs::Thinner::cutting, crate::specs::Thinner::put))]
     fn cut(&mut self, p: Point3D) -> Point3D
         requires { (1 ≤ self.old.count) × (self.old.count ≤ 65) }
@@ -189,7 +192,8 @@ impl Live {
         }
     }
 
-    // Feeds the held points again from the anchor, and writes the ends.
+    // Feeds the held points again from the anchor, and writes the ends. The tolerance and the output, or its room, are C's arguments, here
+    // and below.
     fn replay(&mut self, tolerance: f64, out: &mut [f64]) -> usize
         requires { (self.old.count ≤ 65) × (189 ≤ length out.old) }
         ensures { Replays self.old self.new tolerance out.old out.new result }
