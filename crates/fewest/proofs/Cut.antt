@@ -23,6 +23,13 @@ use Rattle.ways.proofs.Steps.{split}
 use Rattle.ways.proofs.Laws.{way-most}
 use Rattle.fewest.specs.Straights.{passing, straight_rule, cut_ends}
 
+-- k lies strictly between lo and hi, and so do the ends of both parts beside it
+pub record PartedAt (s : List Float) (t : Float) (lo k hi : ℕ) : Type 0 where
+  pub after : lo < k
+  pub before : k < hi
+  pub left : lo + length (cut_ends s t lo k) ≤ k
+  pub right : k + length (cut_ends s t k hi) ≤ hi
+
 module _ (s : List Float) (t : Float) where
   line_only : (lo hi : ℕ) (x : Command) → WrittenAs (straight_rule t) (point_at s) lo hi x → passing s t lo hi ≡ true
   unfolding passing
@@ -54,6 +61,12 @@ module _ (s : List Float) (t : Float) where
 
     pub cut_most : (lo hi : ℕ) → lo < hi → lo + length (cut_ends s t lo hi) ≤ hi
     cut_most lo hi h = way-most (passing s t) lo hi (cut_ends s t lo hi) (cut-way lo hi h)
+
+    -- a range that does not pass is cut strictly inside, and neither part has more ends than steps
+    pub parted : (lo hi : ℕ) (w : Deviation) → w ≡ line_deviation line_sq (point_at s) lo hi → (w.dist ≺ t) ≡ false → PartedAt s t lo w.index hi
+    parted lo hi w e h =
+        let i = passing-inside lo hi w e h in
+        record { after = i.0; before = i.1; left = cut_most lo w.index i.0; right = cut_most w.index hi i.1 }
 
     -- ---- w is the Line's deviation of the range
     module _ (lo hi : ℕ) (h : lo < hi) (w : Deviation) (e : w ≡ line_deviation line_sq (point_at s) lo hi) where

@@ -30,6 +30,7 @@ pub struct Task<'a> {
     pub budget: u64,
     ghost few: { last < most_points },
     ghost inside: { 3 * last + 2 < length points.now },
+    ghost positive: { (+0 ≺ tolerance) ≡ true },
 }
 
 impl<'a> Task<'a> {
@@ -59,10 +60,33 @@ impl<'a> Task<'a> {
         }
         line_deviation(Ruler::Line, between).dist < self.tolerance
     }
+
+    // Writes the ends of the recursive line-only cut of a range, from place `at` on, and answers how many they are. The range is
+    // no Stretch here: handed on by each cut it made each frame on the stack 32 bytes larger.
+    fn cut(&self, lo: usize, hi: usize, out: &mut [f64], at: usize) -> usize
+        requires { (lo < hi) × (hi ≤ self.now.last) × (3 * (at + (hi - lo)) ≤ length out.old) }
+        ensures { Placed (numbers_at self.now.points.now) 3 (cut_ends self.now.points.now self.now.tolerance lo hi) at result out.old out.new }
+    {
+        let range = Stretch {
+            points: self.points,
+            start: lo,
+            end: hi,
+        };
+        let w = line_deviation(Ruler::Line, range);
+        if w.dist < self.tolerance {
+            put_point(out, 3 * at, range.last());
+            return 1;
+        }
+        let k = w.index;
+        let n = self.cut(lo, k, out, at);
+        let m = self.cut(k, hi, out, at + n);
+        n + m
+    }
 }
 
-// Whether a point from `from` on, and before `to`, is seen at or above the tolerance from the Line of a stretch, which then does
-// not pass. A point whose spread says that it is nearer costs no division and no root; that test alone decides nothing.
+// Whether a point from `from` on, and before `to`, is seen at or above the tolerance from the Line of a stretch, which then does not
+// pass. A part of a stretch is two indices, and no second stretch. A point whose spread says that it is nearer costs no division and
+// no root; that test alone decides nothing.
 fn strays(between: Stretch, chord: Chord, tolerance: f64, from: usize, to: usize) -> bool
     requires { (chord ≡ chord_of (point_at between.points.now between.start) (point_at between.points.now between.end)) × ((between.start < from) × (to ≤ between.end)) }
     ensures { result ≡ true → passing between.entry.points.now tolerance between.entry.start between.entry.end ≡ false }
@@ -217,47 +241,27 @@ pub struct Counts {
     pub bound: usize,
 }
 
-// Writes the ends of the recursive line-only cut of a range, from place `at` on, and answers how many they are. The range is no
-// Stretch here: handed on by each cut it made each frame on the stack 32 bytes larger.
-fn cut(points: &[f64], tolerance: f64, lo: usize, hi: usize, out: &mut [f64], at: usize) -> usize
-    requires { ((+0 ≺ tolerance) ≡ true) × ((lo < hi) × (3 * hi + 2 < length points.now) × (3 * (at + (hi - lo)) ≤ length out.old)) }
-    ensures { Placed (numbers_at points.now) 3 (cut_ends points.now tolerance lo hi) at result out.old out.new }
-{
-    let range = Stretch {
-        points,
-        start: lo,
-        end: hi,
-    };
-    let w = line_deviation(Ruler::Line, range);
-    if w.dist < tolerance {
-        put_point(out, 3 * at, point_at(points, hi));
-        return 1;
-    }
-    let k = w.index;
-    let n = cut(points, tolerance, lo, k, out, at);
-    let m = cut(points, tolerance, k, hi, out, at + n);
-    n + m
-}
-
-// The fewest straights that the budget finds. The cut is the best so far: it is asked for only where no way was found.
+// The fewest straights that the budget finds. The arguments are C's, here and below, and make a `Task` once they are checked. The cut
+// is the best so far: it is asked for only where no way was found.
 fn find(points: &[f64], tolerance: f64, budget: u64, out: &mut [f64]) -> Counts
     requires { (2 ≤ length points.now / 3) × (length points.now / 3 ≤ most_points) × (3 * (length points.now / 3 - 1) ≤ length out.old) × ((+0 ≺ tolerance) ≡ true) }
     ensures { Gave points.now (fewest_of points.now tolerance budget) out.old out.new result }
 {
     let last = points.len() / 3 - 1;
-    let mut s = Search::new(Task {
+    let task = Task {
         points,
         tolerance,
         last,
         budget,
-    });
+    };
+    let mut s = Search::new(task);
     s.run();
     let bound = s.finished + 1;
     let count = if s.phase == Phase::Arrived {
         s.trace(bound, out);
         bound
     } else {
-        cut(points, tolerance, 0, last, out, 0)
+        task.cut(0, last, out, 0)
     };
     Counts {
         count,
