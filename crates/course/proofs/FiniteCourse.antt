@@ -40,7 +40,8 @@ use Rattle.course.proofs.Accepted.{arcs_accepted}
 use Rattle.course.proofs.Paths.{path_most, course_length}
 use Rattle.course.proofs.FiniteCenters.{Placed, zero_below}
 use Rattle.course.proofs.FiniteFit.{triple-finite, placed-finite, nine-finite, zeros_finite, finite_append, EachBelow, each_append, lent-finite, kept-below, chain-finite}
-use Rattle.course.proofs.FinitePoints.{and3, coordinate-below, point_in, placed-more, triple-each, first_third_lem, last_third_lem, steps-each}
+use Rattle.geo.proofs.Coordinates.{coordinate-below}
+use Rattle.course.proofs.FinitePoints.{and3, point_in, placed-more, triple-each, first_third_lem, last_third_lem, steps-each}
 
 -- ---- a command of the domain
 finite_3 : (p : Point3D) → finite3 p ≡ true → AllFinite (triple p)

@@ -11,12 +11,12 @@ use lib.Ieee.Exact.{HasValue}
 use lib.Ieee.Back.{round_whole}
 use Rattle.floats.specs.Ops.{◌⊕◌, ◌⊖◌, ◌⊗◌, ◌⊘◌, one, two, three}
 use Rattle.floats.proofs.Order.{and_left, and_right}
-use Rattle.floats.proofs.Bounds.{Within, Below, AtLeast, round_within, add_within, within_more, add_below, sub_below, mul_below, div_below, below_more, within_of_abs}
+use Rattle.floats.proofs.Bounds.{Within, Below, AtLeast, round_within, add_within, within_more, add_below, sub_below, mul_below, div_below, below_more}
 use Rattle.geo.specs.declared.types.Point3D.{Point3D}
-use Rattle.floats.specs.Limits.{million}
 use Rattle.geo.specs.Domain.{coordinate, point3_in}
 use Rattle.geo.specs.Lent.{triple, flat}
 use Rattle.geo.specs.Walk.{list_from}
+use Rattle.geo.proofs.Coordinates.{coordinate-below}
 use Rattle.bezier.specs.declared.evaluation.Weights.{Weights}
 use Rattle.bezier.specs.Curve.{weights_at, mixed, point_on3}
 use Rattle.bezier.specs.Linearize.{share, step_end, step_at, steps, first_third, last_third}
@@ -26,10 +26,6 @@ use Rattle.course.proofs.FiniteFit.{EachBelow, each_append}
 -- ---- ends and controls in the domain
 pub and3 : (a b c : Bool) → (a && b && c) ≡ true → (a ≡ true) × (b ≡ true) × (c ≡ true)
 and3 a b c h = let ab = and_left (a && b) c h in (and_left a b ab, and_right a b ab, and_right (a && b) c h)
-
-pub coordinate-below : {x : Float} → coordinate x ≡ true → Below 20 x
-unfolding coordinate of_bits
-coordinate-below {x} h = record { within = within_of_abs (2 ^ 20) x million h (omega arith) }
 
 pub point_in : (p : Point3D) → point3_in p ≡ true → Placed 20 p
 unfolding point3_in

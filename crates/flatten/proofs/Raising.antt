@@ -5,7 +5,7 @@ use mathlib.Core.List.{List, [], ◌∷◌, ◌++◌, map}
 use native.Mathlib.Omega.{arith}
 use borrow.Author.Tests.{eq-eqb, ne_eqb}
 use lib.ListN.{length, set, length-set}
-use lib.Seq.{sets, set-set, set_comm}
+use lib.Seq.{sets, set-set}
 use lib.Ieee.{Float}
 use Rattle.floats.specs.Ops.{◌⊕◌, +0}
 use Rattle.geo.specs.declared.types.Point.{Point}
@@ -13,7 +13,7 @@ use Rattle.geo.specs.declared.types.Point3D.{Point3D}
 use Rattle.geo.specs.declared.types.Command.{Command}
 use Rattle.geo.specs.declared.types.Command.TheVariants.{Line}
 use Rattle.geo.specs.Lent.{triple, flat, kind_of, numbers_of}
-use Rattle.geo.proofs.Stores.{sets_append}
+use Rattle.geo.proofs.Stores.{sets_append, set_before}
 use Rattle.geo.proofs.Wrote.{nine}
 use Rattle.pieces.specs.Written.{FitPlaced}
 use Rattle.flatten.specs.Parts.{ArcPart}
@@ -24,12 +24,6 @@ use Rattle.flatten.proofs.Passes.{low_length}
 
 -- ---- stores
 module _ {A : Type 0} where
-  -- a store before a run may come first
-  pub set_before : (vs l : List A) (i j : ℕ) (x : A) → j < i → set (sets l i vs) j x ≡ sets (set l j x) i vs
-  set_before [] l i j x h = refl
-  set_before (v ∷ vs) l i j x h =
-      set_before vs (set l i v) (suc i) j x (omega arith) ∙ ap (λ (k : List A). sets k (suc i) vs) (set_comm l i j v x (λ e. omega (arith, e)))
-
   -- a store over a run's first
   pub set_first : (v x : A) (vs l : List A) (i : ℕ) → set (sets l i (v ∷ vs)) i x ≡ sets l i (x ∷ vs)
   set_first v x vs l i = set_before vs (set l i v) (suc i) i x (omega arith) ∙ ap (λ (k : List A). sets k (suc i) vs) (set-set l i v x)

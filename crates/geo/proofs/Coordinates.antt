@@ -1,5 +1,5 @@
--- Where each lent number may be a coordinate, each lent command is in the domain, whatever its kind. Assumes nothing.
-use Prim.Native.Nat.{ℕ, zero, suc, ◌+◌, ◌*◌, ◌≤◌, ◌<◌}
+-- A coordinate's bound; and where each lent number may be a coordinate, each lent command is in the domain, whatever its kind. Assumes nothing.
+use Prim.Native.Nat.{ℕ, zero, suc, ◌+◌, ◌*◌, ◌^◌, ◌≤◌, ◌<◌}
 use mathlib.Core.Path.{◌≡◌, refl, sym}
 use mathlib.Core.Bool.{true}
 use mathlib.Core.List.{List}
@@ -7,7 +7,9 @@ use native.Mathlib.Omega.{arith}
 use lib.ListN.{length, get_or}
 use lib.Ieee.{Float, nan, inf, fin, le, lt, eq, of_bits}
 use Rattle.floats.specs.Float.{abs_of}
+use Rattle.floats.specs.Limits.{million}
 use Rattle.floats.proofs.Order.{clash}
+use Rattle.floats.proofs.Bounds.{Below, within_of_abs}
 use Rattle.geo.specs.declared.types.Point3D.{Point3D}
 use Rattle.geo.specs.Lent.{point_at, command_of, command_at}
 use Rattle.geo.specs.Domain.{coordinate, is_finite, numbers_in, point3_in, finite3, command_in, commands_in}
@@ -18,6 +20,11 @@ unfolding coordinate is_finite abs_of le lt eq of_bits
 finite nan h = clash h
 finite (inf s) h = clash h
 finite (fin s m e) h = refl
+
+-- a coordinate is at most 2 ^ 20 from zero
+pub coordinate-below : {x : Float} → coordinate x ≡ true → Below 20 x
+unfolding coordinate of_bits
+coordinate-below {x} h = record { within = within_of_abs (2 ^ 20) x million h (omega arith) }
 
 -- three coordinates
 abbrev Three : Point3D → Type 0

@@ -1,5 +1,4 @@
 -- What crates above cite too: walks over indices, runs of stores, and the first failing row.
-pub mod And
 pub mod Coordinates
 pub mod Every
 pub mod Stores

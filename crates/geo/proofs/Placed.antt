@@ -2,13 +2,11 @@
 use Prim.Native.Nat.{ℕ, ◌+◌, ◌*◌}
 use mathlib.Core.Path.{◌≡◌, sym, ap, ◌∙◌}
 use mathlib.Core.List.{List, [], ◌∷◌, ◌++◌}
-use native.Mathlib.Nat.{mul-one}
 use native.Mathlib.Omega.{arith}
 use lib.ListN.{length, length-append}
 use lib.Seq.{sets}
 use Rattle.geo.specs.Lent.{flat}
 use Rattle.geo.specs.Outcome.{Placed}
-use Rattle.geo.proofs.Stores.{sets_append}
 use Rattle.geo.proofs.Flat.{flat-one, sets_flat}
 
 module _ {A B : Type 0} (item : A → List B) (width : ℕ) where
@@ -26,12 +24,3 @@ module _ {A B : Type 0} (item : A → List B) (width : ℕ) where
         count = omega arith;
         stored = q.stored ∙ rw (p.stored, a) (sym (ap (λ (l : List A). sets out (width * at) (flat item l)) z ∙ sets_flat item width same xs ys out at));
       }
-
-  -- one item at the front, and a run behind it
-  pub placed-front : ((x : A) → length (item x) ≡ width) → (x : A) (xs : List A) (n : ℕ) (out out' out'' : List B)
-      → out' ≡ sets out 0 (item x) → Placed item width xs 1 n out' out'' → (n + 1 ≡ length (x ∷ xs)) × (out'' ≡ sets out 0 (flat item (x ∷ xs)))
-  unfolding flat
-  placed-front same x xs n out out' out'' e p =
-      let a = p.count in
-      let k : 0 + length (item x) ≡ width * 1 = let b = same x in let c = mul-one width in omega arith in
-      (omega arith, p.stored ∙ rw e (sym (sets_append (item x) (flat item xs) out 0 ∙ rw k)))

@@ -1,11 +1,11 @@
 -- Runs of stores: one behind the other is one run. Assumes nothing.
-use Prim.Native.Nat.{ℕ, suc, ◌+◌, ◌≤◌}
+use Prim.Native.Nat.{ℕ, suc, ◌+◌, ◌≤◌, ◌<◌}
 use mathlib.Core.Path.{◌≡◌, refl, sym, ap, ◌∙◌}
 use mathlib.Core.List.{List, [], ◌∷◌, ◌++◌}
 use native.Mathlib.Nat.{add-zero, zero-add}
 use native.Mathlib.Omega.{arith}
 use lib.ListN.{length, set, take, drop, length-append}
-use lib.Seq.{sets, sets-eq}
+use lib.Seq.{sets, sets-eq, set_comm}
 
 module _ {A : Type 0} where
   pub two : (l : List A) (b : ℕ) (x y : A) → set (set l b x) (b + 1) y ≡ sets l b (x ∷ y ∷ [])
@@ -15,6 +15,12 @@ module _ {A : Type 0} where
   three l b x y z =
       let e : b + 1 ≡ suc b = omega arith in
       let f : b + 2 ≡ suc (suc b) = omega arith in rw (e, f)
+
+  -- a store before a run may come first
+  pub set_before : (vs l : List A) (i j : ℕ) (x : A) → j < i → set (sets l i vs) j x ≡ sets (set l j x) i vs
+  set_before [] l i j x h = refl
+  set_before (v ∷ vs) l i j x h =
+      set_before vs (set l i v) (suc i) j x (omega arith) ∙ ap (λ (k : List A). sets k (suc i) vs) (set_comm l i j v x (λ e. omega (arith, e)))
 
   -- a run, and another behind it
   pub sets_append : (xs ys l : List A) (i : ℕ) → sets l i (xs ++ ys) ≡ sets (sets l i xs) (i + length xs) ys

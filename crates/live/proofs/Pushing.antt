@@ -8,13 +8,14 @@ use native.Mathlib.Omega.{arith}
 use borrow.Author.Tests.{ltb-false, lt-ltb, le-ltb}
 use lib.Dec.{ltb}
 use lib.ListN.{length, set}
-use lib.Seq.{sets, set-set, set_comm, set-get_or}
+use lib.Seq.{sets, set-set, set-get_or}
 use lib.Ieee.{Float, nan}
 use Rattle.std.specs.Prelude.{Some, None}
 use Rattle.floats.specs.Ops.{◌≺◌}
 use Rattle.floats.proofs.Order.{lt_or_ge, or_false}
 use Rattle.geo.specs.declared.types.Point3D.{Point3D}
 use Rattle.geo.specs.Lent.{point_at, triple}
+use Rattle.geo.proofs.Stores.{set_before}
 use Rattle.deviations.specs.Line.{line_deviation}
 use Rattle.farthest.specs.Measure.{line_sq}
 use Rattle.live.specs.declared.live.Live.{Live}
@@ -24,12 +25,6 @@ use Rattle.live.specs.Replay.{Pushed}
 
 -- ---- what a slot had, put back
 module _ {A : Type 0} where
-  -- a store before a run may come first
-  set_before : (vs l : List A) (i j : ℕ) (x : A) → j < i → set (sets l i vs) j x ≡ sets (set l j x) i vs
-  set_before [] l i j x h = refl
-  set_before (v ∷ vs) l i j x h =
-      set_before vs (set l i v) (suc i) j x (omega arith) ∙ ap (λ (k : List A). sets k (suc i) vs) (set_comm l i j v x (λ e. omega (arith, e)))
-
   -- a run over another as long
   sets_over : (vs ws l : List A) (i : ℕ) → length ws ≡ length vs → sets (sets l i vs) i ws ≡ sets l i ws
   sets_over [] [] l i h = refl

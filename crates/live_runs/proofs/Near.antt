@@ -11,12 +11,12 @@ use Rattle.floats.specs.Ops.{◌⊖◌, ◌⊗◌, ◌⊘◌, ◌≺◌}
 use Rattle.floats.specs.Float.{abs_of}
 use Rattle.floats.specs.Root.{root_of, plain}
 use Rattle.floats.proofs.Order.{either, clash, and_left, and_right}
-use Rattle.floats.proofs.Bounds.{Within, Below, AtLeast, within_of_abs, at_least_of_abs, add_below, sub_below, mul_below, div_below}
+use Rattle.floats.proofs.Bounds.{Within, Below, AtLeast, at_least_of_abs, add_below, sub_below, mul_below, div_below}
 use Rattle.floats.proofs.Unsigned.{Unsigned, square-unsigned, sum_unsigned}
 use Rattle.geo.specs.declared.types.Point3D.{Point3D}
-use Rattle.floats.specs.Limits.{million}
 use Rattle.geo.specs.Domain.{coordinate, point3_in}
 use Rattle.geo.specs.Vector.{length_sq, perp_dot}
+use Rattle.geo.proofs.Coordinates.{coordinate-below}
 use Rattle.segment.specs.Segment.{degenerate}
 use Rattle.deviations.specs.Line.{line_deviation}
 use Rattle.deviations.proofs.Between.{point-below}
@@ -38,10 +38,6 @@ unfolding point3_in
 coordinates p h =
     let xy = and_left (coordinate p.x && coordinate p.y) (coordinate p.z) h in
     (and_left (coordinate p.x) (coordinate p.y) xy, and_right (coordinate p.x) (coordinate p.y) xy, and_right (coordinate p.x && coordinate p.y) (coordinate p.z) h)
-
-coordinate-below : {x : Float} → coordinate x ≡ true → Below 20 x
-unfolding coordinate of_bits
-coordinate-below {x} h = record { within = within_of_abs (2 ^ 20) x million h (omega arith) }
 
 -- of an offset (x, y) from a chord's started, each at most 2 ^ 21 as the chord's own direction
 length_below : (u v : Float) → Below 21 u → Below 21 v → Below 43 (length_sq u v)

@@ -3,7 +3,7 @@ use Rattle.std.proofs.Common.{◌≡◌, ℕ, zero, suc, ◌+◌, ◌-◌, ◌*�
 use lib.Dec.{not_T}
 use lib.Ieee.{Float, nan, inf, fin, binary64, up, down, size, odd, of_fields, of_bits, to_bits, fits}
 use lib.Ieee.Digits.{size-le}
-use lib.Ieee.Bits.{is_false, cond_no, of_bits-to_bits}
+use lib.Ieee.Bits.{is_false, cond_no}
 use lib.Ieee.Exact.{HasValue, odd_sign}
 use lib.Ieee.Fits.{and_r, down_pos, kept-lt}
 use Rattle.floats.specs.Root.{in_units, plain, root_of, root_from}
@@ -82,10 +82,3 @@ root_of-is nan r = absurd r
 root_of-is (inf s) r = absurd r
 root_of-is (fin true m e) r = absurd r
 root_of-is (fin false m e) r = refl
-
--- zero
-pub zero_root : (x : Float) → T (fits binary64 x) → to_bits binary64 x ≡ 0 → x ≡ root_of x
-unfolding root_of of_bits
-zero_root x f z =
-    let e : of_bits binary64 0 ≡ x = ap (λ (b : ℕ). of_bits binary64 b) (sym z) ∙ of_bits-to_bits binary64 x f in
-    subst (λ (y : Float). y ≡ root_of y) e refl

@@ -1,6 +1,6 @@
 -- `floats::root::is_root_below` meets its contract: what is above the square of t has a root that is not below t, the root of a zero is below t, and else the root is compared.
 -- Assumes nothing.
-use Rattle.std.proofs.Common.{T, sym, subst, rules}
+use Rattle.std.proofs.Common.{T, sym, subst}
 use lib.Ieee.{binary64, fits}
 use Rattle.floats.proofs.root.Reaches.{root_reaches, zero_below}
 use Rattle.floats.proofs.root.is_root_below.Goals as goal
@@ -18,9 +18,6 @@ returns-then-x-t c = let s = c in sym (root_reaches s.args.t s.args.x (held_t (g
 
 pub returns-then-x : goal.returns-then-x
 returns-then-x c = let s = c in sym (zero_below s.args.t s.args.x c.if-t.true c.if-x.true)
-
-pub sqrt-requires : goal.sqrt-requires
-sqrt-requires c = search rules
 
 pub returns : goal.returns
 returns c = rw c.sqrt.ensures.value
