@@ -10,7 +10,7 @@ use geo::lent::pair_at;
 use geo::refusal::Refusal;
 use geo::types::Point;
 
-// The cross product of the directions from the centre to two points.
+// The cross product of the directions from the centre to two points, which are its operands.
 #[tactic(auto, unfolding(crate::specs::Direction::turn_at))]
 pub fn turn(center: Point, p: Point, q: Point) -> f64
     ensures { result ≡ turn_at center p q }
@@ -22,7 +22,9 @@ pub fn turn(center: Point, p: Point, q: Point) -> f64
     v0x * v1y - v0y * v1x
 }
 
-// The cross products of each two neighbours, added up.
+// The cross products of each two neighbours, added up: a `for`, since the sum is rounded after each of them, from the first on. Points
+// and centre are two, here and below, as C hands them over.
+#[tactic(auto, unfolding(crate::specs::Direction::cross_sum))]
 fn sum_turns(points: &[f64], center: Point) -> f64
     requires { 1 ≤ length points.now / 2 }
     ensures { result ≡ cross_sum (pair_at points.now) 0 (length points.now / 2 - 1) center }

@@ -54,7 +54,8 @@ pub fn curve_in<P: Position>(q: CubicBezier<P>) -> bool
     q.0.is_in() && q.1.is_in() && q.2.is_in() && q.3.is_in()
 }
 
-// Evaluates a cubic Bezier curve at parameter t, 0 to 1, using the Bernstein polynomial.
+// Evaluates a cubic Bezier curve at parameter t, 0 to 1, using the Bernstein polynomial. `split_bezier` has the same shape, and
+// subdivision's test: they answer three different types, and one function over what is answered would be no shorter.
 #[tactic(auto, unfolding(crate::specs::Calls::point_call))]
 pub fn get_bezier_point_at(
     p0: Point,
@@ -134,7 +135,7 @@ impl Walk {
     }
 }
 
-// Writes one step from `at` on.
+// Writes one step from `at` on. The output and the place are two, here and in `put_ends`: a struct would be made for one write.
 #[tactic(auto, using(geo::proofs::Stores::sets_append))]
 fn put_step(out: &mut [f64], at: usize, from: Point3D, to: Point3D)
     requires { at + 5 < length out.old }
@@ -185,8 +186,8 @@ pub fn linearize_bezier(
     Ok(num_steps)
 }
 
-// The curve of a command's parameters: a control lies at the height of the third between the ends that is next to it. It
-// serves `chain` too.
+// The curve of a command's parameters, which are in the source's order, as C hands them over: a control lies at the height of the
+// third between the ends that is next to it. It serves `chain` too.
 #[tactic(auto, unfolding(crate::specs::Linearize::first_third, crate::specs::Linearize::last_third))]
 pub fn raise_controls(
     end: Point3D,

@@ -19,7 +19,8 @@ use geo::point::get_length;
 use geo::refusal::Refusal;
 use geo::types::{Command, Point, Point3D};
 
-// A vector and its length, which is rooted once.
+// A vector and its length, which is rooted once. That the length is the vector's is asked of two functions below, and is no fact of the
+// type: each definition that makes a ray would have to prove it.
 #[derive(Clone, Copy)]
 struct Ray {
     to: Point,
@@ -71,7 +72,8 @@ fn center(a: Point3D, o: Point3D) -> Point
     }
 }
 
-// A point less the centre.
+// A point less the centre: both are operands, as the vectors, directions and products below are, and a struct of two would be made for
+// one call.
 #[tactic(auto, unfolding(trial::specs::Traversal::offset_of))]
 fn vector(m: Point, p: Point3D) -> Ray
     ensures { result ≡ ray_of (offset_of m p) }
@@ -248,7 +250,8 @@ fn draw_quarters(
     n + j
 }
 
-// The height after part i of n.
+// The height after part i of n. The ends of the Arc are two, here and below: C hands over the one with the command, the other as its
+// start.
 #[tactic(auto, unfolding(crate::specs::Lines::height_after))]
 fn height_after(a: Point3D, b: Point3D, n: usize, i: usize) -> f64
     requires { (n ≤ 4096) × (i ≤ 4096) }
@@ -329,7 +332,7 @@ fn is_drawable(kind: u8, a: Point3D, b: Point3D, o: Point3D, d: Point3D, toleran
     kind == 2 && is_upright(d) && point3_in(o) && is_round(tolerance, center(a, o), a, b)
 }
 
-// The first row that a call falls under, if there is one.
+// The first row that a call falls under, if there is one. The arguments are C's, one by one, here and below.
 #[tactic(auto, unfolding(crate::specs::Calls::flatten_rows, geo::specs::Outcome::refusal, geo::specs::Domain::whole))]
 fn check_arc(
     kind: u8,

@@ -168,7 +168,8 @@ pub fn command_in(c: Command) -> bool
     }
 }
 
-// The first of the rows 1 to 6 that lent commands, a tolerance and an output of so many numbers fall under.
+// The first of the rows 1 to 6 that lent commands, a tolerance and an output of so many numbers fall under. The two lists are no
+// `Commands` before the first row is passed.
 #[tactic(auto, unfolding(crate::specs::Outcome::refusal, crate::specs::Domain::whole))]
 pub fn check_input(
     kinds: &[u8],

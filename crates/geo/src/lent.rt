@@ -5,7 +5,9 @@ ghost use Rattle.geo.specs.Lent.{pair_at, point_at, command_at, command_of, pair
 
 use crate::types::{Command, Point, Point3D};
 
-// The point at index i of lent pairs.
+// The point at index i of lent pairs. The list and the index are two parameters, here and below: a value of both would be made for
+// each point that is read, and a list that is handed on is a `Stretch` or `Commands` already.
+#[tactic(auto, unfolding(crate::specs::Lent::pair_at))]
 pub fn pair_at(points: &[f64], i: usize) -> Point
     requires { 2 * i + 1 < length points.now }
     ensures { result ≡ pair_at points.now i }
@@ -18,6 +20,7 @@ pub fn pair_at(points: &[f64], i: usize) -> Point
 }
 
 // The point at index i of lent triples.
+#[tactic(auto, unfolding(crate::specs::Lent::point_at))]
 pub fn point_at(points: &[f64], i: usize) -> Point3D
     requires { 3 * i + 2 < length points.now }
     ensures { result ≡ point_at points.now i }
@@ -30,7 +33,8 @@ pub fn point_at(points: &[f64], i: usize) -> Point3D
     }
 }
 
-// Writes the two numbers of p from `at` on.
+// Writes the two numbers of p from `at` on. The output, the place and what is written are parameters, here and below: the place moves
+// on with each write, so a struct would hold the borrow for one.
 pub fn put_pair(out: &mut [f64], at: usize, p: Point)
     requires { at + 1 < length out.old }
     ensures { out.new ≡ sets out.old at (pair p) }
@@ -50,7 +54,7 @@ pub fn put_point(out: &mut [f64], at: usize, p: Point3D)
 }
 
 // The command of a kind and three points. A kind is a number, since C lends it as a byte and a lap file holds it as one; where it
-// is read it becomes a command.
+// is read it becomes a command. Its three points are no struct before that: what each is the kind alone says.
 pub fn make_command(kind: u8, p: Point3D, q: Point3D, r: Point3D) -> Command
     ensures { result ≡ command_of kind p q r }
 {
@@ -70,7 +74,8 @@ pub fn make_command(kind: u8, p: Point3D, q: Point3D, r: Point3D) -> Command
     }
 }
 
-// The command at index i of lent commands.
+// The command at index i of lent commands. The two lists are no `Commands`, here and in `put_command`: they may hold more numbers than
+// nine for each kind.
 pub fn command_at(kinds: &[u8], nums: &[f64], i: usize) -> Command
     requires { (i < length kinds.now) × (9 * i + 8 < length nums.now) }
     ensures { result ≡ command_at kinds.now nums.now i }

@@ -16,12 +16,14 @@ pub fn get_length(x: f64, y: f64) -> f64
     sqrt(x * x + y * y)
 }
 
+// Two points are two parameters, here and below: each formula takes both alike, and a struct of two would be made for one call.
 pub fn get_distance(p: Point, q: Point) -> f64
     ensures { result ≡ distance p q }
 {
     get_length(p.x - q.x, p.y - q.y)
 }
 
+#[tactic(auto, unfolding(crate::specs::Vector::distance_sq))]
 pub fn get_distance_squared(p: Point, q: Point) -> f64
     ensures { result ≡ distance_sq p q }
 {
@@ -40,6 +42,7 @@ pub fn get_distance_3d(p: Point3D, q: Point3D) -> f64
 }
 
 // The point at parameter t between a and b.
+#[tactic(auto, unfolding(crate::specs::Vector::lerp))]
 pub fn interpolate(a: Point, b: Point, t: f64) -> Point
     ensures { result ≡ lerp a b t }
 {
@@ -51,6 +54,7 @@ pub fn interpolate(a: Point, b: Point, t: f64) -> Point
 }
 
 // The midpoint, of any two points.
+#[tactic(auto, unfolding(crate::specs::Vector::midpoint))]
 pub fn midpoint_3d(a: Point3D, b: Point3D) -> Point3D
     ensures { result ≡ midpoint a b }
 {

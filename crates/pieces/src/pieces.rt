@@ -15,7 +15,8 @@ use geo::lists::Stretch;
 use geo::types::{Command, Point, Point3D};
 use trial::trial::{Trial, try_arcs};
 
-// What is noted beside each command of a fit: how many steps it covers, or which step of an Arc is worst, 0 for a Line.
+// What is noted beside each command of a fit: how many steps it covers, or which step of an Arc is worst, 0 for a Line. An enum by
+// value: a rule carries it, and a closure in its place would make a type parameter of each function that takes a rule.
 #[derive(Clone, Copy)]
 pub enum Note {
     Steps,
@@ -110,7 +111,8 @@ fn normal(clockwise: bool) -> Point3D
     }
 }
 
-// The Arc from a to b round a centre. Its centre is given from a.
+// The Arc from a to b round a centre. Its centre is given from a. The command is itself the value of its parts, and so takes them one
+// by one.
 #[tactic(auto, unfolding(crate::specs::Commands::shaped))]
 pub fn arc_command(a: Point3D, b: Point3D, center: Point, clockwise: bool) -> Command
     ensures { result ≡ shaped a b (arc center clockwise) }
@@ -127,7 +129,7 @@ pub fn arc_command(a: Point3D, b: Point3D, center: Point, clockwise: bool) -> Co
 }
 
 // Writes a command at place `at`, and a note beside it, where the column of notes reaches so far: who wants no notes
-// lends an empty one. Who lends the three outputs got them from C one by one, so they are parameters.
+// lends an empty one. Who lends the three outputs got them from C one by one, so they are parameters, and the place that moves on too.
 pub fn put_noted(
     kinds: &mut [u8],
     nums: &mut [f64],

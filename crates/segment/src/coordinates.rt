@@ -27,7 +27,7 @@ pub trait Coordinates: Copy {
     fn plus(self, o: Self) -> Self
         ensures { (f g : Axis → Float) → self ≡ make f → o ≡ make g → result ≡ make (λ c. f c ⊕ g c) };
 
-    // This point + t × o.
+    // This point + t × o: both are operands, and a struct of them would be made for one call.
     fn beyond(self, t: f64, o: Self) -> Self
         ensures { (f g : Axis → Float) → self ≡ make f → o ≡ make g → result ≡ make (λ c. f c ⊕ t ⊗ g c) };
 

@@ -22,8 +22,8 @@ pub struct Segment<V> {
 }
 
 impl<V: Coordinates> Segment<V> {
-    // Its end is start + 1 × (end − start), which rounding can part from b. The level of the start is 0, or a NaN where the
-    // chord's square is not finite: no test by a NaN holds.
+    // A segment is itself the value of its two ends, and so takes them as two. Its end is start + 1 × (end − start), which rounding
+    // can part from b. The level of the start is 0, or a NaN where the chord's square is not finite: no test by a NaN holds.
     pub fn new(a: Point3D, b: Point3D) -> Self
         ensures { Laid V.axes V.make a b result }
     {

@@ -19,7 +19,7 @@ pub trait Form: Copy {
 
     ghost form: { Form Self };
 
-    // The point at an index.
+    // The point at an index. List and index are two, here and below, as for geo's readers and writers.
     fn read(points: &[f64], i: usize) -> Self
         requires { i < length points.now / WIDTH }
         ensures { result ≡ form.read points.now i };
@@ -29,7 +29,7 @@ pub trait Form: Copy {
         requires { i < length out.old / WIDTH }
         ensures { out.new ≡ sets out.old (WIDTH * i) (form.lay self) };
 
-    // The first farthest point strictly between two, in x and y, from the endless line.
+    // The first farthest point strictly between two, in x and y, from the endless line. The two are indices: a `Stretch` is of triples.
     fn farthest(points: &[f64], lo: usize, hi: usize) -> Farthest
         requires { (lo ≤ hi) × (hi < length points.now / WIDTH) }
         ensures { result ≡ farthest_in form.measure (form.read points.now) lo hi };
@@ -37,6 +37,7 @@ pub trait Form: Copy {
     ghost wide: { Wide form WIDTH };
 }
 
+// The two forms differ in each name that they have, the reader, the writer and the list that is searched: a default could say none.
 impl Form for Point {
     ghost WIDTH = { 2 };
 

@@ -30,7 +30,8 @@ pub fn thin_in_place(ruler: Ruler, points: &mut [f64], limit: f64) -> usize
     thin(&mut track, limit)
 }
 
-// Why points of `width` numbers each are refused, or that they are not. Document 01's rows run in number order, each over all arguments.
+// Why points of `width` numbers each are refused, or that they are not. What C lends is looked at one by one, here and below: a struct
+// of it would be made for these tests alone. Document 01's rows run in number order, each over all arguments.
 fn refuse_points(points: &[f64], width: usize, tolerance: f64, room: usize) -> Result<(), Refusal>
     requires { 0 < width }
     ensures { refused_by result ≡ refusal (point_rows width points.now tolerance room) }

@@ -29,7 +29,8 @@ pub trait Track {
     fn len(&self) -> usize
         ensures { result ≡ size self.now };
 
-    // The first farthest item strictly between two.
+    // The first farthest item strictly between two. A range is two indices, here and in `mark`, and a move two: items may be commands,
+    // which no `Stretch` holds, and each cut would take a range apart.
     fn farthest(&self, lo: usize, hi: usize) -> Farthest
         requires { (lo ≤ hi) × (hi < size self.now) }
         ensures { result ≡ farthest_in (measure self.now) (item self.now) lo hi };
@@ -51,7 +52,8 @@ pub trait Track {
     ghost ahead: { (s t : Self) (xs : List Self.Item) → Placed s xs t → (i : ℕ) → length xs ≤ i → item t i ≡ item s i };
 }
 
-// Sets the flag of each item that is kept strictly between lo and hi, those apart that are always kept.
+// Sets the flag of each item that is kept strictly between lo and hi, those apart that are always kept. That the limit is not below
+// zero is asked here, of `thin` and of `thin_in_place`: a type of its own would hold one number, and each caller would make it.
 fn mark<T: Track>(track: &T, limit: f64, lo: usize, hi: usize, keep: &mut [bool])
     requires { ((limit ≺ +0) ≡ false) × ((lo ≤ hi) × (hi < T.size track.now) × (hi < length keep.old)) }
     ensures { keep.new ≡ marked (kept_in (T.measure track.now) limit (T.item track.now) lo hi) keep.old }
@@ -92,6 +94,7 @@ pub fn thin<T: Track>(track: &mut T, limit: f64) -> usize
     if n == 0 {
         return 0;
     }
+    // Document 01: "Keep flags start as [false; 2048]", an array, since there is no heap.
     let mut keep = [false; MOST_POINTS];
     keep[0] = true;
     mark(track, limit, 0, n - 1, &mut keep);

@@ -62,7 +62,7 @@ impl<'a, P: Form> Track for Points<'a, P> {
     }
 }
 
-// Copies the triple at one index to another.
+// Copies the triple at one index to another, both of one move.
 fn move_point(points: &mut [f64], from: usize, to: usize)
     requires { (from < length points.old / 3) × (to < length points.old / 3) }
     ensures { points.new ≡ sets points.old (3 * to) (triple (point_at points.old from)) }

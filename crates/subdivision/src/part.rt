@@ -24,7 +24,7 @@ pub(crate) trait Part: Copy {
 
     ghost lay: { Self → List Float };
 
-    // Whether a curve is at most so far off its chord.
+    // Whether a curve is at most so far off its chord. The limit is of the whole call, the curve of one part, so they are two.
     fn is_flat(q: CubicBezier<Self>, tolerance_sq: f64) -> bool
         ensures { result ≡ flat q tolerance_sq };
 
@@ -32,7 +32,7 @@ pub(crate) trait Part: Copy {
     fn halve(q: CubicBezier<Self>) -> Halves<Self>
         ensures { result ≡ halved q };
 
-    // Writes it at place `at`.
+    // Writes it at place `at`: the place moves on with each write, so a struct of it and the output would hold the borrow for one.
     fn put(self, out: &mut [f64], at: usize)
         requires { width * (at + 1) ≤ length out.old }
         ensures { out.new ≡ sets out.old (width * at) (lay self) };

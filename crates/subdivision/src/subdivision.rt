@@ -16,7 +16,8 @@ use geo::point::get_distance_squared;
 use geo::refusal::Refusal;
 use geo::types::{CubicBezier, MOST_DEPTH, Point, Point3D};
 
-// A curve's chord, or none: where the ends meet there is no line to be off.
+// A curve's chord, or none: where the ends meet there is no line to be off. farthest::Chord is of points in space, and degenerate
+// below another limit.
 #[derive(Clone, Copy)]
 pub struct Chord {
     pub start: Point,
@@ -57,7 +58,8 @@ impl Chord {
     }
 }
 
-// Whether both controls are at most the tolerance off the chord.
+// Whether both controls are at most the tolerance off the chord. Curve and tolerance are two, here and below: the limit is of the
+// call, and stays while the curve is halved.
 #[tactic(auto, unfolding(crate::specs::Flatten::is_flat))]
 pub(crate) fn is_flat(q: CubicBezier<Point>, tolerance_sq: f64) -> bool
     ensures { result ≡ is_flat q tolerance_sq }
@@ -66,7 +68,8 @@ pub(crate) fn is_flat(q: CubicBezier<Point>, tolerance_sq: f64) -> bool
     chord.off(q.1) <= tolerance_sq && chord.off(q.2) <= tolerance_sq
 }
 
-// Tests whether a cubic Bezier curve is flat enough to approximate with a line segment.
+// Tests whether a cubic Bezier curve is flat enough to approximate with a line segment. It has the shape of bezier's calls of four
+// points; its rows and its answer are others, and one function over these would be told both.
 #[tactic(auto, unfolding(crate::specs::Calls::flat_call))]
 pub fn is_bezier_flat(
     p0: Point,

