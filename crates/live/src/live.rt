@@ -50,6 +50,7 @@ impl Live {
 
     // A thinner of any tolerance, to which no point was fed. `start` refuses a tolerance that is out of the domain, and each call
     // refuses a thinner that has such a one.
+    #[tactic(auto, unfolding(crate::specs::Thinner::started))]
     pub fn new(tolerance: f64) -> Self
         ensures { result ≡ started tolerance }
     {
