@@ -55,6 +55,7 @@ fn check_replacement<'a>(
 
 // Writes the fitted file with lap number `lap` replaced by the fit of the new commands, and the next lap fitted again where it
 // lacks its Move, to the front of out. A refusal changes nothing.
+// The parameters are those of C's call; from the check on there are files and commands.
 pub fn replace_lap(
     recorded: &[u8],
     fitted: &[u8],

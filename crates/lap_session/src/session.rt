@@ -71,6 +71,7 @@ fn check_asking<'a>(
 
 // Fits lap number `lap` as a replacement by the new commands would, and the next lap where that would be fitted again, to the front of the
 // buffer, in the bytes of a file. A refusal changes nothing.
+// The parameters are those of C's call; from the check on there are files and commands.
 pub fn ask_lap(
     recorded: &[u8],
     fitted: &[u8],
@@ -194,6 +195,7 @@ fn check_commit<'a>(
 
 // Writes the fitted file with the part in the place of the laps that were fitted again, as it stands, to the front of out, and raises the
 // session's edit number. A refusal changes nothing.
+// The parameters are those of C's call; from the check on there are files and a part.
 pub fn commit_lap(
     ticket: Ticket,
     session: &mut Session,
