@@ -220,6 +220,7 @@ fn fit_by(rule: Rule, recorded: &[u8], out: &mut [u8]) -> Result<usize, Refusal>
 }
 
 // The fit of a file: as `fit_arcs` fits each lap.
+// Its parameters, as those of `fit_hills`, are those of C's call; from the check on there is a file.
 pub fn fit_file(recorded: &[u8], tolerance: f64, out: &mut [u8]) -> Result<usize, Refusal>
     ensures { Wrote (λ (bytes : List ℕ). bytes) (fit_file recorded.now tolerance (length out.old)) out.old out.new result }
 {
