@@ -28,9 +28,9 @@ use pieces::pieces::Rule;
 // The arrays that a fit works in: its chain, and its commands.
 #[derive(Drop)]
 pub struct FitRoom {
-    chain: [f64; Walk::CHAIN],
-    kinds: [u8; Walk::MOST],
-    nums: [f64; Walk::NUMBERS],
+    pub chain: [f64; Walk::CHAIN],
+    pub kinds: [u8; Walk::MOST],
+    pub nums: [f64; Walk::NUMBERS],
 }
 
 impl FitRoom {
@@ -46,9 +46,9 @@ impl FitRoom {
 // The same, and those for the commands of a lap: filled once, and lent for each lap.
 #[derive(Drop)]
 pub struct LapRoom {
-    kinds: [u8; Walk::MOST],
-    nums: [f64; Walk::NUMBERS],
-    fit: FitRoom,
+    pub kinds: [u8; Walk::MOST],
+    pub nums: [f64; Walk::NUMBERS],
+    pub fit: FitRoom,
 }
 
 impl LapRoom {
@@ -61,7 +61,16 @@ impl LapRoom {
     }
 }
 
+// A lap with its start, the end of the recorded lap before it.
+#[derive(Clone, Copy)]
+pub struct StartedLap<'a> {
+    pub body: Body<'a>,
+    pub start: Point3D,
+    ghost few: { body.count ≤ most_commands },
+}
+
 // Where a lap ends: with its last command, of whatever kind.
+// The body and the start are parameters and no started lap: a body of any count has an end.
 pub fn lap_end(lap: Body, start: Point3D) -> Point3D
     ensures { result ≡ lap_end start (commands_at lap.entry.bytes.now lap.entry.at lap.entry.count) }
 {
@@ -72,26 +81,25 @@ pub fn lap_end(lap: Body, start: Point3D) -> Point3D
 }
 
 // What command i of a lap adds to the most. Only a Bezier asks where the command before it ended, so of any other just the kind is read.
-fn weight_at(lap: Body, i: usize, start: Point3D, tolerance: f64) -> usize
-    requires { i < lap.count }
-    ensures { result ≡ cap (weight_of (joined tolerance (lap_end start (commands_at lap.entry.bytes.now lap.entry.at i)) (decoded (take 73 (drop (lap.entry.at + 73 * i) lap.entry.bytes.now))))) }
+fn weight_at(lap: StartedLap, i: usize, tolerance: f64) -> usize
+    requires { i < lap.body.count }
+    ensures { result ≡ cap (weight_of (joined tolerance (lap_end lap.entry.start (commands_at lap.entry.body.bytes.now lap.entry.body.at i)) (decoded (take 73 (drop (lap.entry.body.at + 73 * i) lap.entry.body.bytes.now))))) }
 {
-    let c = lap.command(i);
+    let c = lap.body.command(i);
     if c[0] < BEZIER {
         return 1;
     }
-    let last = lap_end(lap.front(i), start);
+    let last = lap_end(lap.body.front(i), lap.start);
     weight(read_command(c), last, tolerance)
 }
 
 // What the commands of a lap, from their start, could become at most.
-pub fn most_lap(lap: Body, start: Point3D, tolerance: f64) -> usize
-    requires { lap.count ≤ 800 }
-    ensures { result ≡ cap (most_lap tolerance start (commands_at lap.entry.bytes.now lap.entry.at lap.entry.count)) }
+pub fn most_lap(lap: StartedLap, tolerance: f64) -> usize
+    ensures { result ≡ cap (most_lap tolerance lap.entry.start (commands_at lap.entry.body.bytes.now lap.entry.body.at lap.entry.body.count)) }
 {
     let mut most = 0;
-    for i in 0..lap.count {
-        most = add_capped(most, weight_at(lap, i, start, tolerance));
+    for i in 0..lap.body.count {
+        most = add_capped(most, weight_at(lap, i, tolerance));
     }
     most
 }
@@ -104,9 +112,9 @@ pub fn most_of(file: LapFile, tolerance: f64) -> usize
     let mut most = 0;
     let mut start = Point3D::ZERO;
     for j in 0..l {
-        let lap = file.lap(j);
-        most = add_capped(most, most_lap(lap, start, tolerance));
-        start = lap_end(lap, start);
+        let body = file.lap(j);
+        most = add_capped(most, most_lap(StartedLap { body, start }, tolerance));
+        start = lap_end(body, start);
     }
     most
 }
@@ -157,25 +165,18 @@ pub fn fit_commands(
 }
 
 // Writes the fit of a lap with its start, from `to` on, and returns how many commands it has.
-pub fn fit_lap(
-    lap: Body,
-    start: Point3D,
-    rule: Rule,
-    room: &mut LapRoom,
-    out: &mut [u8],
-    to: usize,
-) -> usize
-    requires { ((+0 ≺ rule.tolerance) ≡ true) × (lap.count ≤ most_commands) × (most_lap rule.tolerance start (commands_at lap.bytes.now lap.at lap.count) ≤ most_commands) × (to + 73 * length (fit_lap rule start (commands_at lap.bytes.now lap.at lap.count)) ≤ length out.old) }
-    ensures { PutLap (fit_lap rule start (commands_at lap.entry.bytes.now lap.entry.at lap.entry.count)) out.old out.new to result }
+pub fn fit_lap(lap: StartedLap, rule: Rule, room: &mut LapRoom, out: &mut [u8], to: usize) -> usize
+    requires { ((+0 ≺ rule.tolerance) ≡ true) × (most_lap rule.tolerance lap.start (commands_at lap.body.bytes.now lap.body.at lap.body.count) ≤ most_commands) × (to + 73 * length (fit_lap rule lap.start (commands_at lap.body.bytes.now lap.body.at lap.body.count)) ≤ length out.old) }
+    ensures { PutLap (fit_lap rule lap.entry.start (commands_at lap.entry.body.bytes.now lap.entry.body.at lap.entry.body.count)) out.old out.new to result }
 {
-    read_commands(lap, &mut room.kinds, &mut room.nums);
-    let n = lap.count;
+    read_commands(lap.body, &mut room.kinds, &mut room.nums);
+    let n = lap.body.count;
     let m = 9 * n;
     let read = Commands {
         kinds: &room.kinds[..n],
         nums: &room.nums[..m],
     };
-    fit_lent(read, start, rule, &mut room.fit, out, to)
+    fit_lent(read, lap.start, rule, &mut room.fit, out, to)
 }
 
 // Writes the fit of a file, the mark first, and returns how many bytes it has.
@@ -189,10 +190,10 @@ fn fit_laps(file: LapFile, rule: Rule, out: &mut [u8]) -> usize
     let mut to = 8 + 8 * l;
     let mut start = Point3D::ZERO;
     for j in 0..l {
-        let lap = file.lap(j);
-        let n = fit_lap(lap, start, rule, &mut room, out, to);
+        let body = file.lap(j);
+        let n = fit_lap(StartedLap { body, start }, rule, &mut room, out, to);
         put_entry(out, j, to, n);
-        start = lap_end(lap, start);
+        start = lap_end(body, start);
         to += COMMAND_BYTES * n;
     }
     to

@@ -15,7 +15,7 @@ use course::course::{add_capped, course_end, course_most};
 use file::command::{Body, COMMAND_BYTES};
 use geo::lists::Commands;
 use geo::types::Point3D;
-use lap_fit::fit::{LapRoom, fit_commands, fit_lap, lap_end, most_lap};
+use lap_fit::fit::{LapRoom, StartedLap, fit_commands, fit_lap, lap_end, most_lap};
 use laps::lap_file::{LapFile, lacks_move, put_entry, put_head};
 use pieces::pieces::Rule;
 
@@ -25,9 +25,7 @@ fn copy_lap(lap: Body, out: &mut [u8], to: usize)
     ensures { PutLap (commands_at lap.entry.bytes.now lap.entry.at lap.entry.count) out.old out.new to lap.entry.count }
 {
     let w = COMMAND_BYTES * lap.count;
-    for i in 0..w {
-        out[to + i] = lap.bytes[lap.at + i];
-    }
+    out[to..to + w].copy_from_slice(&lap.bytes[lap.at..lap.at + w]);
 }
 
 // Whether lap number j is the one behind lap k, where that is replaced too.
@@ -102,9 +100,9 @@ fn fit_next(next: Option<Body>, start: Point3D, rule: Rule, out: &mut [u8], to: 
     ensures { PutLap (fit_lap rule start (commands_of next.entry)) out.old out.new to result }
 {
     match next {
-        Some(lap) => {
+        Some(body) => {
             let mut room = LapRoom::new();
-            fit_lap(lap, start, rule, &mut room, out, to)
+            fit_lap(StartedLap { body, start }, rule, &mut room, out, to)
         }
         None => 0,
     }
@@ -218,7 +216,7 @@ fn most_next(next: Option<Body>, start: Point3D, tolerance: f64) -> usize
     ensures { result ≡ cap (most_lap tolerance start (commands_of next.entry)) }
 {
     match next {
-        Some(lap) => most_lap(lap, start, tolerance),
+        Some(body) => most_lap(StartedLap { body, start }, tolerance),
         None => 0,
     }
 }
