@@ -1,6 +1,5 @@
 // The fit of a lap file: each lap by one rule, under a new table.
-ghost use Rattle.std.specs.Prelude.{◌≡◌, true, List, ◌++◌, ℕ, ◌+◌, ◌*◌, ◌<◌, ◌≤◌, length, take, drop, IfOk};
-ghost use Rattle.floats.specs.Ops.{◌≺◌, +0};
+ghost use Rattle.std.specs.Prelude.{◌≡◌, List, ◌++◌, ℕ, ◌+◌, ◌*◌, ◌<◌, ◌≤◌, length, take, drop, IfOk};
 ghost use Rattle.geo.specs.Domain.{most_commands};
 ghost use Rattle.geo.specs.Outcome.{refusal};
 ghost use Rattle.geo.specs.Refusal.{refused_by};
@@ -24,6 +23,7 @@ use geo::refusal::Refusal;
 use geo::types::Point3D;
 use laps::lap_file::{BEZIER, LapFile, check_file, check_sizes, put_entry, put_head};
 use pieces::pieces::Rule;
+use ranges::ranges::FitRule;
 
 // The arrays that a fit works in: its chain, and its commands.
 #[derive(Drop)]
@@ -123,13 +123,13 @@ pub fn most_of(file: LapFile, tolerance: f64) -> usize
 fn fit_lent(
     commands: Commands,
     start: Point3D,
-    rule: Rule,
+    rule: FitRule,
     room: &mut FitRoom,
     out: &mut [u8],
     to: usize,
 ) -> usize
-    requires { ((+0 ≺ rule.tolerance) ≡ true) × (most_on rule.tolerance start (lent_course commands.kinds.now commands.nums.now) ≤ most_commands) × (to + 73 * length (fit_new rule start commands.kinds.now commands.nums.now) ≤ length out.old) }
-    ensures { PutLap (fit_new rule start commands.entry.kinds.now commands.entry.nums.now) out.old out.new to result }
+    requires { (most_on rule.rule.tolerance start (lent_course commands.kinds.now commands.nums.now) ≤ most_commands) × (to + 73 * length (fit_new rule.rule start commands.kinds.now commands.nums.now) ≤ length out.old) }
+    ensures { PutLap (fit_new rule.rule start commands.entry.kinds.now commands.entry.nums.now) out.old out.new to result }
 {
     let n = fit_course(
         commands.kinds,
@@ -153,21 +153,27 @@ fn fit_lent(
 pub fn fit_commands(
     commands: Commands,
     start: Point3D,
-    rule: Rule,
+    rule: FitRule,
     out: &mut [u8],
     to: usize,
 ) -> usize
-    requires { ((+0 ≺ rule.tolerance) ≡ true) × (most_on rule.tolerance start (lent_course commands.kinds.now commands.nums.now) ≤ 800) × (to + 73 * length (fit_new rule start commands.kinds.now commands.nums.now) ≤ length out.old) }
-    ensures { PutLap (fit_new rule start commands.entry.kinds.now commands.entry.nums.now) out.old out.new to result }
+    requires { (most_on rule.rule.tolerance start (lent_course commands.kinds.now commands.nums.now) ≤ 800) × (to + 73 * length (fit_new rule.rule start commands.kinds.now commands.nums.now) ≤ length out.old) }
+    ensures { PutLap (fit_new rule.rule start commands.entry.kinds.now commands.entry.nums.now) out.old out.new to result }
 {
     let mut room = FitRoom::new();
     fit_lent(commands, start, rule, &mut room, out, to)
 }
 
 // Writes the fit of a lap with its start, from `to` on, and returns how many commands it has.
-pub fn fit_lap(lap: StartedLap, rule: Rule, room: &mut LapRoom, out: &mut [u8], to: usize) -> usize
-    requires { ((+0 ≺ rule.tolerance) ≡ true) × (most_lap rule.tolerance lap.start (commands_at lap.body.bytes.now lap.body.at lap.body.count) ≤ most_commands) × (to + 73 * length (fit_lap rule lap.start (commands_at lap.body.bytes.now lap.body.at lap.body.count)) ≤ length out.old) }
-    ensures { PutLap (fit_lap rule lap.entry.start (commands_at lap.entry.body.bytes.now lap.entry.body.at lap.entry.body.count)) out.old out.new to result }
+pub fn fit_lap(
+    lap: StartedLap,
+    rule: FitRule,
+    room: &mut LapRoom,
+    out: &mut [u8],
+    to: usize,
+) -> usize
+    requires { (most_lap rule.rule.tolerance lap.start (commands_at lap.body.bytes.now lap.body.at lap.body.count) ≤ most_commands) × (to + 73 * length (fit_lap rule.rule lap.start (commands_at lap.body.bytes.now lap.body.at lap.body.count)) ≤ length out.old) }
+    ensures { PutLap (fit_lap rule.rule lap.entry.start (commands_at lap.entry.body.bytes.now lap.entry.body.at lap.entry.body.count)) out.old out.new to result }
 {
     read_commands(lap.body, &mut room.kinds, &mut room.nums);
     let n = lap.body.count;
@@ -180,9 +186,9 @@ pub fn fit_lap(lap: StartedLap, rule: Rule, room: &mut LapRoom, out: &mut [u8], 
 }
 
 // Writes the fit of a file, the mark first, and returns how many bytes it has.
-fn fit_laps(file: LapFile, rule: Rule, out: &mut [u8]) -> usize
-    requires { ((+0 ≺ rule.tolerance) ≡ true) × (laps_most rule.tolerance origin (laps_of file.bytes.now) ≤ 800) × (file_size (lap_count file.bytes.now) (laps_most rule.tolerance origin (laps_of file.bytes.now)) ≤ length out.old) }
-    ensures { (result ≡ length (encode (fit_laps rule origin (laps_of file.entry.bytes.now)))) × (out.new ≡ encode (fit_laps rule origin (laps_of file.entry.bytes.now)) ++ drop (length (encode (fit_laps rule origin (laps_of file.entry.bytes.now)))) out.old) }
+fn fit_laps(file: LapFile, rule: FitRule, out: &mut [u8]) -> usize
+    requires { (laps_most rule.rule.tolerance origin (laps_of file.bytes.now) ≤ 800) × (file_size (lap_count file.bytes.now) (laps_most rule.rule.tolerance origin (laps_of file.bytes.now)) ≤ length out.old) }
+    ensures { (result ≡ length (encode (fit_laps rule.rule origin (laps_of file.entry.bytes.now)))) × (out.new ≡ encode (fit_laps rule.rule origin (laps_of file.entry.bytes.now)) ++ drop (length (encode (fit_laps rule.rule origin (laps_of file.entry.bytes.now)))) out.old) }
 {
     let mut room = LapRoom::new();
     let l = file.lap_count();
@@ -217,7 +223,7 @@ fn fit_by(rule: Rule, recorded: &[u8], out: &mut [u8]) -> Result<usize, Refusal>
     ensures { Wrote (λ (bytes : List ℕ). bytes) (fit_file_by rule recorded.now (length out.old)) out.old out.new result }
 {
     let file = check_fit(recorded, rule.tolerance, out.len())?;
-    Ok(fit_laps(file, rule, out))
+    Ok(fit_laps(file, FitRule { rule }, out))
 }
 
 // The fit of a file: as `fit_arcs` fits each lap.

@@ -1,6 +1,5 @@
 // The replacement of one lap of a fitted file.
-ghost use Rattle.std.specs.Prelude.{◌≡◌, true, List, ◌++◌, ℕ, ◌≤◌, length, drop, IfOk};
-ghost use Rattle.floats.specs.Ops.{◌≺◌, +0};
+ghost use Rattle.std.specs.Prelude.{◌≡◌, List, ◌++◌, ℕ, ◌≤◌, length, drop, IfOk};
 ghost use Rattle.geo.specs.Outcome.{refusal};
 ghost use Rattle.geo.specs.Refusal.{refused_by};
 ghost use Rattle.geo.specs.Wrote.{Wrote};
@@ -16,14 +15,15 @@ use lap_checks::checks::{Files, Found, LentFiles, Replacement, look_at_new};
 use lap_swap::swap::{Part, fit_both, put_part};
 use laps::lap_file::check_sizes;
 use pieces::pieces::Rule;
+use ranges::ranges::FitRule;
 
 // The body of 800 commands.
 const BODY_BYTES: usize = 58400;
 
 // Fits the laps that are fitted again into a buffer of its own; then writes the fitted file with them.
-fn replace_laps(files: Files, k: usize, commands: Commands, rule: Rule, out: &mut [u8]) -> usize
-    requires { ((+0 ≺ rule.tolerance) ≡ true) × (1 ≤ k) × (k ≤ lap_count files.recorded.bytes.now) × (most_with (lent_new rule.tolerance (laps_of files.recorded.bytes.now) k commands.kinds.now commands.nums.now) k files.recorded.bytes.now files.fitted.bytes.now ≤ 800) × (file_size (lap_count files.fitted.bytes.now) (most_with (lent_new rule.tolerance (laps_of files.recorded.bytes.now) k commands.kinds.now commands.nums.now) k files.recorded.bytes.now files.fitted.bytes.now) ≤ length out.old) }
-    ensures { (result ≡ length (encode (replaced_laps rule k commands.entry.kinds.now commands.entry.nums.now (laps_of files.entry.recorded.bytes.now) (laps_of files.entry.fitted.bytes.now)))) × (out.new ≡ encode (replaced_laps rule k commands.entry.kinds.now commands.entry.nums.now (laps_of files.entry.recorded.bytes.now) (laps_of files.entry.fitted.bytes.now)) ++ drop (length (encode (replaced_laps rule k commands.entry.kinds.now commands.entry.nums.now (laps_of files.entry.recorded.bytes.now) (laps_of files.entry.fitted.bytes.now)))) out.old) }
+fn replace_laps(files: Files, k: usize, commands: Commands, rule: FitRule, out: &mut [u8]) -> usize
+    requires { (1 ≤ k) × (k ≤ lap_count files.recorded.bytes.now) × (most_with (lent_new rule.rule.tolerance (laps_of files.recorded.bytes.now) k commands.kinds.now commands.nums.now) k files.recorded.bytes.now files.fitted.bytes.now ≤ 800) × (file_size (lap_count files.fitted.bytes.now) (most_with (lent_new rule.rule.tolerance (laps_of files.recorded.bytes.now) k commands.kinds.now commands.nums.now) k files.recorded.bytes.now files.fitted.bytes.now) ≤ length out.old) }
+    ensures { (result ≡ length (encode (replaced_laps rule.rule k commands.entry.kinds.now commands.entry.nums.now (laps_of files.entry.recorded.bytes.now) (laps_of files.entry.fitted.bytes.now)))) × (out.new ≡ encode (replaced_laps rule.rule k commands.entry.kinds.now commands.entry.nums.now (laps_of files.entry.recorded.bytes.now) (laps_of files.entry.fitted.bytes.now)) ++ drop (length (encode (replaced_laps rule.rule k commands.entry.kinds.now commands.entry.nums.now (laps_of files.entry.recorded.bytes.now) (laps_of files.entry.fitted.bytes.now)))) out.old) }
 {
     let mut buffer = [0u8; BODY_BYTES];
     let fit = fit_both(files.recorded, k, commands, rule, &mut buffer);
@@ -67,6 +67,8 @@ pub fn replace_lap(
         tolerance,
     };
     let found = check_replacement(given, out.len())?;
-    let rule = Rule::of_laps(tolerance);
+    let rule = FitRule {
+        rule: Rule::of_laps(tolerance),
+    };
     Ok(replace_laps(found.files, lap, found.commands, rule, out))
 }

@@ -24,6 +24,7 @@ use lap_text::bytes;
 use lap_text::text::{Added, put_rows, put_total};
 use laps::lap_file::{LapFile, check_file};
 use pieces::pieces::Rule;
+use ranges::ranges::FitRule;
 
 // The arrays that a listing works in: those of a fit, and one for the steps that each command of it covers.
 #[derive(Drop)]
@@ -53,7 +54,9 @@ fn list_commands(lap: StartedLap, tolerance: f64, room: &mut ListRoom) -> usize
     read_commands(lap.body, &mut room.lap.kinds, &mut room.lap.nums);
     let n = lap.body.count;
     let m = 9 * n;
-    let rule = Rule::of_laps(tolerance);
+    let rule = FitRule {
+        rule: Rule::of_laps(tolerance),
+    };
     fit_course_with_steps(
         &room.lap.kinds[..n],
         &room.lap.nums[..m],

@@ -18,6 +18,7 @@ use laps::lap_file::{
     Finite, Fitted, LapFile, MOST_COMMANDS, Test, check_sizes, commands_pass, lap_passes,
 };
 use pieces::pieces::Rule;
+use ranges::ranges::FitRule;
 
 // A session: how many commits it accepted.
 #[derive(Clone, Copy)]
@@ -86,7 +87,9 @@ pub fn ask_lap(
         tolerance,
     };
     let found = check_asking(given, buffer.len())?;
-    let rule = Rule::of_laps(tolerance);
+    let rule = FitRule {
+        rule: Rule::of_laps(tolerance),
+    };
     let fit = fit_both(found.files.recorded, lap, found.commands, rule, buffer);
     Ok(Ticket {
         lap,

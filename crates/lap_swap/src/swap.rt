@@ -1,8 +1,7 @@
 // A fitted file with one lap replaced and, where it lacks its Move, the next one fitted again: where the new commands start, both fits, what
 // they could become at most, and the file with them.
-ghost use Rattle.std.specs.Prelude.{◌≡◌, true, ◌&&◌, [], ◌++◌, ◌+◌, ◌*◌, ◌≤◌, eqb, length, drop, if◌then◌else◌, IfSome};
+ghost use Rattle.std.specs.Prelude.{◌≡◌, ◌&&◌, [], ◌++◌, ◌+◌, ◌*◌, ◌≤◌, eqb, length, drop, if◌then◌else◌, IfSome};
 ghost use Rattle.std.specs.Option.{is_some};
-ghost use Rattle.floats.specs.Ops.{◌≺◌, +0};
 ghost use Rattle.file.specs.Command.{commands_at};
 ghost use Rattle.course.specs.Course.{lent_course};
 ghost use Rattle.chain.specs.Chains.{cap};
@@ -17,7 +16,7 @@ use geo::lists::Commands;
 use geo::types::Point3D;
 use lap_fit::fit::{LapRoom, StartedLap, fit_commands, fit_lap, lap_end, most_lap};
 use laps::lap_file::{LapFile, lacks_move, put_entry, put_head};
-use pieces::pieces::Rule;
+use ranges::ranges::FitRule;
 
 // Copies the commands of a lap as they stand.
 fn copy_lap(lap: Body, out: &mut [u8], to: usize)
@@ -95,9 +94,9 @@ pub fn next_of<'a>(file: LapFile<'a>, k: usize) -> Option<Body<'a>>
 
 // Writes the fit of a recorded lap with its start, if there is one, from `to` on, by way of arrays of its own, and returns how many commands
 // it has. Where there is none, no array is filled.
-fn fit_next(next: Option<Body>, start: Point3D, rule: Rule, out: &mut [u8], to: usize) -> usize
-    requires { ((+0 ≺ rule.tolerance) ≡ true) × IfSome next (λ lap. lap.count ≤ 800) × (most_lap rule.tolerance start (commands_of next) ≤ 800) × (to + 73 * length (fit_lap rule start (commands_of next)) ≤ length out.old) }
-    ensures { PutLap (fit_lap rule start (commands_of next.entry)) out.old out.new to result }
+fn fit_next(next: Option<Body>, start: Point3D, rule: FitRule, out: &mut [u8], to: usize) -> usize
+    requires { IfSome next (λ lap. lap.count ≤ 800) × (most_lap rule.rule.tolerance start (commands_of next) ≤ 800) × (to + 73 * length (fit_lap rule.rule start (commands_of next)) ≤ length out.old) }
+    ensures { PutLap (fit_lap rule.rule start (commands_of next.entry)) out.old out.new to result }
 {
     match next {
         Some(body) => {
@@ -152,11 +151,11 @@ pub fn fit_both(
     recorded: LapFile,
     k: usize,
     commands: Commands,
-    rule: Rule,
+    rule: FitRule,
     buffer: &mut [u8],
 ) -> Refit
-    requires { ((+0 ≺ rule.tolerance) ≡ true) × (1 ≤ k) × (k ≤ lap_count recorded.bytes.now) × (most_both rule.tolerance (laps_of recorded.bytes.now) k (lent_course commands.kinds.now commands.nums.now) ≤ 800) × (73 * most_both rule.tolerance (laps_of recorded.bytes.now) k (lent_course commands.kinds.now commands.nums.now) ≤ length buffer.old) }
-    ensures { PutBoth (new_fit rule (laps_of recorded.entry.bytes.now) k commands.entry.kinds.now commands.entry.nums.now) (next_fit rule (laps_of recorded.entry.bytes.now) k commands.entry.kinds.now commands.entry.nums.now) buffer.old buffer.new result.count result.next }
+    requires { (1 ≤ k) × (k ≤ lap_count recorded.bytes.now) × (most_both rule.rule.tolerance (laps_of recorded.bytes.now) k (lent_course commands.kinds.now commands.nums.now) ≤ 800) × (73 * most_both rule.rule.tolerance (laps_of recorded.bytes.now) k (lent_course commands.kinds.now commands.nums.now) ≤ length buffer.old) }
+    ensures { PutBoth (new_fit rule.rule (laps_of recorded.entry.bytes.now) k commands.entry.kinds.now commands.entry.nums.now) (next_fit rule.rule (laps_of recorded.entry.bytes.now) k commands.entry.kinds.now commands.entry.nums.now) buffer.old buffer.new result.count result.next }
 {
     let start = start_of(recorded, k);
     let lap = next_of(recorded, k);
