@@ -6,7 +6,7 @@ use mathlib.Core.Bool.{true, false}
 use mathlib.Core.List.{List, [], ◌∷◌, ◌++◌}
 use native.Mathlib.Omega.{arith}
 use native.Mathlib.Nat.{mul-add, min-eq_left}
-use lib.ListN.{length, length-append, take, drop, length-take, length-drop}
+use lib.ListN.{length, length-append, take, drop, length-take}
 use lib.Ieee.{Float}
 use lib.Seq.{sets, sets-eq, length-sets}
 use Rattle.floats.specs.Ops.{◌≺◌, ◌⊗◌, +0}
@@ -34,10 +34,6 @@ use Rattle.chain.specs.Chains.{joins_beziers, joined_by, under_way, Room, Steppe
 -- ---- a buffer's front
 pub length_front : {A : Type 0} (k : ℕ) (s : List A) → k ≤ length s → length (take k s) ≡ k
 length_front k s h = length-take k s ∙ min-eq_left h
-
--- where another front as long takes its place, the buffer is as long as before
-pub length_refront : {A : Type 0} (k : ℕ) (s t : List A) → k ≤ length s → length t ≡ length (take k s) → length (t ++ drop k s) ≡ length s
-length_refront k s t h e = length-append t (drop k s) ∙ omega (arith, length_front k s h, length-drop k s)
 
 -- what is written right behind the front joins it
 pub take_sets : {A : Type 0} (s : List A) (k n : ℕ) (vs : List A) → n ≡ k + length vs → n ≤ length s → take n (sets s k vs) ≡ take k s ++ vs

@@ -78,8 +78,10 @@ pub record Stepped (fit : List Float → List Noted) (j : Join) (c : Command) (w
   pub written : r.written ≡ w.written + length (noted_of fit (closed (under_way w s) c j))
   pub wrote : NotedPlaced (noted_of fit (closed (under_way w s) c j)) w.written (length (noted_of fit (closed (under_way w s) c j))) ks ks' ns ns' ss ss'
 
--- what is lent to a walk stays lent: each reference is the one that it was, and the buffer as long
+-- what is lent to a walk stays lent: each reference is the one that it was, and the buffer as long; and its chains are written as before, by the same rule
 pub record SameLent (w w' : Walker) : Type 0 where
+  pub how : w'.how ≡ w.how
+  pub rule : w'.rule ≡ w.rule
   pub chain : w'.chain.ghost_name ≡ w.chain.ghost_name
   pub kinds : w'.kinds.ghost_name ≡ w.kinds.ghost_name
   pub nums : w'.nums.ghost_name ≡ w.nums.ghost_name

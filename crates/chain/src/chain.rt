@@ -19,7 +19,7 @@ use geo::lent::{point_at, put_point};
 use geo::lists::Stretch;
 use geo::types::{Command, CubicBezier, MOST_STEPS, Point3D};
 use pieces::pieces::{Rule, put_noted};
-use ranges::ranges::{fit_range, flush_chain};
+use ranges::ranges::{FitRule, fit_range, flush_chain};
 use simplify::simplify::thin_in_place;
 
 // Where a walk along a course stands.
@@ -105,7 +105,8 @@ impl Walk {
     }
 }
 
-// How many steps a Bezier of a course has, 801 for all above 800.
+// How many steps a Bezier of a course has, 801 for all above 800: a number and no option, since a course's counts are added up, and what is too
+// many has to stay so in each sum.
 pub fn bezier_steps(q: CubicBezier<Point3D>, resolution: f64) -> usize
     ensures { result ≡ cap (to_unsigned 64 (step_count q.0 q.1 q.2 q.3 resolution)) }
 {
@@ -116,8 +117,8 @@ pub fn bezier_steps(q: CubicBezier<Point3D>, resolution: f64) -> usize
     Walk::OVER
 }
 
-// Writes a Line to each point but the first. Each covers one step. The outputs are parameters here and below, as `fit_range` and `flush_chain`
-// take them.
+// Writes a Line to each point but the first. Each covers one step; their count is the answer too. The outputs are parameters here and below, as
+// `fit_range` and `flush_chain` take them, and so are rule and chain: of a `Walker`'s buffer only the front is the chain.
 fn put_lines(
     points: &[f64],
     kinds: &mut [u8],
@@ -157,15 +158,15 @@ fn thin_chain(
 
 // Fits a chain as it stands.
 fn fit_chain(
-    rule: Rule,
+    rule: FitRule,
     chain: &[f64],
     kinds: &mut [u8],
     nums: &mut [f64],
     steps: &mut [u32],
     at: usize,
 ) -> usize
-    requires { ((+0 ≺ rule.tolerance) ≡ true) × ((length chain.now / 3 ≤ chain_points) × (at + (length chain.now / 3 - 1) ≤ length kinds.old) × (9 * (at + (length chain.now / 3 - 1)) ≤ length nums.old)) }
-    ensures { NotedPlaced (flushed_by AsItStands rule chain.now) at result kinds.old kinds.new nums.old nums.new steps.old steps.new }
+    requires { (length chain.now / 3 ≤ chain_points) × (at + (length chain.now / 3 - 1) ≤ length kinds.old) × (9 * (at + (length chain.now / 3 - 1)) ≤ length nums.old) }
+    ensures { NotedPlaced (flushed_by AsItStands rule.rule chain.now) at result kinds.old kinds.new nums.old nums.new steps.old steps.new }
 {
     let n = chain.len() / 3;
     if n < 2 {
@@ -182,28 +183,30 @@ fn fit_chain(
 // Writes a chain's commands with the steps that each covers, and answers how many they are. The chain may be thinned in place.
 pub fn flush_by(
     how: Flush,
-    rule: Rule,
+    rule: FitRule,
     chain: &mut [f64],
     kinds: &mut [u8],
     nums: &mut [f64],
     steps: &mut [u32],
     at: usize,
 ) -> usize
-    requires { ((+0 ≺ rule.tolerance) ≡ true) × ((length chain.old / 3 ≤ chain_points) × (at + (length chain.old / 3 - 1) ≤ length kinds.old) × (9 * (at + (length chain.old / 3 - 1)) ≤ length nums.old)) }
+    requires { (length chain.old / 3 ≤ chain_points) × (at + (length chain.old / 3 - 1) ≤ length kinds.old) × (9 * (at + (length chain.old / 3 - 1)) ≤ length nums.old) }
     // What the chain holds at exit is left open.
-    ensures { NotedPlaced (flushed_by how rule chain.old) at result kinds.old kinds.new nums.old nums.new steps.old steps.new }
+    ensures { NotedPlaced (flushed_by how rule.rule chain.old) at result kinds.old kinds.new nums.old nums.new steps.old steps.new }
 {
     match how {
         Flush::Fitted => flush_chain(rule, chain, kinds, nums, steps, at),
         Flush::AsItStands => fit_chain(rule, chain, kinds, nums, steps, at),
-        Flush::Lines => thin_chain(rule, chain, kinds, nums, steps, at),
+        Flush::Lines => thin_chain(rule.rule, chain, kinds, nums, steps, at),
     }
 }
 
-// A walk along a course, with what is lent to it: the chain's buffer, both outputs, and a column for the steps that each command
-// covers, empty where nobody wants them.
+// A walk along a course: what becomes of its chains, and by which rule; where it stands; and what is lent to it: the chain's buffer, both outputs,
+// and a column for the steps that each command covers, empty where nobody wants them.
 #[derive(Drop)]
 pub struct Walker<'a> {
+    pub how: Flush,
+    pub rule: FitRule,
     pub at: Walk,
     pub chain: &'a mut [f64],
     pub kinds: &'a mut [u8],
@@ -213,18 +216,18 @@ pub struct Walker<'a> {
 
 impl<'a> Walker<'a> {
     // Writes the commands of the chain under way, and answers how many they are.
-    pub fn flush(&mut self, how: Flush, rule: Rule) -> usize
-        requires { ((+0 ≺ rule.tolerance) ≡ true) × (3 * self.old.at.points ≤ length self.old.chain.now) × (self.old.at.points ≤ chain_points) × (self.old.at.written + (self.old.at.points - 1) ≤ length self.old.kinds.now) × (9 * (self.old.at.written + (self.old.at.points - 1)) ≤ length self.old.nums.now) }
+    pub fn flush(&mut self) -> usize
+        requires { (3 * self.old.at.points ≤ length self.old.chain.now) × (self.old.at.points ≤ chain_points) × (self.old.at.written + (self.old.at.points - 1) ≤ length self.old.kinds.now) × (9 * (self.old.at.written + (self.old.at.points - 1)) ≤ length self.old.nums.now) }
         ensures same { SameLent self.old self.new }
         ensures stays { self.new.at ≡ self.old.at }
         // What the chain holds at exit is left open.
-        ensures written { NotedPlaced (flushed_by how rule (under_way self.old.at self.old.chain.now)) self.old.at.written result self.old.kinds.now self.new.kinds.now self.old.nums.now self.new.nums.now self.old.steps.now self.new.steps.now }
+        ensures written { NotedPlaced (flushed_by self.old.how self.old.rule.rule (under_way self.old.at self.old.chain.now)) self.old.at.written result self.old.kinds.now self.new.kinds.now self.old.nums.now self.new.nums.now self.old.steps.now self.new.steps.now }
     {
         let at = self.at;
         let chain = &mut *self.chain;
         flush_by(
-            how,
-            rule,
+            self.how,
+            self.rule,
             &mut chain[..3 * at.points],
             self.kinds,
             self.nums,
@@ -234,12 +237,12 @@ impl<'a> Walker<'a> {
     }
 
     // The command ends the chain: the chain is flushed, and the command kept as it stands. It covers no step.
-    fn keep(&mut self, c: Command, how: Flush, rule: Rule)
-        requires { ((+0 ≺ rule.tolerance) ≡ true) × Room ends c self.old.at self.old.chain.now (length self.old.kinds.now) (length self.old.nums.now) }
+    fn keep(&mut self, c: Command)
+        requires { Room ends c self.old.at self.old.chain.now (length self.old.kinds.now) (length self.old.nums.now) }
         ensures same { SameLent self.old self.new }
-        ensures stepped { Stepped (flushed_by how rule) ends c self.old.at self.new.at self.old.chain.now self.new.chain.now self.old.kinds.now self.new.kinds.now self.old.nums.now self.new.nums.now self.old.steps.now self.new.steps.now }
+        ensures stepped { Stepped (flushed_by self.old.how self.old.rule.rule) ends c self.old.at self.new.at self.old.chain.now self.new.chain.now self.old.kinds.now self.new.kinds.now self.old.nums.now self.new.nums.now self.old.steps.now self.new.steps.now }
     {
-        let n = self.flush(how, rule);
+        let n = self.flush();
         let written = self.at.written + n;
         put_noted(self.kinds, self.nums, self.steps, written, c, 0);
         let end = c.end_point();
@@ -252,10 +255,10 @@ impl<'a> Walker<'a> {
     }
 
     // One command of a course.
-    pub fn take(&mut self, c: Command, how: Flush, rule: Rule)
-        requires { ((+0 ≺ rule.tolerance) ≡ true) × Room (joined_by how rule.tolerance self.old.at.last c) c self.old.at self.old.chain.now (length self.old.kinds.now) (length self.old.nums.now) }
+    pub fn take(&mut self, c: Command)
+        requires { Room (joined_by self.old.how self.old.rule.rule.tolerance self.old.at.last c) c self.old.at self.old.chain.now (length self.old.kinds.now) (length self.old.nums.now) }
         ensures same { SameLent self.old self.new }
-        ensures stepped { Stepped (flushed_by how rule) (joined_by how rule.tolerance self.old.at.last c) c self.old.at self.new.at self.old.chain.now self.new.chain.now self.old.kinds.now self.new.kinds.now self.old.nums.now self.new.nums.now self.old.steps.now self.new.steps.now }
+        ensures stepped { Stepped (flushed_by self.old.how self.old.rule.rule) (joined_by self.old.how self.old.rule.rule.tolerance self.old.at.last c) c self.old.at self.new.at self.old.chain.now self.new.chain.now self.old.kinds.now self.new.kinds.now self.old.nums.now self.new.nums.now self.old.steps.now self.new.steps.now }
     {
         match c {
             Command::Line { end } => self.at.add_line(end, self.chain),
@@ -264,19 +267,20 @@ impl<'a> Walker<'a> {
                 control1,
                 control2,
             } => {
-                if how.joins_beziers() {
+                if self.how.joins_beziers() {
+                    let tolerance = self.rule.rule.tolerance;
                     self.at
-                        .add_bezier(end, control1, control2, rule.tolerance, self.chain);
+                        .add_bezier(end, control1, control2, tolerance, self.chain);
                     return;
                 }
-                self.keep(c, how, rule)
+                self.keep(c)
             }
-            Command::Move { end: _ } => self.keep(c, how, rule),
+            Command::Move { end: _ } => self.keep(c),
             Command::Arc {
                 end: _,
                 center_offset: _,
                 normal: _,
-            } => self.keep(c, how, rule),
+            } => self.keep(c),
         }
     }
 }

@@ -1,6 +1,5 @@
 // src/geo/algo/fitting.rs: fit_arcs and optimize_path_from_array.
-ghost use Rattle.std.specs.Prelude.{◌≡◌, true, ◌+◌, ◌*◌, ◌≤◌, length, take};
-ghost use Rattle.floats.specs.Ops.{◌≺◌, +0};
+ghost use Rattle.std.specs.Prelude.{◌≡◌, ◌+◌, ◌*◌, ◌≤◌, length, take};
 ghost use Rattle.geo.specs.Domain.{most_commands};
 ghost use Rattle.geo.specs.Outcome.{refusal};
 ghost use Rattle.geo.specs.Refusal.{refused_by};
@@ -19,8 +18,8 @@ use geo::domain::check_input;
 use geo::lent::{command_at, put_point};
 use geo::refusal::Refusal;
 use geo::types::{Command, Point3D};
-use pieces::pieces::{Rule, put_noted};
-use ranges::ranges::{fit_range, flush_chain};
+use pieces::pieces::Rule;
+use ranges::ranges::FitRule;
 use simplify::simplify::refuse_commands;
 
 // What a command adds to the most of its course.
@@ -61,7 +60,8 @@ pub fn add_capped(a: usize, b: usize) -> usize
 }
 
 // The most of a course from its start, 801 for all above 800. Here and below the commands stay two lists: callers are asked for nine numbers
-// each at least, and `Commands` would ask for exactly nine.
+// each at least, and `Commands` would ask for exactly nine. Start and tolerance, or start and rule, are no pair: a file has one rule, and each of
+// its laps a start of its own.
 pub fn course_most(kinds: &[u8], nums: &[f64], start: Point3D, tolerance: f64) -> usize
     requires { 9 * length kinds.now ≤ length nums.now }
     ensures { result ≡ cap (most_on tolerance start (lent_course kinds.now nums.now)) }
@@ -89,46 +89,49 @@ pub fn course_end(kinds: &[u8], nums: &[f64], start: Point3D) -> Point3D
 }
 
 // Walks along a course from where w stands, which has written nothing and holds its start alone, and answers how many commands it gives.
-fn walk_along(kinds: &[u8], nums: &[f64], how: Flush, rule: Rule, w: &mut Walker) -> usize
-    requires room { ((+0 ≺ rule.tolerance) ≡ true) × ((9 * length kinds.now ≤ length nums.now) × (most_of (parts_by how rule.tolerance w.old.at.last (lent_course kinds.now nums.now)) ≤ most_commands) × (most_of (parts_by how rule.tolerance w.old.at.last (lent_course kinds.now nums.now)) ≤ length w.old.kinds.now) × (9 * most_of (parts_by how rule.tolerance w.old.at.last (lent_course kinds.now nums.now)) ≤ length w.old.nums.now) × (length w.old.chain.now ≡ chain_numbers)) }
+fn walk_along(kinds: &[u8], nums: &[f64], w: &mut Walker) -> usize
+    requires room { (9 * length kinds.now ≤ length nums.now) × (most_of (parts_by w.old.how w.old.rule.rule.tolerance w.old.at.last (lent_course kinds.now nums.now)) ≤ most_commands) × (most_of (parts_by w.old.how w.old.rule.rule.tolerance w.old.at.last (lent_course kinds.now nums.now)) ≤ length w.old.kinds.now) × (9 * most_of (parts_by w.old.how w.old.rule.rule.tolerance w.old.at.last (lent_course kinds.now nums.now)) ≤ length w.old.nums.now) × (length w.old.chain.now ≡ chain_numbers) }
     requires begun { (w.old.at ≡ record { points = 1; last = w.old.at.last; written = 0 }) × (take 3 w.old.chain.now ≡ triple w.old.at.last) }
     ensures same { SameLent w.old w.new }
-    ensures written { NotedPlaced (fit_by how rule w.old.at.last (lent_course kinds.now nums.now)) 0 result w.old.kinds.now w.new.kinds.now w.old.nums.now w.new.nums.now w.old.steps.now w.new.steps.now }
+    ensures written { NotedPlaced (fit_by w.old.how w.old.rule.rule w.old.at.last (lent_course kinds.now nums.now)) 0 result w.old.kinds.now w.new.kinds.now w.old.nums.now w.new.nums.now w.old.steps.now w.new.steps.now }
 {
     for i in 0..kinds.len() {
-        w.take(command_at(kinds, nums, i), how, rule);
+        w.take(command_at(kinds, nums, i));
     }
-    let n = w.flush(how, rule);
+    let n = w.flush();
     w.at.written + n
 }
 
 // Walks along a course from its start, and answers how many commands it gives. The caller lends the chain's buffer, so that many courses
-// share one, and a column for the steps that each command covers, empty where nobody wants them.
+// share one, and a column for the steps that each command covers, empty where nobody wants them. The outputs are lent one by one here and below:
+// C has no struct of them, and what is asked of their lengths depends on the course.
 fn walk_course(
     kinds: &[u8],
     nums: &[f64],
     start: Point3D,
     how: Flush,
-    rule: Rule,
-    chain: &mut [f64],
+    rule: FitRule,
+    chain: &mut [f64; Walk::CHAIN],
     out_kinds: &mut [u8],
     out_nums: &mut [f64],
     steps: &mut [u32],
 ) -> usize
-    requires { ((+0 ≺ rule.tolerance) ≡ true) × ((9 * length kinds.now ≤ length nums.now) × (most_of (parts_by how rule.tolerance start (lent_course kinds.now nums.now)) ≤ most_commands) × (most_of (parts_by how rule.tolerance start (lent_course kinds.now nums.now)) ≤ length out_kinds.old) × (9 * most_of (parts_by how rule.tolerance start (lent_course kinds.now nums.now)) ≤ length out_nums.old) × (length chain.old ≡ chain_numbers)) }
+    requires { (9 * length kinds.now ≤ length nums.now) × (most_of (parts_by how rule.rule.tolerance start (lent_course kinds.now nums.now)) ≤ most_commands) × (most_of (parts_by how rule.rule.tolerance start (lent_course kinds.now nums.now)) ≤ length out_kinds.old) × (9 * most_of (parts_by how rule.rule.tolerance start (lent_course kinds.now nums.now)) ≤ length out_nums.old) }
     // What the chain holds at exit is left open.
-    ensures { NotedPlaced (fit_by how rule start (lent_course kinds.now nums.now)) 0 result out_kinds.old out_kinds.new out_nums.old out_nums.new steps.old steps.new }
+    ensures { NotedPlaced (fit_by how rule.rule start (lent_course kinds.now nums.now)) 0 result out_kinds.old out_kinds.new out_nums.old out_nums.new steps.old steps.new }
 {
     // The buffer may still hold the chain of another course.
     put_point(chain, 0, start);
     let mut w = Walker {
+        how,
+        rule,
         at: Walk::new(start),
         chain,
         kinds: out_kinds,
         nums: out_nums,
         steps,
     };
-    walk_along(kinds, nums, how, rule, &mut w)
+    walk_along(kinds, nums, &mut w)
 }
 
 // Fits a course from its start, notes how many steps each command covers, and answers how many commands there are.
@@ -136,15 +139,15 @@ pub fn fit_course_with_steps(
     kinds: &[u8],
     nums: &[f64],
     start: Point3D,
-    rule: Rule,
-    chain: &mut [f64],
+    rule: FitRule,
+    chain: &mut [f64; Walk::CHAIN],
     out_kinds: &mut [u8],
     out_nums: &mut [f64],
     steps: &mut [u32],
 ) -> usize
-    requires { ((+0 ≺ rule.tolerance) ≡ true) × ((9 * length kinds.now ≤ length nums.now) × (most_on rule.tolerance start (lent_course kinds.now nums.now) ≤ most_commands) × (most_on rule.tolerance start (lent_course kinds.now nums.now) ≤ length out_kinds.old) × (9 * most_on rule.tolerance start (lent_course kinds.now nums.now) ≤ length out_nums.old) × (length chain.old ≡ chain_numbers)) }
+    requires { (9 * length kinds.now ≤ length nums.now) × (most_on rule.rule.tolerance start (lent_course kinds.now nums.now) ≤ most_commands) × (most_on rule.rule.tolerance start (lent_course kinds.now nums.now) ≤ length out_kinds.old) × (9 * most_on rule.rule.tolerance start (lent_course kinds.now nums.now) ≤ length out_nums.old) }
     // The chain is lent as room to work in: what it holds at exit is left open.
-    ensures { NotedPlaced (noted_on rule start (lent_course kinds.now nums.now)) 0 result out_kinds.old out_kinds.new out_nums.old out_nums.new steps.old steps.new }
+    ensures { NotedPlaced (noted_on rule.rule start (lent_course kinds.now nums.now)) 0 result out_kinds.old out_kinds.new out_nums.old out_nums.new steps.old steps.new }
 {
     walk_course(
         kinds,
@@ -164,14 +167,14 @@ pub fn fit_course(
     kinds: &[u8],
     nums: &[f64],
     start: Point3D,
-    rule: Rule,
-    chain: &mut [f64],
+    rule: FitRule,
+    chain: &mut [f64; Walk::CHAIN],
     out_kinds: &mut [u8],
     out_nums: &mut [f64],
 ) -> usize
-    requires { ((+0 ≺ rule.tolerance) ≡ true) × ((9 * length kinds.now ≤ length nums.now) × (most_on rule.tolerance start (lent_course kinds.now nums.now) ≤ most_commands) × (most_on rule.tolerance start (lent_course kinds.now nums.now) ≤ length out_kinds.old) × (9 * most_on rule.tolerance start (lent_course kinds.now nums.now) ≤ length out_nums.old) × (length chain.old ≡ chain_numbers)) }
+    requires { (9 * length kinds.now ≤ length nums.now) × (most_on rule.rule.tolerance start (lent_course kinds.now nums.now) ≤ most_commands) × (most_on rule.rule.tolerance start (lent_course kinds.now nums.now) ≤ length out_kinds.old) × (9 * most_on rule.rule.tolerance start (lent_course kinds.now nums.now) ≤ length out_nums.old) }
     // The chain is lent as room to work in: what it holds at exit is left open.
-    ensures { FitPlaced (fit_on rule start (lent_course kinds.now nums.now)) 0 result out_kinds.old out_kinds.new out_nums.old out_nums.new }
+    ensures { FitPlaced (fit_on rule.rule start (lent_course kinds.now nums.now)) 0 result out_kinds.old out_kinds.new out_nums.old out_nums.new }
 {
     fit_course_with_steps(
         kinds,
@@ -185,7 +188,7 @@ pub fn fit_course(
     )
 }
 
-// Why a course is refused, if it is. An output's room is that of the smaller of its two slices.
+// Why a course is refused, if it is. It and the calls below take their arguments as C lends them, one by one. An output's room is that of the smaller of its two slices.
 fn check_course(
     kinds: &[u8],
     nums: &[f64],
@@ -221,7 +224,9 @@ pub fn fit_arcs(
 {
     check_course(kinds, nums, tolerance, out_kinds.len(), out_nums.len())?;
     let mut chain = [0.0; Walk::CHAIN];
-    let rule = Rule::of_laps(tolerance);
+    let rule = FitRule {
+        rule: Rule::of_laps(tolerance),
+    };
     Ok(fit_course(
         kinds,
         nums,
@@ -233,7 +238,7 @@ pub fn fit_arcs(
     ))
 }
 
-// How a path's chains are written.
+// How a path's chains are written: C's call says so by a truth.
 #[tactic(auto, unfolding(crate::specs::Walks::path_flush))]
 fn path_flush(use_fit_arcs: bool) -> Flush
     ensures { result ≡ path_flush use_fit_arcs }
@@ -258,7 +263,9 @@ pub fn optimize_path_from_array(
 {
     refuse_commands(kinds, nums, tolerance, out_kinds.len(), out_nums.len())?;
     let how = path_flush(use_fit_arcs);
-    let rule = Rule::of_points(tolerance);
+    let rule = FitRule {
+        rule: Rule::of_points(tolerance),
+    };
     let mut chain = [0.0; Walk::CHAIN];
     Ok(walk_course(
         kinds,

@@ -1,11 +1,11 @@
 -- The rows of the public calls behind those of their points, and what an accepted call answers and leaves. Assumes nothing.
 use Rattle.std.specs.Prelude.{Result, Ok}
-use Prim.Native.Nat.{ℕ, ◌-◌, ◌/◌, ◌≤◌, ◌<◌}
+use Prim.Native.Nat.{ℕ, ◌-◌, ◌/◌, ◌%◌, ◌≤◌, ◌<◌}
 use mathlib.Core.Path.{◌≡◌, refl, sym, ap, ◌∙◌, subst}
 use mathlib.Core.Bool.{Bool, true, false, not, ◌&&◌}
-use mathlib.Core.List.{List, []}
+use mathlib.Core.List.{List, [], ◌∷◌}
 use native.Mathlib.Omega.{arith}
-use borrow.Author.Tests.{ltb-true, ltb-false, lt-ltb, not-false}
+use borrow.Author.Tests.{ltb-true, ltb-false, lt-ltb, le-ltb, not-false}
 use lib.ListN.{length}
 use lib.Dec.{ltb}
 use lib.Seq.{sets}
@@ -14,11 +14,12 @@ use Rattle.floats.specs.Ops.{◌≺◌, +0}
 use Rattle.geo.specs.declared.types.Command.{Command}
 use Rattle.geo.specs.declared.refusal.Refusal.{Refusal}
 use Rattle.geo.specs.Wrote.{Wrote, WroteCommands}
-use Rattle.geo.specs.Domain.{most_points}
+use Rattle.geo.specs.Domain.{tolerance, most_points}
 use Rattle.geo.specs.Lent.{point_at, flat, numbers_of}
-use Rattle.geo.specs.Outcome.{refusal, unless, left}
+use Rattle.geo.specs.Outcome.{Row, row, refusal, unless, left}
 use Rattle.geo.proofs.Tolerance.{tolerance-positive}
-use Rattle.geo.proofs.Rows.{row_passed}
+use Rattle.geo.proofs.Rows.{row_fails, row-passes, row_passed, whole-passes}
+use Rattle.deviations.proofs.Accepted.{points_passed}
 use Rattle.geo.proofs.Wrote.{wrote-given, commands-given}
 use Rattle.geo.proofs.Wrote.{nine}
 use Rattle.geo.proofs.Flat.{flat_length}
@@ -35,6 +36,30 @@ use Rattle.fitting.specs.Calls.{fit_rows, fit_call, worst_call}
 inside-points : (lo hi n : ℕ) → (ltb lo hi && not (ltb hi n)) ≡ false → lo < hi → hi < n
 inside-points lo hi n h l = ltb-true hi n (not-false _ (subst (λ (b : Bool). (b && not (ltb hi n)) ≡ false) (lt-ltb lo hi l) h))
 
+-- ---- the rows of the outputs, those before being passed
+module _ (s : List Float) (tol : Float) (lo hi kinds numbers places : ℕ)
+    (nines : numbers % 9 ≡ 0) (points : 0 ≡ refusal (points_rows s)) (above : tolerance tol ≡ true) (inside : (ltb lo hi && not (ltb hi (length s / 3))) ≡ false) where
+  abbrev room-rows : List Row
+  room-rows = row 9 (ltb kinds (hi - lo)) ∷ row 9 (ltb (numbers / 9) (hi - lo)) ∷ row 9 (ltb places (hi - lo)) ∷ []
+
+  room-decides : refusal (fit_rows s tol lo hi kinds numbers places) ≡ refusal room-rows
+  unfolding fit_rows
+  room-decides = row-passes _ _ _ (whole-passes 9 numbers nines) ∙ points_passed s _ points ∙ row-passes 6 _ _ (ap not above) ∙ row-passes 7 _ _ inside
+
+  pub kinds_short : kinds < hi - lo → 9 ≡ refusal (fit_rows s tol lo hi kinds numbers places)
+  kinds_short h = sym (room-decides ∙ row_fails 9 _ _ (lt-ltb kinds (hi - lo) h))
+
+  module _ (k : hi - lo ≤ kinds) where
+    kinds-pass : refusal room-rows ≡ refusal (row 9 (ltb (numbers / 9) (hi - lo)) ∷ row 9 (ltb places (hi - lo)) ∷ [])
+    kinds-pass = row-passes 9 _ _ (le-ltb kinds (hi - lo) k)
+
+    pub numbers_short : numbers / 9 < hi - lo → 9 ≡ refusal (fit_rows s tol lo hi kinds numbers places)
+    numbers_short h = sym (room-decides ∙ kinds-pass ∙ row_fails 9 _ _ (lt-ltb (numbers / 9) (hi - lo) h))
+
+    pub places_short : hi - lo ≤ numbers / 9 → places < hi - lo → 9 ≡ refusal (fit_rows s tol lo hi kinds numbers places)
+    places_short n h = sym (room-decides ∙ kinds-pass ∙ row-passes 9 _ _ (le-ltb (numbers / 9) (hi - lo) n) ∙ row_fails 9 _ _ (lt-ltb places (hi - lo) h))
+
+-- ---- what passed
 module _ (s : List Float) (tol : Float) (lo hi kinds numbers places : ℕ) (q : 0 ≡ refusal (fit_rows s tol lo hi kinds numbers places)) where
   pub record Accepted : Type 0 where
     pub few : length s / 3 ≤ most_points

@@ -12,7 +12,7 @@ use geo::domain::is_tolerance;
 use geo::lists::Stretch;
 use geo::refusal::Refusal;
 use pieces::pieces::Rule;
-use ranges::ranges::fit_range;
+use ranges::ranges::{FitRule, fit_range};
 
 // What fit_points_with_primitives answers: how many commands it wrote, and how many ranges it examined.
 #[derive(Clone, Copy)]
@@ -28,7 +28,8 @@ fn is_outside(n: usize, start: usize, end: usize) -> bool
     start < end && n <= end
 }
 
-// The first row that a fit falls under. No step lies between two indices of which the first is not below the second.
+// The first row that a fit falls under. No step lies between two indices of which the first is not below the second. The points, the tolerance
+// and the indices are parameters here and below, and so are the outputs: C lends them one by one, and of what is not yet checked no value has a fact.
 #[tactic(auto, using(deviations::proofs::Accepted::points_refused, deviations::proofs::Accepted::points_passed), unfolding(crate::specs::Calls::fit_rows, geo::specs::Outcome::refusal, geo::specs::Domain::whole))]
 fn check_fit(
     points: &[f64],
@@ -85,7 +86,10 @@ pub fn fit_points_recursive(
         return Ok(0);
     }
     let route = Stretch { points, start, end };
-    Ok(fit_range(Rule::of_points(tolerance), route, kinds, nums, worst, 0))
+    let rule = FitRule {
+        rule: Rule::of_points(tolerance),
+    };
+    Ok(fit_range(rule, route, kinds, nums, worst, 0))
 }
 
 // How many ranges a fit of n pieces examined: each piece is one, and each cut one more.

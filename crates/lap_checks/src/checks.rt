@@ -16,6 +16,13 @@ use laps::lap_file::{
     LapFile, MOST_COMMANDS, check_commands, has_table, is_placed, lap_count, too_big, too_short,
 };
 
+// The bytes of a recorded file and of its fitted file, as they are lent: any bytes.
+#[derive(Clone, Copy)]
+pub struct LentFiles<'a> {
+    pub recorded: &'a [u8],
+    pub fitted: &'a [u8],
+}
+
 // A recorded file and its fitted file, both with a right table.
 #[derive(Clone, Copy)]
 pub struct Files<'a> {
@@ -48,15 +55,12 @@ fn fails_3(s: &[u8], f: &[u8]) -> bool
 }
 
 // The first of these rows that they fall under, or the files.
-pub fn check_tables<'a>(
-    s: &'a [u8],
-    f: &'a [u8],
-    whole: bool,
-    few: bool,
-) -> Result<Files<'a>, Refusal>
-    ensures row { refused_by result ≡ refusal (table_rows s.now f.now whole few) }
-    ensures same { IfOk result (λ files. (files.recorded.bytes.now ≡ s.now) × (files.fitted.bytes.now ≡ f.now)) }
+pub fn check_tables<'a>(lent: LentFiles<'a>, whole: bool, few: bool) -> Result<Files<'a>, Refusal>
+    ensures row { refused_by result ≡ refusal (table_rows lent.entry.recorded.now lent.entry.fitted.now whole few) }
+    ensures same { IfOk result (λ files. (files.recorded.bytes.now ≡ lent.entry.recorded.now) × (files.fitted.bytes.now ≡ lent.entry.fitted.now)) }
 {
+    let s = lent.recorded;
+    let f = lent.fitted;
     if fails_1(s, f, whole) {
         return Err(Refusal::NotWhole);
     }
@@ -147,6 +151,16 @@ pub fn check_laps(
     Ok(())
 }
 
+// What a replacement, or its asking, is given: the files, the number of the lap, its new commands and the tolerance, as they are lent.
+#[derive(Clone, Copy)]
+pub struct Replacement<'a> {
+    pub files: LentFiles<'a>,
+    pub lap: usize,
+    pub kinds: &'a [u8],
+    pub nums: &'a [f64],
+    pub tolerance: f64,
+}
+
 // What is found of a replacement, or of its asking, that passes the rows 1 to 7: what the laps that are fitted again could become at most, 801
 // for all above 800, and with them the commands in all other laps.
 #[derive(Clone, Copy)]
@@ -157,21 +171,20 @@ pub struct Found<'a> {
     pub all: usize,
 }
 
-// Looks at new commands for lap k: at every row but those of sizes, and at the counts that these ask for.
-pub fn look_at_new<'a>(
-    s: &'a [u8],
-    f: &'a [u8],
-    k: usize,
-    kinds: &'a [u8],
-    nums: &'a [f64],
-    tolerance: f64,
-) -> Result<Found<'a>, Refusal>
-    ensures row { refused_by result ≡ refusal (new_rows s.now f.now k (lent_new tolerance (laps_of s.now) k kinds.now nums.now) tolerance) }
-    ensures counts { IfOk result (λ found. (found.own ≡ cap (most_both tolerance (laps_of s.now) k (lent_course kinds.now nums.now))) × (found.all ≡ found.own + command_count (swap_both (next_lacks k (laps_of s.now)) k [] [] (laps_of f.now)))) }
-    ensures same { IfOk result (λ found. (found.files.recorded.bytes.now ≡ s.now) × (found.files.fitted.bytes.now ≡ f.now) × (found.commands.kinds.now ≡ kinds.now) × (found.commands.nums.now ≡ nums.now)) }
+// Looks at the new commands for a lap: at every row but those of sizes, and at the counts that these ask for.
+pub fn look_at_new<'a>(given: Replacement<'a>) -> Result<Found<'a>, Refusal>
+    ensures row { refused_by result ≡ refusal (new_rows given.entry.files.recorded.now given.entry.files.fitted.now given.entry.lap (lent_new given.entry.tolerance (laps_of given.entry.files.recorded.now) given.entry.lap given.entry.kinds.now given.entry.nums.now) given.entry.tolerance) }
+    ensures counts { IfOk result (λ found. (found.own ≡ cap (most_both given.entry.tolerance (laps_of given.entry.files.recorded.now) given.entry.lap (lent_course given.entry.kinds.now given.entry.nums.now))) × (found.all ≡ found.own + command_count (swap_both (next_lacks given.entry.lap (laps_of given.entry.files.recorded.now)) given.entry.lap [] [] (laps_of given.entry.files.fitted.now)))) }
+    ensures same { IfOk result (λ found. (found.files.recorded.bytes.now ≡ given.entry.files.recorded.now) × (found.files.fitted.bytes.now ≡ given.entry.files.fitted.now) × (found.commands.kinds.now ≡ given.entry.kinds.now) × (found.commands.nums.now ≡ given.entry.nums.now)) }
 {
-    let files = check_tables(s, f, is_whole(kinds, nums), kinds.len() <= MOST_COMMANDS)?;
-    let commands = Commands { kinds, nums };
+    let whole = is_whole(given.kinds, given.nums);
+    let files = check_tables(given.files, whole, given.kinds.len() <= MOST_COMMANDS)?;
+    let commands = Commands {
+        kinds: given.kinds,
+        nums: given.nums,
+    };
+    let k = given.lap;
+    let tolerance = given.tolerance;
     let formed = is_lap(k <= 1, commands);
     check_laps(files.recorded, k, formed, commands.are_in(), tolerance)?;
     let own = most_new(files.recorded, k, commands, tolerance);

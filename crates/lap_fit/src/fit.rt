@@ -1,6 +1,5 @@
 // The fit of a lap file: each lap by one rule, under a new table.
-ghost use Rattle.std.specs.Prelude.{◌≡◌, true, List, ◌++◌, ℕ, ◌+◌, ◌*◌, ◌<◌, ◌≤◌, length, take, drop, IfOk};
-ghost use Rattle.floats.specs.Ops.{◌≺◌, +0};
+ghost use Rattle.std.specs.Prelude.{◌≡◌, List, ◌++◌, ℕ, ◌+◌, ◌*◌, ◌<◌, ◌≤◌, length, take, drop, IfOk};
 ghost use Rattle.geo.specs.Domain.{most_commands};
 ghost use Rattle.geo.specs.Outcome.{refusal};
 ghost use Rattle.geo.specs.Refusal.{refused_by};
@@ -24,13 +23,14 @@ use geo::refusal::Refusal;
 use geo::types::Point3D;
 use laps::lap_file::{BEZIER, LapFile, check_file, check_sizes, put_entry, put_head};
 use pieces::pieces::Rule;
+use ranges::ranges::FitRule;
 
 // The arrays that a fit works in: its chain, and its commands.
 #[derive(Drop)]
 pub struct FitRoom {
-    chain: [f64; Walk::CHAIN],
-    kinds: [u8; Walk::MOST],
-    nums: [f64; Walk::NUMBERS],
+    pub chain: [f64; Walk::CHAIN],
+    pub kinds: [u8; Walk::MOST],
+    pub nums: [f64; Walk::NUMBERS],
 }
 
 impl FitRoom {
@@ -46,9 +46,9 @@ impl FitRoom {
 // The same, and those for the commands of a lap: filled once, and lent for each lap.
 #[derive(Drop)]
 pub struct LapRoom {
-    kinds: [u8; Walk::MOST],
-    nums: [f64; Walk::NUMBERS],
-    fit: FitRoom,
+    pub kinds: [u8; Walk::MOST],
+    pub nums: [f64; Walk::NUMBERS],
+    pub fit: FitRoom,
 }
 
 impl LapRoom {
@@ -61,7 +61,16 @@ impl LapRoom {
     }
 }
 
+// A lap with its start, the end of the recorded lap before it.
+#[derive(Clone, Copy)]
+pub struct StartedLap<'a> {
+    pub body: Body<'a>,
+    pub start: Point3D,
+    ghost few: { body.count ≤ most_commands },
+}
+
 // Where a lap ends: with its last command, of whatever kind.
+// The body and the start are parameters and no started lap: a body of any count has an end.
 pub fn lap_end(lap: Body, start: Point3D) -> Point3D
     ensures { result ≡ lap_end start (commands_at lap.entry.bytes.now lap.entry.at lap.entry.count) }
 {
@@ -72,26 +81,25 @@ pub fn lap_end(lap: Body, start: Point3D) -> Point3D
 }
 
 // What command i of a lap adds to the most. Only a Bezier asks where the command before it ended, so of any other just the kind is read.
-fn weight_at(lap: Body, i: usize, start: Point3D, tolerance: f64) -> usize
-    requires { i < lap.count }
-    ensures { result ≡ cap (weight_of (joined tolerance (lap_end start (commands_at lap.entry.bytes.now lap.entry.at i)) (decoded (take 73 (drop (lap.entry.at + 73 * i) lap.entry.bytes.now))))) }
+fn weight_at(lap: StartedLap, i: usize, tolerance: f64) -> usize
+    requires { i < lap.body.count }
+    ensures { result ≡ cap (weight_of (joined tolerance (lap_end lap.entry.start (commands_at lap.entry.body.bytes.now lap.entry.body.at i)) (decoded (take 73 (drop (lap.entry.body.at + 73 * i) lap.entry.body.bytes.now))))) }
 {
-    let c = lap.command(i);
+    let c = lap.body.command(i);
     if c[0] < BEZIER {
         return 1;
     }
-    let last = lap_end(lap.front(i), start);
+    let last = lap_end(lap.body.front(i), lap.start);
     weight(read_command(c), last, tolerance)
 }
 
 // What the commands of a lap, from their start, could become at most.
-pub fn most_lap(lap: Body, start: Point3D, tolerance: f64) -> usize
-    requires { lap.count ≤ 800 }
-    ensures { result ≡ cap (most_lap tolerance start (commands_at lap.entry.bytes.now lap.entry.at lap.entry.count)) }
+pub fn most_lap(lap: StartedLap, tolerance: f64) -> usize
+    ensures { result ≡ cap (most_lap tolerance lap.entry.start (commands_at lap.entry.body.bytes.now lap.entry.body.at lap.entry.body.count)) }
 {
     let mut most = 0;
-    for i in 0..lap.count {
-        most = add_capped(most, weight_at(lap, i, start, tolerance));
+    for i in 0..lap.body.count {
+        most = add_capped(most, weight_at(lap, i, tolerance));
     }
     most
 }
@@ -104,9 +112,9 @@ pub fn most_of(file: LapFile, tolerance: f64) -> usize
     let mut most = 0;
     let mut start = Point3D::ZERO;
     for j in 0..l {
-        let lap = file.lap(j);
-        most = add_capped(most, most_lap(lap, start, tolerance));
-        start = lap_end(lap, start);
+        let body = file.lap(j);
+        most = add_capped(most, most_lap(StartedLap { body, start }, tolerance));
+        start = lap_end(body, start);
     }
     most
 }
@@ -115,13 +123,13 @@ pub fn most_of(file: LapFile, tolerance: f64) -> usize
 fn fit_lent(
     commands: Commands,
     start: Point3D,
-    rule: Rule,
+    rule: FitRule,
     room: &mut FitRoom,
     out: &mut [u8],
     to: usize,
 ) -> usize
-    requires { ((+0 ≺ rule.tolerance) ≡ true) × (most_on rule.tolerance start (lent_course commands.kinds.now commands.nums.now) ≤ most_commands) × (to + 73 * length (fit_new rule start commands.kinds.now commands.nums.now) ≤ length out.old) }
-    ensures { PutLap (fit_new rule start commands.entry.kinds.now commands.entry.nums.now) out.old out.new to result }
+    requires { (most_on rule.rule.tolerance start (lent_course commands.kinds.now commands.nums.now) ≤ most_commands) × (to + 73 * length (fit_new rule.rule start commands.kinds.now commands.nums.now) ≤ length out.old) }
+    ensures { PutLap (fit_new rule.rule start commands.entry.kinds.now commands.entry.nums.now) out.old out.new to result }
 {
     let n = fit_course(
         commands.kinds,
@@ -145,12 +153,12 @@ fn fit_lent(
 pub fn fit_commands(
     commands: Commands,
     start: Point3D,
-    rule: Rule,
+    rule: FitRule,
     out: &mut [u8],
     to: usize,
 ) -> usize
-    requires { ((+0 ≺ rule.tolerance) ≡ true) × (most_on rule.tolerance start (lent_course commands.kinds.now commands.nums.now) ≤ 800) × (to + 73 * length (fit_new rule start commands.kinds.now commands.nums.now) ≤ length out.old) }
-    ensures { PutLap (fit_new rule start commands.entry.kinds.now commands.entry.nums.now) out.old out.new to result }
+    requires { (most_on rule.rule.tolerance start (lent_course commands.kinds.now commands.nums.now) ≤ 800) × (to + 73 * length (fit_new rule.rule start commands.kinds.now commands.nums.now) ≤ length out.old) }
+    ensures { PutLap (fit_new rule.rule start commands.entry.kinds.now commands.entry.nums.now) out.old out.new to result }
 {
     let mut room = FitRoom::new();
     fit_lent(commands, start, rule, &mut room, out, to)
@@ -158,30 +166,29 @@ pub fn fit_commands(
 
 // Writes the fit of a lap with its start, from `to` on, and returns how many commands it has.
 pub fn fit_lap(
-    lap: Body,
-    start: Point3D,
-    rule: Rule,
+    lap: StartedLap,
+    rule: FitRule,
     room: &mut LapRoom,
     out: &mut [u8],
     to: usize,
 ) -> usize
-    requires { ((+0 ≺ rule.tolerance) ≡ true) × (lap.count ≤ most_commands) × (most_lap rule.tolerance start (commands_at lap.bytes.now lap.at lap.count) ≤ most_commands) × (to + 73 * length (fit_lap rule start (commands_at lap.bytes.now lap.at lap.count)) ≤ length out.old) }
-    ensures { PutLap (fit_lap rule start (commands_at lap.entry.bytes.now lap.entry.at lap.entry.count)) out.old out.new to result }
+    requires { (most_lap rule.rule.tolerance lap.start (commands_at lap.body.bytes.now lap.body.at lap.body.count) ≤ most_commands) × (to + 73 * length (fit_lap rule.rule lap.start (commands_at lap.body.bytes.now lap.body.at lap.body.count)) ≤ length out.old) }
+    ensures { PutLap (fit_lap rule.rule lap.entry.start (commands_at lap.entry.body.bytes.now lap.entry.body.at lap.entry.body.count)) out.old out.new to result }
 {
-    read_commands(lap, &mut room.kinds, &mut room.nums);
-    let n = lap.count;
+    read_commands(lap.body, &mut room.kinds, &mut room.nums);
+    let n = lap.body.count;
     let m = 9 * n;
     let read = Commands {
         kinds: &room.kinds[..n],
         nums: &room.nums[..m],
     };
-    fit_lent(read, start, rule, &mut room.fit, out, to)
+    fit_lent(read, lap.start, rule, &mut room.fit, out, to)
 }
 
 // Writes the fit of a file, the mark first, and returns how many bytes it has.
-fn fit_laps(file: LapFile, rule: Rule, out: &mut [u8]) -> usize
-    requires { ((+0 ≺ rule.tolerance) ≡ true) × (laps_most rule.tolerance origin (laps_of file.bytes.now) ≤ 800) × (file_size (lap_count file.bytes.now) (laps_most rule.tolerance origin (laps_of file.bytes.now)) ≤ length out.old) }
-    ensures { (result ≡ length (encode (fit_laps rule origin (laps_of file.entry.bytes.now)))) × (out.new ≡ encode (fit_laps rule origin (laps_of file.entry.bytes.now)) ++ drop (length (encode (fit_laps rule origin (laps_of file.entry.bytes.now)))) out.old) }
+fn fit_laps(file: LapFile, rule: FitRule, out: &mut [u8]) -> usize
+    requires { (laps_most rule.rule.tolerance origin (laps_of file.bytes.now) ≤ 800) × (file_size (lap_count file.bytes.now) (laps_most rule.rule.tolerance origin (laps_of file.bytes.now)) ≤ length out.old) }
+    ensures { (result ≡ length (encode (fit_laps rule.rule origin (laps_of file.entry.bytes.now)))) × (out.new ≡ encode (fit_laps rule.rule origin (laps_of file.entry.bytes.now)) ++ drop (length (encode (fit_laps rule.rule origin (laps_of file.entry.bytes.now)))) out.old) }
 {
     let mut room = LapRoom::new();
     let l = file.lap_count();
@@ -189,10 +196,10 @@ fn fit_laps(file: LapFile, rule: Rule, out: &mut [u8]) -> usize
     let mut to = 8 + 8 * l;
     let mut start = Point3D::ZERO;
     for j in 0..l {
-        let lap = file.lap(j);
-        let n = fit_lap(lap, start, rule, &mut room, out, to);
+        let body = file.lap(j);
+        let n = fit_lap(StartedLap { body, start }, rule, &mut room, out, to);
         put_entry(out, j, to, n);
-        start = lap_end(lap, start);
+        start = lap_end(body, start);
         to += COMMAND_BYTES * n;
     }
     to
@@ -216,10 +223,11 @@ fn fit_by(rule: Rule, recorded: &[u8], out: &mut [u8]) -> Result<usize, Refusal>
     ensures { Wrote (λ (bytes : List ℕ). bytes) (fit_file_by rule recorded.now (length out.old)) out.old out.new result }
 {
     let file = check_fit(recorded, rule.tolerance, out.len())?;
-    Ok(fit_laps(file, rule, out))
+    Ok(fit_laps(file, FitRule { rule }, out))
 }
 
 // The fit of a file: as `fit_arcs` fits each lap.
+// Its parameters, as those of `fit_hills`, are those of C's call; from the check on there is a file.
 pub fn fit_file(recorded: &[u8], tolerance: f64, out: &mut [u8]) -> Result<usize, Refusal>
     ensures { Wrote (λ (bytes : List ℕ). bytes) (fit_file recorded.now tolerance (length out.old)) out.old out.new result }
 {

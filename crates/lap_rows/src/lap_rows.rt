@@ -15,80 +15,75 @@ ghost use Rattle.lap_text.specs.Left.{TextPut};
 
 use chain::chain::Walk;
 use course::course::fit_course_with_steps;
-use file::command::{Body, read_commands};
+use file::command::read_commands;
 use geo::domain::is_tolerance;
 use geo::refusal::Refusal;
 use geo::types::Point3D;
-use lap_fit::fit::{lap_end, most_of};
+use lap_fit::fit::{LapRoom, StartedLap, lap_end, most_of};
 use lap_text::bytes;
 use lap_text::text::{Added, put_rows, put_total};
 use laps::lap_file::{LapFile, check_file};
 use pieces::pieces::Rule;
+use ranges::ranges::FitRule;
 
-// The arrays that a listing works in: for the commands of a lap, for a chain, and for the rows of the fit. They are filled once, and
-// lent for each lap.
+// The arrays that a listing works in: those of a fit, and one for the steps that each command of it covers.
 #[derive(Drop)]
 struct ListRoom {
-    kinds: [u8; Walk::MOST],
-    nums: [f64; Walk::NUMBERS],
-    chain: [f64; Walk::CHAIN],
-    row_kinds: [u8; Walk::MOST],
-    row_nums: [f64; Walk::NUMBERS],
-    row_steps: [u32; Walk::MOST],
+    lap: LapRoom,
+    steps: [u32; Walk::MOST],
 }
 
 impl ListRoom {
     fn new() -> Self {
         Self {
-            kinds: [0; Walk::MOST],
-            nums: [0.0; Walk::NUMBERS],
-            chain: [0.0; Walk::CHAIN],
-            row_kinds: [0; Walk::MOST],
-            row_nums: [0.0; Walk::NUMBERS],
-            row_steps: [0; Walk::MOST],
+            lap: LapRoom::new(),
+            steps: [0; Walk::MOST],
         }
     }
 }
 
 // Lists the commands of a lap with its start, and answers how many rows they have: they are fitted, and beside each command stands
 // how many steps it covers.
-fn list_commands(lap: Body, start: Point3D, tolerance: f64, room: &mut ListRoom) -> usize
-    requires { ((+0 ≺ tolerance) ≡ true) × (lap.count ≤ most_commands) × (most_lap tolerance start (commands_at lap.bytes.now lap.at lap.count) ≤ most_commands) }
+fn list_commands(lap: StartedLap, tolerance: f64, room: &mut ListRoom) -> usize
+    requires { ((+0 ≺ tolerance) ≡ true) × (most_lap tolerance lap.start (commands_at lap.body.bytes.now lap.body.at lap.body.count) ≤ most_commands) }
     // What the other arrays hold at exit is left open.
-    ensures { RowsPlaced (lap_rows tolerance start (commands_at lap.entry.bytes.now lap.entry.at lap.entry.count)) result room.old.row_kinds room.new.row_kinds room.old.row_steps room.new.row_steps }
+    // An array two structs deep does not tell its length by itself.
+    ensures long { length room.new.lap.fit.kinds ≡ most_commands }
+    ensures rows { RowsPlaced (lap_rows tolerance lap.entry.start (commands_at lap.entry.body.bytes.now lap.entry.body.at lap.entry.body.count)) result room.old.lap.fit.kinds room.new.lap.fit.kinds room.old.steps room.new.steps }
 {
-    read_commands(lap, &mut room.kinds, &mut room.nums);
-    let n = lap.count;
+    read_commands(lap.body, &mut room.lap.kinds, &mut room.lap.nums);
+    let n = lap.body.count;
     let m = 9 * n;
-    let rule = Rule::of_laps(tolerance);
+    let rule = FitRule {
+        rule: Rule::of_laps(tolerance),
+    };
     fit_course_with_steps(
-        &room.kinds[..n],
-        &room.nums[..m],
-        start,
+        &room.lap.kinds[..n],
+        &room.lap.nums[..m],
+        lap.start,
         rule,
-        &mut room.chain,
-        &mut room.row_kinds,
-        &mut room.row_nums,
-        &mut room.row_steps,
+        &mut room.lap.fit.chain,
+        &mut room.lap.fit.kinds,
+        &mut room.lap.fit.nums,
+        &mut room.steps,
     )
 }
 
 // Writes the text of one lap, of this number and with its start, from `to` on.
 fn put_lap(
-    lap: Body,
+    lap: StartedLap,
     number: usize,
-    start: Point3D,
     tolerance: f64,
     room: &mut ListRoom,
     out: &mut [u8],
     to: usize,
 ) -> Added
-    requires { ((+0 ≺ tolerance) ≡ true) × (lap.count ≤ most_commands) × (number < 100) × (most_lap tolerance start (commands_at lap.bytes.now lap.at lap.count) ≤ most_commands) × (to + 9 * most_lap tolerance start (commands_at lap.bytes.now lap.at lap.count) ≤ length out.old) }
-    ensures text { TextPut (lap_text tolerance number start (commands_at lap.entry.bytes.now lap.entry.at lap.entry.count)) out.old out.new to result.end }
-    ensures sum { result.steps ≡ lap_steps tolerance start (commands_at lap.entry.bytes.now lap.entry.at lap.entry.count) }
+    requires { ((+0 ≺ tolerance) ≡ true) × (number < 100) × (most_lap tolerance lap.start (commands_at lap.body.bytes.now lap.body.at lap.body.count) ≤ most_commands) × (to + 9 * most_lap tolerance lap.start (commands_at lap.body.bytes.now lap.body.at lap.body.count) ≤ length out.old) }
+    ensures text { TextPut (lap_text tolerance number lap.entry.start (commands_at lap.entry.body.bytes.now lap.entry.body.at lap.entry.body.count)) out.old out.new to result.end }
+    ensures sum { result.steps ≡ lap_steps tolerance lap.entry.start (commands_at lap.entry.body.bytes.now lap.entry.body.at lap.entry.body.count) }
 {
-    let n = list_commands(lap, start, tolerance, room);
-    put_rows(&room.row_kinds[..n], &room.row_steps[..n], number, out, to)
+    let n = list_commands(lap, tolerance, room);
+    put_rows(&room.lap.fit.kinds[..n], &room.steps[..n], number, out, to)
 }
 
 // Writes the listing's text, which is its first line, the rows of each lap and the sum of their steps, and answers how many
@@ -102,11 +97,12 @@ fn list_laps(file: LapFile, tolerance: f64, out: &mut [u8]) -> usize
     let mut total = 0;
     let mut start = Point3D::ZERO;
     for j in 0..file.lap_count() {
-        let lap = file.lap(j);
-        let added = put_lap(lap, j + 1, start, tolerance, &mut room, out, to);
+        let body = file.lap(j);
+        let lap = StartedLap { body, start };
+        let added = put_lap(lap, j + 1, tolerance, &mut room, out, to);
         to = added.end;
         total += added.steps;
-        start = lap_end(lap, start);
+        start = lap_end(body, start);
     }
     put_total(out, to, total)
 }

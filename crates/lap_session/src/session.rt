@@ -10,12 +10,15 @@ ghost use Rattle.lap_session.specs.Session.{begun, ask_rows, ask_lap, Answers, r
 
 use file::command::COMMAND_BYTES;
 use geo::refusal::Refusal;
-use lap_checks::checks::{Files, Found, check_laps, check_tables, look_at_new};
+use lap_checks::checks::{
+    Files, Found, LentFiles, Replacement, check_laps, check_tables, look_at_new,
+};
 use lap_swap::swap::{Part, fit_both, next_of, put_part, with_others};
 use laps::lap_file::{
     Finite, Fitted, LapFile, MOST_COMMANDS, Test, check_sizes, commands_pass, lap_passes,
 };
 use pieces::pieces::Rule;
+use ranges::ranges::FitRule;
 
 // A session: how many commits it accepted.
 #[derive(Clone, Copy)]
@@ -47,19 +50,11 @@ impl Session {
 }
 
 // The first row that an asking falls under, or what is found of it.
-fn check_asking<'a>(
-    s: &'a [u8],
-    f: &'a [u8],
-    k: usize,
-    kinds: &'a [u8],
-    nums: &'a [f64],
-    tolerance: f64,
-    room: usize,
-) -> Result<Found<'a>, Refusal>
-    ensures row { refused_by result ≡ refusal (ask_rows s.now f.now k (lent_new tolerance (laps_of s.now) k kinds.now nums.now) tolerance room) }
-    ensures same { IfOk result (λ found. (found.files.recorded.bytes.now ≡ s.now) × (found.files.fitted.bytes.now ≡ f.now) × (found.commands.kinds.now ≡ kinds.now) × (found.commands.nums.now ≡ nums.now)) }
+fn check_asking<'a>(given: Replacement<'a>, room: usize) -> Result<Found<'a>, Refusal>
+    ensures row { refused_by result ≡ refusal (ask_rows given.entry.files.recorded.now given.entry.files.fitted.now given.entry.lap (lent_new given.entry.tolerance (laps_of given.entry.files.recorded.now) given.entry.lap given.entry.kinds.now given.entry.nums.now) given.entry.tolerance room) }
+    ensures same { IfOk result (λ found. (found.files.recorded.bytes.now ≡ given.entry.files.recorded.now) × (found.files.fitted.bytes.now ≡ given.entry.files.fitted.now) × (found.commands.kinds.now ≡ given.entry.kinds.now) × (found.commands.nums.now ≡ given.entry.nums.now)) }
 {
-    let found = look_at_new(s, f, k, kinds, nums, tolerance)?;
+    let found = look_at_new(given)?;
     if MOST_COMMANDS < found.all {
         return Err(Refusal::TooMuch);
     }
@@ -71,6 +66,7 @@ fn check_asking<'a>(
 
 // Fits lap number `lap` as a replacement by the new commands would, and the next lap where that would be fitted again, to the front of the
 // buffer, in the bytes of a file. A refusal changes nothing.
+// The parameters are those of C's call; from the check on there are files and commands.
 pub fn ask_lap(
     recorded: &[u8],
     fitted: &[u8],
@@ -83,8 +79,17 @@ pub fn ask_lap(
 ) -> Result<Ticket, Refusal>
     ensures { Answers (ask_lap recorded.now fitted.now session lap kinds.now nums.now tolerance (length buffer.old)) buffer.old buffer.new result }
 {
-    let found = check_asking(recorded, fitted, lap, kinds, nums, tolerance, buffer.len())?;
-    let rule = Rule::of_laps(tolerance);
+    let given = Replacement {
+        files: LentFiles { recorded, fitted },
+        lap,
+        kinds,
+        nums,
+        tolerance,
+    };
+    let found = check_asking(given, buffer.len())?;
+    let rule = FitRule {
+        rule: Rule::of_laps(tolerance),
+    };
     let fit = fit_both(found.files.recorded, lap, found.commands, rule, buffer);
     Ok(Ticket {
         lap,
@@ -141,16 +146,15 @@ struct Commit<'a> {
 
 // The first of the rows 1 to 7 that a commit falls under, or what it stores.
 fn check_part<'a>(
-    s: &'a [u8],
-    f: &'a [u8],
+    lent: LentFiles<'a>,
     ticket: Ticket,
     part: &'a [u8],
 ) -> Result<Commit<'a>, Refusal>
-    ensures row { refused_by result ≡ refusal (new_rows s.now f.now ticket.lap (part_new ticket (laps_of s.now) part.now) ticket.tolerance) }
-    ensures same { IfOk result (λ commit. (commit.files.recorded.bytes.now ≡ s.now) × (commit.files.fitted.bytes.now ≡ f.now) × (commit.part.bytes.now ≡ part.now) × (commit.part.count ≡ ticket.count) × (commit.part.next ≡ ticket.next)) }
+    ensures row { refused_by result ≡ refusal (new_rows lent.entry.recorded.now lent.entry.fitted.now ticket.lap (part_new ticket (laps_of lent.entry.recorded.now) part.now) ticket.tolerance) }
+    ensures same { IfOk result (λ commit. (commit.files.recorded.bytes.now ≡ lent.entry.recorded.now) × (commit.files.fitted.bytes.now ≡ lent.entry.fitted.now) × (commit.part.bytes.now ≡ part.now) × (commit.part.count ≡ ticket.count) × (commit.part.next ≡ ticket.next)) }
 {
     let all = part.len() / COMMAND_BYTES;
-    let files = check_tables(s, f, part.len() % COMMAND_BYTES == 0, all <= MOST_COMMANDS)?;
+    let files = check_tables(lent, part.len() % COMMAND_BYTES == 0, all <= MOST_COMMANDS)?;
     let k = ticket.lap;
     if !counts_agree(files.recorded, k, all, ticket.count, ticket.next) {
         return Err(Refusal::BadFile);
@@ -170,13 +174,12 @@ fn check_part<'a>(
 fn check_commit<'a>(
     ticket: Ticket,
     session: Session,
-    s: &'a [u8],
-    f: &'a [u8],
+    lent: LentFiles<'a>,
     part: &'a [u8],
     room: usize,
 ) -> Result<Commit<'a>, Refusal>
-    ensures row { refused_by result ≡ refusal (commit_rows ticket session s.now f.now part.now room) }
-    ensures same { IfOk result (λ commit. (commit.files.recorded.bytes.now ≡ s.now) × (commit.files.fitted.bytes.now ≡ f.now) × (commit.part.bytes.now ≡ part.now) × (commit.part.count ≡ ticket.count) × (commit.part.next ≡ ticket.next)) }
+    ensures row { refused_by result ≡ refusal (commit_rows ticket session lent.entry.recorded.now lent.entry.fitted.now part.now room) }
+    ensures same { IfOk result (λ commit. (commit.files.recorded.bytes.now ≡ lent.entry.recorded.now) × (commit.files.fitted.bytes.now ≡ lent.entry.fitted.now) × (commit.part.bytes.now ≡ part.now) × (commit.part.count ≡ ticket.count) × (commit.part.next ≡ ticket.next)) }
 {
     if ticket.edit != session.edits {
         return Err(Refusal::OldTicket);
@@ -184,7 +187,7 @@ fn check_commit<'a>(
     if session.edits >= Session::MOST {
         return Err(Refusal::FullSession);
     }
-    let commit = check_part(s, f, ticket, part)?;
+    let commit = check_part(lent, ticket, part)?;
     let files = commit.files;
     let all = part.len() / COMMAND_BYTES;
     let most = with_others(files.recorded, files.fitted, ticket.lap, all);
@@ -194,6 +197,7 @@ fn check_commit<'a>(
 
 // Writes the fitted file with the part in the place of the laps that were fitted again, as it stands, to the front of out, and raises the
 // session's edit number. A refusal changes nothing.
+// The parameters are those of C's call; from the check on there are files and a part.
 pub fn commit_lap(
     ticket: Ticket,
     session: &mut Session,
@@ -204,7 +208,8 @@ pub fn commit_lap(
 ) -> Result<usize, Refusal>
     ensures { Commits session.old session.new (commit_lap ticket session.old recorded.now fitted.now part.now (length out.old)) out.old out.new result }
 {
-    let commit = check_commit(ticket, *session, recorded, fitted, part, out.len())?;
+    let lent = LentFiles { recorded, fitted };
+    let commit = check_commit(ticket, *session, lent, part, out.len())?;
     let files = commit.files;
     session.edits += 1;
     Ok(put_part(files.recorded, files.fitted, ticket.lap, commit.part, out))

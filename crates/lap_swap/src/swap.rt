@@ -1,8 +1,7 @@
 // A fitted file with one lap replaced and, where it lacks its Move, the next one fitted again: where the new commands start, both fits, what
 // they could become at most, and the file with them.
-ghost use Rattle.std.specs.Prelude.{◌≡◌, true, ◌&&◌, [], ◌++◌, ◌+◌, ◌*◌, ◌≤◌, eqb, length, drop, if◌then◌else◌, IfSome};
+ghost use Rattle.std.specs.Prelude.{◌≡◌, ◌&&◌, [], ◌++◌, ◌+◌, ◌*◌, ◌≤◌, eqb, length, drop, if◌then◌else◌, IfSome};
 ghost use Rattle.std.specs.Option.{is_some};
-ghost use Rattle.floats.specs.Ops.{◌≺◌, +0};
 ghost use Rattle.file.specs.Command.{commands_at};
 ghost use Rattle.course.specs.Course.{lent_course};
 ghost use Rattle.chain.specs.Chains.{cap};
@@ -15,9 +14,9 @@ use course::course::{add_capped, course_end, course_most};
 use file::command::{Body, COMMAND_BYTES};
 use geo::lists::Commands;
 use geo::types::Point3D;
-use lap_fit::fit::{LapRoom, fit_commands, fit_lap, lap_end, most_lap};
+use lap_fit::fit::{LapRoom, StartedLap, fit_commands, fit_lap, lap_end, most_lap};
 use laps::lap_file::{LapFile, lacks_move, put_entry, put_head};
-use pieces::pieces::Rule;
+use ranges::ranges::FitRule;
 
 // Copies the commands of a lap as they stand.
 fn copy_lap(lap: Body, out: &mut [u8], to: usize)
@@ -25,9 +24,7 @@ fn copy_lap(lap: Body, out: &mut [u8], to: usize)
     ensures { PutLap (commands_at lap.entry.bytes.now lap.entry.at lap.entry.count) out.old out.new to lap.entry.count }
 {
     let w = COMMAND_BYTES * lap.count;
-    for i in 0..w {
-        out[to + i] = lap.bytes[lap.at + i];
-    }
+    out[to..to + w].copy_from_slice(&lap.bytes[lap.at..lap.at + w]);
 }
 
 // Whether lap number j is the one behind lap k, where that is replaced too.
@@ -97,14 +94,14 @@ pub fn next_of<'a>(file: LapFile<'a>, k: usize) -> Option<Body<'a>>
 
 // Writes the fit of a recorded lap with its start, if there is one, from `to` on, by way of arrays of its own, and returns how many commands
 // it has. Where there is none, no array is filled.
-fn fit_next(next: Option<Body>, start: Point3D, rule: Rule, out: &mut [u8], to: usize) -> usize
-    requires { ((+0 ≺ rule.tolerance) ≡ true) × IfSome next (λ lap. lap.count ≤ 800) × (most_lap rule.tolerance start (commands_of next) ≤ 800) × (to + 73 * length (fit_lap rule start (commands_of next)) ≤ length out.old) }
-    ensures { PutLap (fit_lap rule start (commands_of next.entry)) out.old out.new to result }
+fn fit_next(next: Option<Body>, start: Point3D, rule: FitRule, out: &mut [u8], to: usize) -> usize
+    requires { IfSome next (λ lap. lap.count ≤ 800) × (most_lap rule.rule.tolerance start (commands_of next) ≤ 800) × (to + 73 * length (fit_lap rule.rule start (commands_of next)) ≤ length out.old) }
+    ensures { PutLap (fit_lap rule.rule start (commands_of next.entry)) out.old out.new to result }
 {
     match next {
-        Some(lap) => {
+        Some(body) => {
             let mut room = LapRoom::new();
-            fit_lap(lap, start, rule, &mut room, out, to)
+            fit_lap(StartedLap { body, start }, rule, &mut room, out, to)
         }
         None => 0,
     }
@@ -154,11 +151,11 @@ pub fn fit_both(
     recorded: LapFile,
     k: usize,
     commands: Commands,
-    rule: Rule,
+    rule: FitRule,
     buffer: &mut [u8],
 ) -> Refit
-    requires { ((+0 ≺ rule.tolerance) ≡ true) × (1 ≤ k) × (k ≤ lap_count recorded.bytes.now) × (most_both rule.tolerance (laps_of recorded.bytes.now) k (lent_course commands.kinds.now commands.nums.now) ≤ 800) × (73 * most_both rule.tolerance (laps_of recorded.bytes.now) k (lent_course commands.kinds.now commands.nums.now) ≤ length buffer.old) }
-    ensures { PutBoth (new_fit rule (laps_of recorded.entry.bytes.now) k commands.entry.kinds.now commands.entry.nums.now) (next_fit rule (laps_of recorded.entry.bytes.now) k commands.entry.kinds.now commands.entry.nums.now) buffer.old buffer.new result.count result.next }
+    requires { (1 ≤ k) × (k ≤ lap_count recorded.bytes.now) × (most_both rule.rule.tolerance (laps_of recorded.bytes.now) k (lent_course commands.kinds.now commands.nums.now) ≤ 800) × (73 * most_both rule.rule.tolerance (laps_of recorded.bytes.now) k (lent_course commands.kinds.now commands.nums.now) ≤ length buffer.old) }
+    ensures { PutBoth (new_fit rule.rule (laps_of recorded.entry.bytes.now) k commands.entry.kinds.now commands.entry.nums.now) (next_fit rule.rule (laps_of recorded.entry.bytes.now) k commands.entry.kinds.now commands.entry.nums.now) buffer.old buffer.new result.count result.next }
 {
     let start = start_of(recorded, k);
     let lap = next_of(recorded, k);
@@ -218,7 +215,7 @@ fn most_next(next: Option<Body>, start: Point3D, tolerance: f64) -> usize
     ensures { result ≡ cap (most_lap tolerance start (commands_of next.entry)) }
 {
     match next {
-        Some(lap) => most_lap(lap, start, tolerance),
+        Some(body) => most_lap(StartedLap { body, start }, tolerance),
         None => 0,
     }
 }

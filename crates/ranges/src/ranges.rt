@@ -65,12 +65,18 @@ impl Stand {
     }
 }
 
+// The rule of a fit: its tolerance lies above 0, so that a Line passes whose deviation is 0. A `Rule` is made of any tolerance.
+#[derive(Clone, Copy)]
+pub struct FitRule {
+    pub rule: Rule,
+    ghost positive: { (+0 ≺ rule.tolerance) ≡ true },
+}
+
 // What a fit is asked: by which rule, and the points of a list.
 #[derive(Clone, Copy)]
 struct Fit<'a> {
-    rule: Rule,
+    rule: FitRule,
     route: Stretch<'a>,
-    ghost positive: { (+0 ≺ rule.tolerance) ≡ true },
     ghost some: { route.start < route.end },
     ghost few: { route.end < most_points },
 }
@@ -102,9 +108,9 @@ impl<'a> Sheet<'a> {
     fn fit_next(&mut self, fit: &Fit, w: Stand, ends: &mut [u16]) -> Stand
         requires { (w.lo < w.hi) × (w.hi ≤ fit.now.route.end) × (w.waiting < length ends.old) × (w.place < length self.old.kinds.now) × (9 * w.place + 8 < length self.old.nums.now) }
         ensures lent { Lent self.old self.new }
-        ensures looked { Looked fit.now.rule (point_at fit.now.route.points.now) w result ends.old ends.new self.old self.new }
+        ensures looked { Looked fit.now.rule.rule (point_at fit.now.route.points.now) w result ends.old ends.new self.old self.new }
     {
-        let rule = fit.rule;
+        let rule = fit.rule.rule;
         let part = Stretch {
             points: fit.route.points,
             start: w.lo,
@@ -132,7 +138,7 @@ impl<'a> Sheet<'a> {
         requires { (fit.now.route.end - fit.now.route.start ≤ length ends.old) × (at + (fit.now.route.end - fit.now.route.start) ≤ length self.old.kinds.now) × (9 * (at + (fit.now.route.end - fit.now.route.start)) ≤ length self.old.nums.now) }
         // The ends are lent as room to work in: what they hold at exit is left open.
         ensures lent { Lent self.old self.new }
-        ensures wrote { Placed (noted_in fit.now.rule (point_at fit.now.route.points.now) fit.now.route.start fit.now.route.end) at result self.old self.new }
+        ensures wrote { Placed (noted_in fit.now.rule.rule (point_at fit.now.route.points.now) fit.now.route.start fit.now.route.end) at result self.old self.new }
     {
         let mut w = Stand {
             lo: fit.route.start,
@@ -148,17 +154,18 @@ impl<'a> Sheet<'a> {
 }
 
 // Writes the commands for the points of a stretch, from place `at` on, and answers how many they are. Few points wait in a small
-// array, which is filled sooner than a large one.
+// array, which is filled sooner than a large one. The outputs are parameters here and below, and no `Sheet`: its room would be asked all the
+// same, and each contract would say besides that its three slices stay the ones that were lent.
 pub fn fit_range(
-    rule: Rule,
+    rule: FitRule,
     route: Stretch,
     kinds: &mut [u8],
     nums: &mut [f64],
     notes: &mut [u32],
     at: usize,
 ) -> usize
-    requires { ((+0 ≺ rule.tolerance) ≡ true) × ((route.start < route.end) × (route.end < most_points) × (at + (route.end - route.start) ≤ length kinds.old) × (9 * (at + (route.end - route.start)) ≤ length nums.old)) }
-    ensures { NotedPlaced (noted_in rule (point_at route.entry.points.now) route.entry.start route.entry.end) at result kinds.old kinds.new nums.old nums.new notes.old notes.new }
+    requires { (route.start < route.end) × (route.end < most_points) × (at + (route.end - route.start) ≤ length kinds.old) × (9 * (at + (route.end - route.start)) ≤ length nums.old) }
+    ensures { NotedPlaced (noted_in rule.rule (point_at route.entry.points.now) route.entry.start route.entry.end) at result kinds.old kinds.new nums.old nums.new notes.old notes.new }
 {
     let fit = Fit { rule, route };
     let mut sheet = Sheet { kinds, nums, notes };
@@ -172,22 +179,23 @@ pub fn fit_range(
 
 // Fits a chain: it is thinned in place, and what is kept is fitted. A course of at most 800 commands has no longer chain than 801 points.
 pub fn flush_chain(
-    rule: Rule,
+    rule: FitRule,
     chain: &mut [f64],
     kinds: &mut [u8],
     nums: &mut [f64],
     notes: &mut [u32],
     at: usize,
 ) -> usize
-    requires { ((+0 ≺ rule.tolerance) ≡ true) × ((length chain.old / 3 ≤ 801) × (at + (length chain.old / 3 - 1) ≤ length kinds.old) × (9 * (at + (length chain.old / 3 - 1)) ≤ length nums.old)) }
+    requires { (length chain.old / 3 ≤ 801) × (at + (length chain.old / 3 - 1) ≤ length kinds.old) × (9 * (at + (length chain.old / 3 - 1)) ≤ length nums.old) }
     // The chain is lent as room to work in: what it holds at exit is left open.
-    ensures { NotedPlaced (chain_noted rule chain.old) at result kinds.old kinds.new nums.old nums.new notes.old notes.new }
+    ensures { NotedPlaced (chain_noted rule.rule chain.old) at result kinds.old kinds.new nums.old nums.new notes.old notes.new }
 {
     let n = chain.len() / 3;
     if n < 2 {
         return 0;
     }
-    let k = thin_in_place(rule.ruler, chain, rule.tolerance * rule.tolerance);
+    let limit = rule.rule.tolerance * rule.rule.tolerance;
+    let k = thin_in_place(rule.rule.ruler, chain, limit);
     let kept = Stretch {
         points: &chain[..3 * k],
         start: 0,

@@ -25,7 +25,12 @@ fit_range-requires c = let a = c.args in
     let f = r.few in
     let k = r.room-kinds in
     let m = r.room-numbers in
-    (rw c.of_points.ensures r.above_zero, (c.if-end-start.false, omega arith, omega arith, omega arith))
+    (c.if-end-start.false, omega arith, omega arith, omega arith)
+
+pub invariant_of-rule : goal.invariant_of-rule
+invariant_of-rule c = let a = c.args in
+    let r = fit-accepted a.points.now a.tolerance a.start a.end (length a.kinds.now) (length a.nums.now) (length a.worst.now) c.in_ok-check_fit.ensures in
+    record { positive = rw c.of_points.ensures r.above_zero }
 
 pub invariant_of-route : goal.invariant_of-route
 invariant_of-route c = let a = c.args in

@@ -5,7 +5,6 @@ use mathlib.Core.Path.{◌≡◌, refl, ap, ◌∙◌}
 use mathlib.Core.Bool.{Bool, true, false, ◌&&◌, ◌||◌}
 use borrow.Author.Tests.{eq-eqb, ne_eqb}
 use lib.Dec.{eqb}
-use native.Mathlib.Omega.{arith}
 use lib.ListN.{length, get_or}
 use Rattle.geo.proofs.Every.{every_start, every_step, every_stop, every_done}
 use Rattle.laps.specs.File.{placed}
@@ -32,19 +31,10 @@ loop-i-init c = let a = c.args in
     let m : c.if-must.moved ≡ (a.must || eqb (get_or a.kinds.now 0 0) 0) = elim c.if-must.branch [ then-must w ↦ first_holds _ _ _ w.if-must.true w.moved-is | else-must w ↦ first_fails _ _ _ w.if-must.false w.moved-is ] in
     rw m (every_start _ (length a.kinds.now) _ refl)
 
-pub bounds-kinds-i : goal.bounds-kinds-i
-bounds-kinds-i c = omega arith
-
 pub returns-then-not-is_placed : goal.returns-then-not-is_placed
 returns-then-not-is_placed c = let a = c.args in
     let v : c.if-i-eq0.first ≡ (eqb c.loop-i.i 0 && c.if-must.moved) = elim c.if-i-eq0.branch [ then-i-eq0 w ↦ is_first _ _ _ w.if-i-eq0.true w.first-is | else-i-eq0 w ↦ not_first _ _ _ w.if-i-eq0.false w.first-is ] in
     every_stop _ (length a.kinds.now) _ _ _ c.loop-i-test.true (c.is_placed.ensures ∙ ap (λ (t : Bool). placed t (get_or a.kinds.now c.loop-i.i 0)) v) (ap not c.if-not-is_placed.true) c.loop-i.invariant
-
-pub overflow_step-i : goal.overflow_step-i
-overflow_step-i c = omega arith
-
-pub loop-i-smaller : goal.loop-i-smaller
-loop-i-smaller c = omega arith
 
 pub loop-i-preserved : goal.loop-i-preserved
 loop-i-preserved c = let a = c.args in

@@ -11,9 +11,13 @@ pub returns-in_err-file : goal.returns-in_err-file
 unfolding fit_file_by
 returns-in_err-file c = wrote-refused _ _ c.in_err-file.ensures.row _ _ _ _ (search rules)
 
+pub invariant_of-fit_laps : goal.invariant_of-fit_laps
+invariant_of-fit_laps c = let a = c.args in
+    record { positive = tolerance-positive a.rule.tolerance (fit_passed a.recorded.now a.rule.tolerance _ c.in_ok-file.ensures.row).within }
+
 pub fit_laps-requires : goal.fit_laps-requires
 fit_laps-requires c = let a = c.args in let p = fit_passed a.recorded.now a.rule.tolerance _ c.in_ok-file.ensures.row in
-    rw c.in_ok-file.ensures.same (tolerance-positive a.rule.tolerance p.within, p.few, p.space)
+    rw c.in_ok-file.ensures.same (p.few, p.space)
 
 pub returns : goal.returns
 unfolding fit_file_by

@@ -8,5 +8,5 @@ use Rattle.lap_fit.specs.Fit.{fit_laps, laps_most}
 use Rattle.lap_fit.proofs.fit.fit_laps.Given as goal
 
 abbrev pub invariant-loop-j : goal.invariant-loop-j
-invariant-loop-j l = (laps_most l.rule.tolerance l.start (drop l.j (laps_of l.file.bytes.now)) ≤ 800)
-    × Going l.initial.out l.out l.l l.j l.to (fit_laps l.rule l.start (drop l.j (laps_of l.file.bytes.now))) (fit_laps l.rule origin (laps_of l.file.bytes.now))
+invariant-loop-j l = (laps_most l.rule.rule.tolerance l.start (drop l.j (laps_of l.file.bytes.now)) ≤ 800)
+    × Going l.initial.out l.out l.l l.j l.to (fit_laps l.rule.rule l.start (drop l.j (laps_of l.file.bytes.now))) (fit_laps l.rule.rule origin (laps_of l.file.bytes.now))

@@ -9,4 +9,4 @@ use Rattle.lap_fit.proofs.fit.most_lap.Given as goal
 
 abbrev pub invariant-loop-i : goal.invariant-loop-i
 invariant-loop-i l = (l.most ≤ 801)
-    × (cap (l.most + weights l.tolerance l.lap.bytes.now (lap_end l.start (commands_at l.lap.bytes.now l.lap.at l.i)) (l.lap.at + 73 * l.i) (l.lap.count - l.i)) ≡ cap (most_lap l.tolerance l.start (commands_at l.lap.bytes.now l.lap.at l.lap.count)))
+    × (cap (l.most + weights l.tolerance l.lap.body.bytes.now (lap_end l.lap.start (commands_at l.lap.body.bytes.now l.lap.body.at l.i)) (l.lap.body.at + 73 * l.i) (l.lap.body.count - l.i)) ≡ cap (most_lap l.tolerance l.lap.start (commands_at l.lap.body.bytes.now l.lap.body.at l.lap.body.count)))

@@ -13,10 +13,14 @@ pub returns-in_err-found : goal.returns-in_err-found
 unfolding replace_lap
 returns-in_err-found c = wrote-refused _ _ c.in_err-found.ensures.row _ _ _ _ (search rules)
 
+pub invariant_of-rule : goal.invariant_of-rule
+invariant_of-rule c = let a = c.args in let p = replace_passed a.recorded.now a.fitted.now a.lap (lent_new a.tolerance (laps_of a.recorded.now) a.lap a.kinds.now a.nums.now) a.tolerance _ c.in_ok-found.ensures.row in
+    record { positive = rw c.of_laps.ensures (tolerance-positive a.tolerance p.0.p6) }
+
 pub replace_laps-requires : goal.replace_laps-requires
 replace_laps-requires c = let a = c.args in let e = c.in_ok-found.ensures.same in let p = replace_passed a.recorded.now a.fitted.now a.lap (lent_new a.tolerance (laps_of a.recorded.now) a.lap a.kinds.now a.nums.now) a.tolerance _ c.in_ok-found.ensures.row in
-    rw (c.of_laps-rule.ensures, e.0, e.1, e.2, e.3) (tolerance-positive a.tolerance p.0.p6, (past_7 a.lap a.recorded.now p.0.p7).0, (past_7 a.lap a.recorded.now p.0.p7).1, p.1, p.2)
+    rw (c.of_laps.ensures, e.0, e.1, e.2, e.3) ((past_7 a.lap a.recorded.now p.0.p7).0, (past_7 a.lap a.recorded.now p.0.p7).1, p.1, p.2)
 
 pub returns : goal.returns
 unfolding replace_lap
-returns c = let e = c.in_ok-found.ensures.same in wrote-bytes _ c.in_ok-found.ensures.row _ _ _ _ (rw (c.of_laps-rule.ensures, e.0, e.1, e.2, e.3) at c.replace_laps.ensures)
+returns c = let e = c.in_ok-found.ensures.same in wrote-bytes _ c.in_ok-found.ensures.row _ _ _ _ (rw (c.of_laps.ensures, e.0, e.1, e.2, e.3) at c.replace_laps.ensures)

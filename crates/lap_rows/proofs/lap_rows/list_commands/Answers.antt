@@ -9,14 +9,17 @@ use Rattle.lap_rows.specs.Listing.{lap_rows}
 use Rattle.lap_text.proofs.Lines.{placed_same}
 use Rattle.lap_rows.proofs.lap_rows.list_commands.Goals as goal
 
+pub invariant_of-rule : goal.invariant_of-rule
+invariant_of-rule c = record { positive = rw c.of_laps.ensures c.requires.0 }
+
 pub fit_course_with_steps-requires : goal.fit_course_with_steps-requires
-fit_course_with_steps-requires c = let a = c.args in let l = a.lap in let p = c.requires in let r = c.read_commands.ensures in
+fit_course_with_steps-requires c = let a = c.args in let l = a.lap.body in let p = c.requires in let r = c.read_commands.ensures in
     let x = long_kinds l.bytes.now l.at l.count _ _ _ _ (omega (arith, p)) (omega (arith, p)) r.kinds r.numbers in
     let y = long_numbers l.bytes.now l.at l.count _ _ _ _ (omega (arith, p)) (omega (arith, p)) r.kinds r.numbers in
-    let z = most-read l.bytes.now l.at l.count _ _ _ _ (omega (arith, p)) (omega (arith, p)) r.kinds r.numbers (laps_rule a.tolerance) a.start in
-    rw c.of_laps-rule.ensures (p.0, (omega arith, omega (arith, p.2), omega (arith, p.2), omega (arith, p.2), omega arith))
+    let z = most-read l.bytes.now l.at l.count _ _ _ _ (omega (arith, p)) (omega (arith, p)) r.kinds r.numbers (laps_rule a.tolerance) a.lap.start in
+    rw c.of_laps.ensures (omega arith, omega (arith, p.1), omega (arith, p.1), omega (arith, p.1))
 
-pub returns : goal.returns
+pub returns-clause-rows : goal.returns-clause-rows
 unfolding lap_rows
-returns c = let a = c.args in let l = a.lap in let p = c.requires in let r = c.read_commands.ensures in
-    placed_same _ _ _ _ _ _ _ (ap (rows_on (laps_rule a.tolerance) a.start) (read_back l.bytes.now l.at l.count _ _ _ _ (omega (arith, p)) (omega (arith, p)) r.kinds r.numbers)) (rows-placed (laps_rule a.tolerance) refl a.start _ _ _ _ _ _ _ _ (rw c.of_laps-rule.ensures at c.fit_course_with_steps.ensures))
+returns-clause-rows c = let a = c.args in let l = a.lap.body in let p = c.requires in let r = c.read_commands.ensures in
+    placed_same _ _ _ _ _ _ _ (ap (rows_on (laps_rule a.tolerance) a.lap.start) (read_back l.bytes.now l.at l.count _ _ _ _ (omega (arith, p)) (omega (arith, p)) r.kinds r.numbers)) (rows-placed (laps_rule a.tolerance) refl a.lap.start _ _ _ _ _ _ _ _ (rw c.of_laps.ensures at c.fit_course_with_steps.ensures))

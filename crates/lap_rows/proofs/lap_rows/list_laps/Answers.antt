@@ -15,15 +15,15 @@ loop-j-init c = let a = c.args in let p = c.requires in laps-start a.tolerance (
 
 pub put_lap-added-requires : goal.put_lap-added-requires
 put_lap-added-requires c = let a = c.args in let p = c.requires in let l = c.loop-j in let s = a.file.bytes.now in let n = length_laps_of s in
-    let t = turn a.tolerance (laps_of s) _ l.out l.start _ l.to l.total l.j _ l.invariant (omega arith) c.lap-lap.ensures.lap refl in (p.0, omega arith, omega arith, t.few, t.room)
+    let t = turn a.tolerance (laps_of s) _ l.out l.start _ l.to l.total l.j _ l.invariant (omega arith) c.lap-body.ensures.lap refl in (p.0, omega arith, t.few, t.room)
 
 pub overflow_add-total : goal.overflow_add-total
 overflow_add-total c = let a = c.args in let l = c.loop-j in let s = a.file.bytes.now in let n = length_laps_of s in
-    let t = turn_sum a.tolerance (laps_of s) _ l.out l.start _ l.to l.total l.j _ l.invariant (omega arith) c.lap-lap.ensures.lap refl c.requires.2 _ c.put_lap-added.ensures.sum in omega arith
+    let t = turn_sum a.tolerance (laps_of s) _ l.out l.start _ l.to l.total l.j _ l.invariant (omega arith) c.lap-body.ensures.lap refl c.requires.2 _ c.put_lap-added.ensures.sum in omega arith
 
 pub loop-j-preserved : goal.loop-j-preserved
 loop-j-preserved c = let a = c.args in let p = c.requires in let l = c.loop-j in let s = a.file.bytes.now in let n = length_laps_of s in
-    laps_step a.tolerance (laps_of s) _ l.out l.start _ l.to l.total l.j _ l.invariant (omega arith) c.lap-lap.ensures.lap c.lap_end-start.ensures p.0 (omega arith) _ _ _ c.put_lap-added.ensures.text c.put_lap-added.ensures.sum
+    laps_step a.tolerance (laps_of s) _ l.out l.start _ l.to l.total l.j _ l.invariant (omega arith) c.lap-body.ensures.lap c.lap_end-start.ensures p.0 (omega arith) _ _ _ c.put_lap-added.ensures.text c.put_lap-added.ensures.sum
 
 pub put_total-requires : goal.put_total-requires
 put_total-requires c = let a = c.args in let l = c.loop-j in let s = a.file.bytes.now in let n = length_laps_of s in

@@ -13,11 +13,15 @@ pub returns-in_err-found : goal.returns-in_err-found
 unfolding ask_lap
 returns-in_err-found c = not_asked _ _ _ _ _ c.in_err-found.ensures.row (search rules)
 
+pub invariant_of-rule : goal.invariant_of-rule
+invariant_of-rule c = let a = c.args in let p = ask_passed a.recorded.now a.fitted.now a.lap (lent_new a.tolerance (laps_of a.recorded.now) a.lap a.kinds.now a.nums.now) a.tolerance _ c.in_ok-found.ensures.row in
+    record { positive = rw c.of_laps.ensures (tolerance-positive a.tolerance p.0.p6) }
+
 pub fit_both-fit-requires : goal.fit_both-fit-requires
 unfolding most_with
 fit_both-fit-requires c = let a = c.args in let e = c.in_ok-found.ensures.same in let p = ask_passed a.recorded.now a.fitted.now a.lap (lent_new a.tolerance (laps_of a.recorded.now) a.lap a.kinds.now a.nums.now) a.tolerance _ c.in_ok-found.ensures.row in
-    rw (c.of_laps-rule.ensures, e.0, e.2, e.3) (tolerance-positive a.tolerance p.0.p6, (past_7 a.lap a.recorded.now p.0.p7).0, (past_7 a.lap a.recorded.now p.0.p7).1, omega (arith, p.1), p.2)
+    rw (c.of_laps.ensures, e.0, e.2, e.3) ((past_7 a.lap a.recorded.now p.0.p7).0, (past_7 a.lap a.recorded.now p.0.p7).1, omega (arith, p.1), p.2)
 
 pub returns : goal.returns
 unfolding ask_lap
-returns c = let a = c.args in let e = c.in_ok-found.ensures.same in is_asked _ a.session a.lap a.tolerance _ _ _ _ _ _ c.in_ok-found.ensures.row (rw (c.of_laps-rule.ensures, e.0, e.2, e.3) at c.fit_both-fit.ensures)
+returns c = let a = c.args in let e = c.in_ok-found.ensures.same in is_asked _ a.session a.lap a.tolerance _ _ _ _ _ _ c.in_ok-found.ensures.row (rw (c.of_laps.ensures, e.0, e.2, e.3) at c.fit_both-fit.ensures)

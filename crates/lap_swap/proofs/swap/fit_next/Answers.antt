@@ -3,4 +3,4 @@ use Rattle.lap_swap.proofs.Next.{put-none}
 use Rattle.lap_swap.proofs.swap.fit_next.Goals as goal
 
 pub returns-in-None : goal.returns-in-None
-returns-in-None c = let a = c.args in rw c.in-None.is (put-none a.rule a.start _ a.to)
+returns-in-None c = let a = c.args in rw c.in-None.is (put-none a.rule.rule a.start _ a.to)

@@ -7,43 +7,43 @@ use Rattle.ranges.proofs.Chain.{kept-few, kept-some, kept-fits, kept_wide, fitte
 use Rattle.ranges.proofs.ranges.flush_chain.Goals as goal
 
 pub returns-then-n-lt2 : goal.returns-then-n-lt2
-returns-then-n-lt2 c = let a = c.args in none-noted _ (no_noted a.rule a.chain.now c.if-n-lt2.true) a.at a.kinds.now a.nums.now a.notes.now
+returns-then-n-lt2 c = let a = c.args in none-noted _ (no_noted a.rule.rule a.chain.now c.if-n-lt2.true) a.at a.kinds.now a.nums.now a.notes.now
 
 pub thin_in_place-k-requires : goal.thin_in_place-k-requires
-thin_in_place-k-requires c = (square_not_negative c.args.rule.tolerance, omega (arith, c.requires))
+thin_in_place-k-requires c = (square_not_negative c.args.rule.rule.tolerance, omega (arith, c.requires))
 
 pub overflow_mul-kept : goal.overflow_mul-kept
 overflow_mul-kept c = let a = c.args in
-    let f = kept-few a.rule a.chain.now in
+    let f = kept-few a.rule.rule a.chain.now in
     let e = c.thin_in_place-k.ensures.count in omega (arith, c.requires)
 
 pub slice_bounds-kept-end : goal.slice_bounds-kept-end
-slice_bounds-kept-end c = let a = c.args in kept-fits a.rule a.chain.now _ _ _ c.thin_in_place-k.ensures (omega arith)
+slice_bounds-kept-end c = let a = c.args in kept-fits a.rule.rule a.chain.now _ _ _ c.thin_in_place-k.ensures (omega arith)
 
 pub slice_bounds-kept-end-2 : goal.slice_bounds-kept-end-2
-slice_bounds-kept-end-2 c = let a = c.args in sym (kept_wide a.rule a.chain.now _ _ _ c.thin_in_place-k.ensures (omega arith))
+slice_bounds-kept-end-2 c = let a = c.args in sym (kept_wide a.rule.rule a.chain.now _ _ _ c.thin_in_place-k.ensures (omega arith))
 
 pub overflow_sub-kept : goal.overflow_sub-kept
 overflow_sub-kept c = let a = c.args in
-    let f = kept-some a.rule a.chain.now (omega (arith, c.if-n-lt2.false)) in
+    let f = kept-some a.rule.rule a.chain.now (omega (arith, c.if-n-lt2.false)) in
     let e = c.thin_in_place-k.ensures.count in omega arith
 
 pub invariant_of-kept : goal.invariant_of-kept
 invariant_of-kept c = let a = c.args in
-    let l = kept-some a.rule a.chain.now (omega (arith, c.if-n-lt2.false)) in
+    let l = kept-some a.rule.rule a.chain.now (omega (arith, c.if-n-lt2.false)) in
     let e = c.thin_in_place-k.ensures.count in
-    let w = kept_wide a.rule a.chain.now _ _ _ c.thin_in_place-k.ensures (omega arith) in
+    let w = kept_wide a.rule.rule a.chain.now _ _ _ c.thin_in_place-k.ensures (omega arith) in
     record { start_inside = omega arith; end_inside = omega arith }
 
 pub fit_range-requires : goal.fit_range-requires
 fit_range-requires c = let a = c.args in
-    let l = kept-some a.rule a.chain.now (omega (arith, c.if-n-lt2.false)) in
-    let f = kept-few a.rule a.chain.now in
+    let l = kept-some a.rule.rule a.chain.now (omega (arith, c.if-n-lt2.false)) in
+    let f = kept-few a.rule.rule a.chain.now in
     let e = c.thin_in_place-k.ensures.count in
-    let w = kept_wide a.rule a.chain.now _ _ _ c.thin_in_place-k.ensures (omega arith) in
+    let w = kept_wide a.rule.rule a.chain.now _ _ _ c.thin_in_place-k.ensures (omega arith) in
     let p = c.requires in
-    (p.0, (omega arith, omega (arith, p.1), omega (arith, p.1), omega (arith, p.1)))
+    (omega arith, omega (arith, p), omega (arith, p), omega (arith, p))
 
 pub returns : goal.returns
 returns c = let a = c.args in
-    fitted-chain a.rule a.chain.now _ _ _ c.thin_in_place-k.ensures (omega arith) a.at _ a.kinds.now _ a.nums.now _ a.notes.now _ c.fit_range.ensures
+    fitted-chain a.rule.rule a.chain.now _ _ _ c.thin_in_place-k.ensures (omega arith) a.at _ a.kinds.now _ a.nums.now _ a.notes.now _ c.fit_range.ensures

@@ -16,16 +16,16 @@ use Rattle.chain.proofs.chain.Walker.keep.Goals.{After-flush-n}
 
 pub flush-n-requires : goal.flush-n-requires
 flush-n-requires c = let s = c.args.self.now in
-    let r = ends-room c.args.c s.at s.chain.now _ _ c.requires.1 in
-    (c.requires.0, c.requires.1.inside, omega (arith, r), omega (arith, r), omega (arith, r))
+    let r = ends-room c.args.c s.at s.chain.now _ _ c.requires in
+    (c.requires.inside, omega (arith, r), omega (arith, r), omega (arith, r))
 
 -- the room that is left behind the chain's commands
 left : (c : After-flush-n) → let w : ℕ = c.flush-n.new.self.at.written + c.flush-n.result in (w ≤ 1601) × (w + 1 ≤ length c.flush-n.new.self.kinds.now) × (9 * (w + 1) ≤ length c.flush-n.new.self.nums.now)
 left c =
     let s = c.args.self.now in
-    let r = ends-room c.args.c s.at s.chain.now _ _ c.requires.1 in
-    let l = front_length c.args.c s.at s.chain.now _ _ ends c.requires.1 in
-    let f = flushed_few c.args.how c.args.rule c.requires.0 (under_way s.at s.chain.now) in
+    let r = ends-room c.args.c s.at s.chain.now _ _ c.requires in
+    let l = front_length c.args.c s.at s.chain.now _ _ ends c.requires in
+    let f = flushed_few s.how s.rule.rule s.rule.positive (under_way s.at s.chain.now) in
     let n = count-noted _ _ _ _ _ _ _ _ _ c.flush-n.ensures.written in
     let k = placed-kinds _ _ _ _ _ _ _ _ _ c.flush-n.ensures.written in
     let m = placed-numbers _ _ _ _ _ _ _ _ _ c.flush-n.ensures.written in
@@ -44,7 +44,7 @@ overflow_add-self c = omega (arith, left (goal.at.overflow_add-self c).After-flu
 pub returns-clause-stepped : goal.returns-clause-stepped
 returns-clause-stepped c = let a = c.args in
     let s = a.self.now in
-    let b = c.requires.1.buffer in
+    let b = c.requires.buffer in
     let e : c.flush-n.new.self.at.written ≡ s.at.written = ap (λ (w : Walk). w.written) c.flush-n.ensures.stays in
     let p = subst (λ (w : ℕ). NotedPlaced (noted a.c 0 ∷ []) (w + c.flush-n.result) 1 c.flush-n.new.self.kinds.now c.put_noted.new.kinds c.flush-n.new.self.nums.now c.put_noted.new.nums c.flush-n.new.self.steps.now c.put_noted.new.notes) e c.put_noted.ensures in
-    stepped_ends (flushed_by a.how a.rule) a.c s.at s.chain.now s.kinds.now s.nums.now s.steps.now _ _ _ _ _ _ _ _ c.flush-n.ensures.same.buffer (omega (arith, b)) c.flush-n.ensures.written p _ _ _ c.end_point-end.ensures (rw e) c.put_point.ensures
+    stepped_ends (flushed_by s.how s.rule.rule) a.c s.at s.chain.now s.kinds.now s.nums.now s.steps.now _ _ _ _ _ _ _ _ c.flush-n.ensures.same.buffer (omega (arith, b)) c.flush-n.ensures.written p _ _ _ c.end_point-end.ensures (rw e) c.put_point.ensures

@@ -26,7 +26,7 @@ few-worst at lo hi h l s k e = let f = worst_step_few at lo hi h s in omega arit
 pub returns-then-d : goal.returns-then-d
 returns-then-d c = let a = c.args in
     let w = a.w in
-    let r = a.fit.now.rule in
+    let r = a.fit.now.rule.rule in
     let at = point_at a.fit.now.route.points.now in
     record {
       lent = c.put_piece.ensures.lent;
@@ -36,7 +36,7 @@ returns-then-d c = let a = c.args in
 
 pub try_rule-requires : goal.try_rule-requires
 try_rule-requires c = let f = c.args.fit.now in
-    let i = fails_inside f.rule (point_at f.route.points.now) c.args.w.lo c.args.w.hi _ c.test_line-d.ensures f.positive c.if-d.false in
+    let i = fails_inside f.rule.rule (point_at f.route.points.now) c.args.w.lo c.args.w.hi _ c.test_line-d.ensures f.rule.positive c.if-d.false in
     (omega (arith, f.few), i.0, i.1)
 
 pub note_of-n-requires-in-Some : goal.note_of-n-requires-in-Some
@@ -44,13 +44,13 @@ note_of-n-requires-in-Some c = let w = c.args.w in
     let f = c.args.fit.now in
     let at = point_at f.route.points.now in
     let t = c.in-Some.t in
-    let k = takes_worst f.rule at w.lo w.hi _ c.test_line-d.ensures _ c.try_rule.ensures c.if-d.false t.center t.clockwise t.worst c.in-Some.is in
+    let k = takes_worst f.rule.rule at w.lo w.hi _ c.test_line-d.ensures _ c.try_rule.ensures c.if-d.false t.center t.clockwise t.worst c.in-Some.is in
     (omega (arith, f.few), few-worst at w.lo w.hi c.requires.0 (omega (arith, f.few)) _ _ k)
 
 pub returns-in-Some : goal.returns-in-Some
 returns-in-Some c = let a = c.args in
     let w = a.w in
-    let r = a.fit.now.rule in
+    let r = a.fit.now.rule.rule in
     let at = point_at a.fit.now.route.points.now in
     let t = c.in-Some.t in
     record {
@@ -65,7 +65,7 @@ returns-in-Some c = let a = c.args in
 pub returns-in-None : goal.returns-in-None
 returns-in-None c = let a = c.args in
     let w = a.w in
-    let r = a.fit.now.rule in
+    let r = a.fit.now.rule.rule in
     let at = point_at a.fit.now.route.points.now in
     record {
       lent = record { kinds = refl; nums = refl; notes = refl };

@@ -12,8 +12,8 @@ loop-w-init c = let a = c.args in
     let f = a.fit.now in
     let t = f.route in
     let s = a.self.now in (
-      stands-first f.rule (point_at t.points.now) t.start t.end a.at a.ends.now f.some,
-      progress_first f.rule (point_at t.points.now) t.start t.end a.at a.ends.now s.kinds.now s.nums.now s.notes.now,
+      stands-first f.rule.rule (point_at t.points.now) t.start t.end a.at a.ends.now f.some,
+      progress_first f.rule.rule (point_at t.points.now) t.start t.end a.at a.ends.now s.kinds.now s.nums.now s.notes.now,
       refl,
       record { kinds = refl; nums = refl; notes = refl },
     )
@@ -37,7 +37,7 @@ loop-w-smaller c = let a = c.args in
     let f = a.fit.now in
     let s = a.self.now in
     let i = c.loop-w.invariant in
-    turn_less f.rule f.positive (point_at f.route.points.now) f.route.start f.route.end a.at _ _ _ _ s.kinds.now _ _ s.nums.now _ _ s.notes.now _ _ c.fit_next-w.ensures.looked i.0 c.loop-w-test.true (omega (arith, i.2, c.requires)) f.few
+    turn_less f.rule.rule f.rule.positive (point_at f.route.points.now) f.route.start f.route.end a.at _ _ _ _ s.kinds.now _ _ s.nums.now _ _ s.notes.now _ _ c.fit_next-w.ensures.looked i.0 c.loop-w-test.true (omega (arith, i.2, c.requires)) f.few
 
 pub loop-w-preserved : goal.loop-w-preserved
 loop-w-preserved c = let a = c.args in
@@ -46,8 +46,8 @@ loop-w-preserved c = let a = c.args in
     let i = c.loop-w.invariant in
     let q = c.fit_next-w.ensures.looked in
     let o = c.fit_next-w.ensures.lent in (
-      turn_stands f.rule f.positive (point_at f.route.points.now) f.route.start f.route.end a.at _ _ _ _ s.kinds.now _ _ s.nums.now _ _ s.notes.now _ _ q i.0 c.loop-w-test.true (omega (arith, i.2, c.requires)) f.few,
-      turn_progress f.rule f.positive (point_at f.route.points.now) f.route.start f.route.end a.at _ _ _ _ s.kinds.now _ _ s.nums.now _ _ s.notes.now _ _ q i.0 c.loop-w-test.true (omega (arith, i.2, c.requires)) f.few i.1,
+      turn_stands f.rule.rule f.rule.positive (point_at f.route.points.now) f.route.start f.route.end a.at _ _ _ _ s.kinds.now _ _ s.nums.now _ _ s.notes.now _ _ q i.0 c.loop-w-test.true (omega (arith, i.2, c.requires)) f.few,
+      turn_progress f.rule.rule f.rule.positive (point_at f.route.points.now) f.route.start f.route.end a.at _ _ _ _ s.kinds.now _ _ s.nums.now _ _ s.notes.now _ _ q i.0 c.loop-w-test.true (omega (arith, i.2, c.requires)) f.few i.1,
       c.fit_next-w.auto.ends ∙ i.2,
       record { kinds = o.kinds ∙ i.3.kinds; nums = o.nums ∙ i.3.nums; notes = o.notes ∙ i.3.notes },
     )
@@ -60,6 +60,6 @@ returns c = let a = c.args in
     let i = c.loop-w.invariant in
     record {
       lent = i.3;
-      wrote = progress_done (noted_in f.rule (point_at t.points.now) t.start t.end) _ a.at s.kinds.now s.nums.now s.notes.now _ _ _ _ i.1
-          (left-none f.rule (point_at t.points.now) t.start t.end a.at _ _ i.0 c.loop-w-test.false);
+      wrote = progress_done (noted_in f.rule.rule (point_at t.points.now) t.start t.end) _ a.at s.kinds.now s.nums.now s.notes.now _ _ _ _ i.1
+          (left-none f.rule.rule (point_at t.points.now) t.start t.end a.at _ _ i.0 c.loop-w-test.false);
     }

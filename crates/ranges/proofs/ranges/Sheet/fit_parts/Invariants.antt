@@ -14,7 +14,7 @@ use Rattle.ranges.proofs.ranges.Sheet.fit_parts.Given as goal
 abbrev pub invariant-loop-w : goal.invariant-loop-w
 invariant-loop-w l = let t = l.fit.route in let s = l.initial.self in
     Stands t.start t.end l.at l.ends l.w
-    × Progress (noted_in l.fit.rule (point_at t.points.now) t.start t.end) (left_in l.fit.rule (point_at t.points.now) l.ends l.w) l.at (l.w.place - l.at) s.kinds.now l.self.kinds.now s.nums.now l.self.nums.now s.notes.now l.self.notes.now
+    × Progress (noted_in l.fit.rule.rule (point_at t.points.now) t.start t.end) (left_in l.fit.rule.rule (point_at t.points.now) l.ends l.w) l.at (l.w.place - l.at) s.kinds.now l.self.kinds.now s.nums.now l.self.nums.now s.notes.now l.self.notes.now
     × (length l.ends ≡ length l.initial.ends)
     × Lent s l.self
 
