@@ -17,7 +17,7 @@ ghost use Rattle.lap_fit.specs.Fit.{lap_end, fit_lap, fit_laps, most_lap, laps_m
 
 use chain::chain::Walk;
 use course::course::{add_capped, fit_course, weight};
-use file::command::{Body, COMMAND_BYTES, read_command, read_commands, write_commands};
+use file::command::{Body, COMMAND_BYTES, read_commands, write_commands};
 use geo::domain::is_tolerance;
 use geo::lists::Commands;
 use geo::refusal::Refusal;
@@ -68,7 +68,7 @@ pub fn lap_end(lap: Body, start: Point3D) -> Point3D
     if lap.count == 0 {
         return start;
     }
-    read_command(lap.command(lap.count - 1)).end_point()
+    lap.command(lap.count - 1).read().end_point()
 }
 
 // What command i of a lap adds to the most. Only a Bezier asks where the command before it ended, so of any other just the kind is read.
@@ -77,11 +77,11 @@ fn weight_at(lap: Body, i: usize, start: Point3D, tolerance: f64) -> usize
     ensures { result ≡ cap (weight_of (joined tolerance (lap_end start (commands_at lap.entry.bytes.now lap.entry.at i)) (decoded (take 73 (drop (lap.entry.at + 73 * i) lap.entry.bytes.now))))) }
 {
     let c = lap.command(i);
-    if c[0] < BEZIER {
+    if c.bytes[0] < BEZIER {
         return 1;
     }
     let last = lap_end(lap.front(i), start);
-    weight(read_command(c), last, tolerance)
+    weight(c.read(), last, tolerance)
 }
 
 // What the commands of a lap, from their start, could become at most.
