@@ -334,7 +334,8 @@ pub fn put_head(out: &mut [u8], l: usize)
     put_u32(out, 4, l as u64);
 }
 
-// Writes entry j of the table.
+// Writes entry j of the table. Its offset and its count come one by one, as its callers have them: where the last lap ended, and how long
+// this one is.
 pub fn put_entry(out: &mut [u8], j: usize, at: usize, n: usize)
     requires { 16 + 8 * j ≤ length out.old }
     ensures { out.new ≡ sets out.old (8 + 8 * j) (u32_bytes at ++ u32_bytes n) }
