@@ -24,47 +24,44 @@ read_none : (s : List ℕ) (b n i : ℕ) → n ≤ i → read_from s b (n - i) �
 unfolding commands_at
 read_none s b n i h = let e : n - i ≡ 0 = omega arith in rw e
 
--- where reading stands before command i, which is at b: what is left, read from here, gives the whole
-pub record Reading (s : List ℕ) (at n : ℕ) (ks₀ ks : List ℕ) (ns₀ ns : List Float) (b i : ℕ) : Type 0 where
-  pub place : b ≡ at + 73 * i
+-- where reading stands before command i: what is left, read from here, gives the whole
+pub record Reading (s : List ℕ) (at n : ℕ) (ks₀ ks : List ℕ) (ns₀ ns : List Float) (i : ℕ) : Type 0 where
   pub inside : i ≤ n
   pub long_kinds : length ks ≡ length ks₀
   pub long_numbers : length ns ≡ length ns₀
-  pub kinds : sets ks i (map kind_of (read_from s b (n - i))) ≡ sets ks₀ 0 (map kind_of (read_from s at n))
-  pub numbers : sets ns (9 * i) (flat numbers_of (read_from s b (n - i))) ≡ sets ns₀ 0 (flat numbers_of (read_from s at n))
+  pub kinds : sets ks i (map kind_of (read_from s (at + 73 * i) (n - i))) ≡ sets ks₀ 0 (map kind_of (read_from s at n))
+  pub numbers : sets ns (9 * i) (flat numbers_of (read_from s (at + 73 * i) (n - i))) ≡ sets ns₀ 0 (flat numbers_of (read_from s at n))
 
 module _ (s : List ℕ) (at n : ℕ) (ks₀ : List ℕ) (ns₀ : List Float) where
-  pub reading_start : Reading s at n ks₀ ks₀ ns₀ ns₀ at 0
-  reading_start = let e : n - 0 ≡ n = omega arith in record { place = omega arith; inside = omega arith; long_kinds = refl; long_numbers = refl; kinds = rw e; numbers = rw e }
+  pub reading_start : Reading s at n ks₀ ks₀ ns₀ ns₀ 0
+  reading_start = let e : n - 0 ≡ n = omega arith in let f : at + 73 * 0 ≡ at = omega arith in record { inside = omega arith; long_kinds = refl; long_numbers = refl; kinds = rw (e, f); numbers = rw (e, f) }
 
   -- command c is read
-  pub reading_step : (ks ks' : List ℕ) (ns ns' : List Float) (b i : ℕ) (c : Command) → Reading s at n ks₀ ks ns₀ ns b i → i < n → c ≡ decoded (take (b + 73 - b) (drop b s))
-      → ks' ≡ set ks i (kind_of c) → ns' ≡ sets ns (9 * i) (numbers_of c) → Reading s at n ks₀ ks' ns₀ ns' (b + 73) (i + 1)
+  pub reading_step : (ks ks' : List ℕ) (ns ns' : List Float) (i : ℕ) (c : Command) → Reading s at n ks₀ ks ns₀ ns i → i < n → c ≡ decoded (take 73 (drop (at + 73 * i) s))
+      → ks' ≡ set ks i (kind_of c) → ns' ≡ sets ns (9 * i) (numbers_of c) → Reading s at n ks₀ ks' ns₀ ns' (i + 1)
   unfolding flat
-  reading_step ks ks' ns ns' b i c r h e k m =
-      let p = r.place in
-      let w : b + 73 - b ≡ 73 = omega arith in
-      let d : c ≡ decoded (take 73 (drop b s)) = rw w at e in
+  reading_step ks ks' ns ns' i c r h d k m =
+      let b : ℕ = at + 73 * i in
+      let w : at + 73 * (i + 1) ≡ b + 73 = omega arith in
       let z : read_from s b (n - i) ≡ c ∷ read_from s (b + 73) (n - (i + 1)) = read_step s b n i h ∙ rw d in
       let t : i + 1 ≡ suc i = omega arith in
       let q : 9 * (i + 1) ≡ 9 * i + 9 = omega arith in
       record {
-        place = omega arith;
         inside = omega arith;
         long_kinds = ap length k ∙ length-set ks i (kind_of c) ∙ r.long_kinds;
         long_numbers = ap length m ∙ length-sets ns (9 * i) (numbers_of c) ∙ r.long_numbers;
-        kinds = ap (λ (l : List ℕ). sets l (i + 1) (map kind_of (read_from s (b + 73) (n - (i + 1))))) k ∙ rw t (sym (ap (λ (cs : List Command). sets ks i (map kind_of cs)) (rw t at z))) ∙ r.kinds;
+        kinds = rw w (ap (λ (l : List ℕ). sets l (i + 1) (map kind_of (read_from s (b + 73) (n - (i + 1))))) k ∙ rw t (sym (ap (λ (cs : List Command). sets ks i (map kind_of cs)) (rw t at z))) ∙ r.kinds);
         numbers =
-            rw q (behind (numbers_of c) (flat numbers_of (read_from s (b + 73) (n - (i + 1)))) ns ns' _ (9 * i) 9 (nine c) m refl)
-            ∙ sym (ap (λ (cs : List Command). sets ns (9 * i) (flat numbers_of cs)) z) ∙ r.numbers;
+            rw (w, q) (behind (numbers_of c) (flat numbers_of (read_from s (b + 73) (n - (i + 1)))) ns ns' _ (9 * i) 9 (nine c) m refl
+            ∙ sym (ap (λ (cs : List Command). sets ns (9 * i) (flat numbers_of cs)) z) ∙ r.numbers);
       }
 
-  pub reading_done : (ks : List ℕ) (ns : List Float) (b i : ℕ) → Reading s at n ks₀ ks ns₀ ns b i → n ≤ i
+  pub reading_done : (ks : List ℕ) (ns : List Float) (i : ℕ) → Reading s at n ks₀ ks ns₀ ns i → n ≤ i
       → (ks ≡ sets ks₀ 0 (map kind_of (read_from s at n))) × (ns ≡ sets ns₀ 0 (flat numbers_of (read_from s at n)))
   unfolding flat
-  reading_done ks ns b i r h = (
-    sym (ap (λ (cs : List Command). sets ks i (map kind_of cs)) (read_none s b n i h)) ∙ r.kinds,
-    sym (ap (λ (cs : List Command). sets ns (9 * i) (flat numbers_of cs)) (read_none s b n i h)) ∙ r.numbers,
+  reading_done ks ns i r h = (
+    sym (ap (λ (cs : List Command). sets ks i (map kind_of cs)) (read_none s (at + 73 * i) n i h)) ∙ r.kinds,
+    sym (ap (λ (cs : List Command). sets ns (9 * i) (flat numbers_of cs)) (read_none s (at + 73 * i) n i h)) ∙ r.numbers,
   )
 
 -- ---- writing

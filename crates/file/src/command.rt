@@ -14,6 +14,80 @@ use geo::types::{Command, Point3D};
 // "A command has 73 bytes: kind, nine numbers".
 pub const COMMAND_BYTES: usize = 73;
 
+// A command as a file has it, in the first 73 bytes.
+#[derive(Clone, Copy)]
+pub struct Encoded<'a> {
+    pub bytes: &'a [u8],
+    ghost whole: { 73 ≤ length bytes.now },
+}
+
+impl<'a> Encoded<'a> {
+    // The command whose end is p.
+    fn curve(self, p: Point3D) -> Command
+        ensures { result ≡ command_of (get_or self.entry.bytes.now 0 0) p (point_from self.entry.bytes.now 25) (point_from self.entry.bytes.now 49) }
+    {
+        let s = self.bytes;
+        let q = point_from(s, 25);
+        let r = point_from(s, 49);
+        make_command(s[0], p, q, r)
+    }
+
+    // The command. A Move and a Line have no number but their end's.
+    pub fn read(self) -> Command
+        ensures { result ≡ decoded self.entry.bytes.now }
+    {
+        let s = self.bytes;
+        let p = point_from(s, 1);
+        let o = Point3D::ZERO;
+        if s[0] < 2 {
+            return make_command(s[0], p, o, o);
+        }
+        self.curve(p)
+    }
+
+    // Whether the kind is known, and the numbers that it does not use are +0.
+    #[tactic(auto, unfolding(geo::specs::Domain::formed, crate::specs::Command::well_formed))]
+    pub fn is_well_formed(self) -> bool
+        ensures { result ≡ well_formed self.entry.bytes.now }
+    {
+        let s = self.bytes;
+        if s[0] < 2 {
+            return is_zero_from(s, 25) && is_zero_from(s, 49);
+        }
+        s[0] < 4
+    }
+
+    // Reads the command to index i of kinds and numbers. A Move and a Line, which most are, go there straight, and not by way of
+    // a command in memory.
+    // The kind is matched as the byte that it is, since a file's kind may be any until it is checked.
+    fn read_to(self, kinds: &mut [u8], nums: &mut [f64], i: usize)
+        requires { (i < length kinds.old) × (9 * i + 8 < length nums.old) }
+        ensures kinds { kinds.new ≡ set kinds.old i (kind_of (decoded self.entry.bytes.now)) }
+        ensures numbers { nums.new ≡ sets nums.old (9 * i) (numbers_of (decoded self.entry.bytes.now)) }
+    {
+        let s = self.bytes;
+        match s[0] {
+            0 => put_command(
+                kinds,
+                nums,
+                i,
+                Command::Move {
+                    end: point_from(s, 1),
+                },
+            ),
+            1 => put_command(
+                kinds,
+                nums,
+                i,
+                Command::Line {
+                    end: point_from(s, 1),
+                },
+            ),
+            _ => put_command(kinds, nums, i, self.read()),
+        }
+    }
+}
+
 // Commands as they stand among bytes: so many from a place on.
 #[derive(Clone, Copy)]
 pub struct Body<'a> {
@@ -24,15 +98,17 @@ pub struct Body<'a> {
 }
 
 impl<'a> Body<'a> {
-    // The bytes of the command at an index.
-    pub fn command(self, i: usize) -> &'a [u8]
+    // The command at an index.
+    pub fn command(self, i: usize) -> Encoded<'a>
         requires { i < self.count }
-        ensures bytes { result.now ≡ take 73 (drop (self.entry.at + 73 * i) self.entry.bytes.now) }
-        ensures whole { length result.now ≡ 73 }
+        ensures bytes { result.bytes.now ≡ take 73 (drop (self.entry.at + 73 * i) self.entry.bytes.now) }
+        ensures whole { length result.bytes.now ≡ 73 }
     {
         let b = self.at + COMMAND_BYTES * i;
         let e = b + COMMAND_BYTES;
-        &self.bytes[b..e]
+        Encoded {
+            bytes: &self.bytes[b..e],
+        }
     }
 
     // The first n of the commands.
@@ -48,7 +124,7 @@ impl<'a> Body<'a> {
     }
 }
 
-// The point whose three numbers stand from `at` on.
+// The point whose three numbers stand from `at` on: a slice and an index, here and below, as in `words`.
 #[tactic(auto, unfolding(crate::specs::Command::point_from))]
 pub fn point_from(s: &[u8], at: usize) -> Point3D
     requires { at + 24 ≤ length s.now }
@@ -61,29 +137,6 @@ pub fn point_from(s: &[u8], at: usize) -> Point3D
     }
 }
 
-// The command of 73 bytes whose end is p.
-fn read_curve(s: &[u8], p: Point3D) -> Command
-    requires { 73 ≤ length s.now }
-    ensures { result ≡ command_of (get_or s.now 0 0) p (point_from s.now 25) (point_from s.now 49) }
-{
-    let q = point_from(s, 25);
-    let r = point_from(s, 49);
-    make_command(s[0], p, q, r)
-}
-
-// The command of 73 bytes. A Move and a Line have no number but their end's.
-pub fn read_command(s: &[u8]) -> Command
-    requires { 73 ≤ length s.now }
-    ensures { result ≡ decoded s.now }
-{
-    let p = point_from(s, 1);
-    let o = Point3D::ZERO;
-    if s[0] < 2 {
-        return make_command(s[0], p, o, o);
-    }
-    read_curve(s, p)
-}
-
 // Whether the three numbers from `at` on are +0, told by their bytes.
 #[tactic(auto, unfolding(geo::specs::Domain::zero3, crate::specs::Command::point_from))]
 fn is_zero_from(s: &[u8], at: usize) -> bool
@@ -91,18 +144,6 @@ fn is_zero_from(s: &[u8], at: usize) -> bool
     ensures { result ≡ zero3 (point_from s.now at) }
 {
     is_plus_zero_at(s, at) && is_plus_zero_at(s, at + 8) && is_plus_zero_at(s, at + 16)
-}
-
-// Whether 73 bytes have a known kind, and the numbers that it does not use are +0.
-#[tactic(auto, unfolding(geo::specs::Domain::formed, crate::specs::Command::well_formed))]
-pub fn is_well_formed(s: &[u8]) -> bool
-    requires { 73 ≤ length s.now }
-    ensures { result ≡ well_formed s.now }
-{
-    if s[0] < 2 {
-        return is_zero_from(s, 25) && is_zero_from(s, 49);
-    }
-    s[0] < 4
 }
 
 // Writes the 24 bytes of a point from `at` on.
@@ -148,45 +189,14 @@ pub fn write_command(out: &mut [u8], at: usize, c: Command)
     }
 }
 
-// Reads the command of 73 bytes to index i of kinds and numbers. A Move and a Line, which most are, go there straight, and not
-// by way of a command in memory.
-fn read_to(s: &[u8], kinds: &mut [u8], nums: &mut [f64], i: usize)
-    requires { (73 ≤ length s.now) × (i < length kinds.old) × (9 * i + 8 < length nums.old) }
-    ensures kinds { kinds.new ≡ set kinds.old i (kind_of (decoded s.now)) }
-    ensures numbers { nums.new ≡ sets nums.old (9 * i) (numbers_of (decoded s.now)) }
-{
-    match s[0] {
-        0 => put_command(
-            kinds,
-            nums,
-            i,
-            Command::Move {
-                end: point_from(s, 1),
-            },
-        ),
-        1 => put_command(
-            kinds,
-            nums,
-            i,
-            Command::Line {
-                end: point_from(s, 1),
-            },
-        ),
-        _ => put_command(kinds, nums, i, read_command(s)),
-    }
-}
-
 // Reads the commands of a body to the front of kinds and numbers.
 pub fn read_commands(body: Body, kinds: &mut [u8], nums: &mut [f64])
     requires { (body.count ≤ length kinds.old) × (9 * body.count ≤ length nums.old) }
     ensures kinds { kinds.new ≡ sets kinds.old 0 (map kind_of (map decoded (commands_at body.entry.bytes.now body.entry.at body.entry.count))) }
     ensures numbers { nums.new ≡ sets nums.old 0 (flat numbers_of (map decoded (commands_at body.entry.bytes.now body.entry.at body.entry.count))) }
 {
-    let mut b = body.at;
     for i in 0..body.count {
-        let e = b + COMMAND_BYTES;
-        read_to(&body.bytes[b..e], kinds, nums, i);
-        b = e;
+        body.command(i).read_to(kinds, nums, i);
     }
 }
 

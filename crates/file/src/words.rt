@@ -7,6 +7,8 @@ ghost use Rattle.geo.specs.Domain.{is_plus_zero};
 ghost use Rattle.file.specs.Bytes.{half_at, word_at, u32_bytes, f64_bytes, number_at};
 
 // The number in the four bytes of s from `at` on.
+// A place among bytes is a slice and an index, here and below, as in the library: each call is of one line and asks for as many bytes as
+// it reads or writes, and a struct would be made and opened at each.
 pub fn half_at(s: &[u8], at: usize) -> u64
     requires { at + 4 ≤ length s.now }
     ensures { (result ≡ half_at s.now at) × (result < 0x1_0000_0000) }

@@ -12,9 +12,7 @@ use geo::domain::is_tolerance;
 use geo::lists::Commands;
 use geo::refusal::Refusal;
 use lap_swap::swap::{most_new, with_others};
-use laps::lap_file::{
-    LapFile, MOST_COMMANDS, check_commands, has_table, is_placed, lap_count, too_big, too_short,
-};
+use laps::lap_file::{Headed, LapFile, MOST_COMMANDS, check_commands, is_placed, too_short};
 
 // The bytes of a recorded file and of its fitted file, as they are lent: any bytes.
 #[derive(Clone, Copy)]
@@ -39,19 +37,18 @@ fn fails_1(s: &[u8], f: &[u8], whole: bool) -> bool
 }
 
 #[tactic(auto, unfolding(crate::specs::Checks::row2))]
-fn fails_2(s: &[u8], f: &[u8], few: bool) -> bool
-    requires { (8 ≤ length s.now) × (8 ≤ length f.now) }
-    ensures { result ≡ row2 s.now f.now few }
+fn fails_2(s: Headed, f: Headed, few: bool) -> bool
+    ensures { result ≡ row2 s.entry.bytes.now f.entry.bytes.now few }
 {
-    too_big(s) || too_big(f) || !few
+    s.is_too_big() || f.is_too_big() || !few
 }
 
 #[tactic(auto, unfolding(crate::specs::Checks::row3))]
-fn fails_3(s: &[u8], f: &[u8]) -> bool
-    requires { (8 ≤ length s.now) × (8 ≤ length f.now) × (lap_count s.now ≤ 64) × (lap_count f.now ≤ 64) }
-    ensures { result ≡ row3 s.now f.now }
+fn fails_3(s: Headed, f: Headed) -> bool
+    requires { (lap_count s.bytes.now ≤ 64) × (lap_count f.bytes.now ≤ 64) }
+    ensures { result ≡ row3 s.entry.bytes.now f.entry.bytes.now }
 {
-    !has_table(s) || !has_table(f) || lap_count(s) != lap_count(f)
+    !s.has_table() || !f.has_table() || s.lap_count() != f.lap_count()
 }
 
 // The first of these rows that they fall under, or the files.
@@ -64,10 +61,12 @@ pub fn check_tables<'a>(lent: LentFiles<'a>, whole: bool, few: bool) -> Result<F
     if fails_1(s, f, whole) {
         return Err(Refusal::NotWhole);
     }
-    if fails_2(s, f, few) {
+    let recorded = Headed { bytes: s };
+    let fitted = Headed { bytes: f };
+    if fails_2(recorded, fitted, few) {
         return Err(Refusal::TooMany);
     }
-    if fails_3(s, f) {
+    if fails_3(recorded, fitted) {
         return Err(Refusal::BadFile);
     }
     Ok(Files {

@@ -16,7 +16,7 @@ ghost use Rattle.lap_fit.specs.Fit.{lap_end, fit_lap, fit_laps, most_lap, laps_m
 
 use chain::chain::Walk;
 use course::course::{add_capped, fit_course, weight};
-use file::command::{Body, COMMAND_BYTES, read_command, read_commands, write_commands};
+use file::command::{Body, COMMAND_BYTES, read_commands, write_commands};
 use geo::domain::is_tolerance;
 use geo::lists::Commands;
 use geo::refusal::Refusal;
@@ -77,7 +77,7 @@ pub fn lap_end(lap: Body, start: Point3D) -> Point3D
     if lap.count == 0 {
         return start;
     }
-    read_command(lap.command(lap.count - 1)).end_point()
+    lap.command(lap.count - 1).read().end_point()
 }
 
 // What command i of a lap adds to the most. Only a Bezier asks where the command before it ended, so of any other just the kind is read.
@@ -86,11 +86,11 @@ fn weight_at(lap: StartedLap, i: usize, tolerance: f64) -> usize
     ensures { result ≡ cap (weight_of (joined tolerance (lap_end lap.entry.start (commands_at lap.entry.body.bytes.now lap.entry.body.at i)) (decoded (take 73 (drop (lap.entry.body.at + 73 * i) lap.entry.body.bytes.now))))) }
 {
     let c = lap.body.command(i);
-    if c[0] < BEZIER {
+    if c.bytes[0] < BEZIER {
         return 1;
     }
     let last = lap_end(lap.body.front(i), lap.start);
-    weight(read_command(c), last, tolerance)
+    weight(c.read(), last, tolerance)
 }
 
 // What the commands of a lap, from their start, could become at most.

@@ -8,7 +8,7 @@ ghost use Rattle.file.specs.Command.{commands_at};
 ghost use Rattle.laps.specs.File.{lap_count, offset_at, count_at, laps_of, mark, short, big, has_mark, walk, table_ok, placed, form_ok, domain_ok, fitted_ok, finite_ok, both_ok, lacks, lap_ok, lap_tested, laps_ok};
 ghost use Rattle.laps.specs.Rows.{commands_rows, file_rows, size_rows};
 
-use file::command::{Body, COMMAND_BYTES, is_well_formed, point_from, read_command};
+use file::command::{Body, COMMAND_BYTES, Encoded, point_from};
 use file::words::{half_at, put_u32};
 use geo::domain::{command_in, is_finite3, point3_in};
 use geo::refusal::Refusal;
@@ -20,8 +20,57 @@ pub const MOST_COMMANDS: usize = geo::domain::MOST_COMMANDS;
 
 pub const MOST_BYTES: usize = 65536;
 
-// The kind of a Bezier.
+// The kind of a Bezier: a number, since it is compared with the byte that a file has, of whatever kind.
 pub const BEZIER: u8 = 3;
+
+// Bytes that are long enough for a mark and a lap count.
+#[derive(Clone, Copy)]
+pub struct Headed<'a> {
+    pub bytes: &'a [u8],
+    ghost long: { 8 ≤ length bytes.now },
+}
+
+impl<'a> Headed<'a> {
+    // The lap count.
+    #[tactic(auto, unfolding(crate::specs::File::lap_count))]
+    pub fn lap_count(self) -> usize
+        ensures { (result ≡ lap_count self.entry.bytes.now) × (result < 4294967296) }
+    {
+        half_at(self.bytes, 4) as usize
+    }
+
+    // Whether there are too many bytes or laps.
+    #[tactic(auto, unfolding(crate::specs::File::big))]
+    pub fn is_too_big(self) -> bool
+        ensures { result ≡ big self.entry.bytes.now }
+    {
+        MOST_BYTES < self.bytes.len() || MOST_LAPS < self.lap_count()
+    }
+
+    // Whether the mark is "LAPS".
+    #[tactic(auto, unfolding(crate::specs::File::has_mark))]
+    fn has_mark(self) -> bool
+        ensures { result ≡ has_mark self.entry.bytes.now }
+    {
+        let s = self.bytes;
+        s[0] == 0x4c && s[1] == 0x41 && s[2] == 0x50 && s[3] == 0x53
+    }
+
+    // Whether the mark and the table are right. The mark is compared first.
+    pub fn has_table(self) -> bool
+        requires { lap_count self.bytes.now ≤ 64 }
+        ensures { result ≡ table_ok self.entry.bytes.now }
+    {
+        if !self.has_mark() {
+            return false;
+        }
+        let l = self.lap_count();
+        if self.bytes.len() < 8 + 8 * l {
+            return false;
+        }
+        walks(self.bytes, l)
+    }
+}
 
 // A file whose table is right: rows 1 to 3.
 #[derive(Clone, Copy)]
@@ -36,7 +85,7 @@ impl<'a> LapFile<'a> {
     pub fn lap_count(self) -> usize
         ensures { (result ≡ lap_count self.entry.bytes.now) × (result < 4294967296) }
     {
-        lap_count(self.bytes)
+        Headed { bytes: self.bytes }.lap_count()
     }
 
     // The lap at an index, as its entry of the table tells it.
@@ -51,15 +100,6 @@ impl<'a> LapFile<'a> {
             count: count_at(self.bytes, j),
         }
     }
-}
-
-// The lap count.
-#[tactic(auto, unfolding(crate::specs::File::lap_count))]
-pub fn lap_count(s: &[u8]) -> usize
-    requires { 8 ≤ length s.now }
-    ensures { (result ≡ lap_count s.now) × (result < 4294967296) }
-{
-    half_at(s, 4) as usize
 }
 
 // The offset in entry j of the table.
@@ -88,24 +128,6 @@ pub fn too_short(s: &[u8]) -> bool
     s.len() < 8
 }
 
-// Whether the file has too many bytes or laps.
-#[tactic(auto, unfolding(crate::specs::File::big))]
-pub fn too_big(s: &[u8]) -> bool
-    requires { 8 ≤ length s.now }
-    ensures { result ≡ big s.now }
-{
-    MOST_BYTES < s.len() || MOST_LAPS < lap_count(s)
-}
-
-// Whether the file starts with "LAPS".
-#[tactic(auto, unfolding(crate::specs::File::has_mark))]
-fn has_mark(s: &[u8]) -> bool
-    requires { 8 ≤ length s.now }
-    ensures { result ≡ has_mark s.now }
-{
-    s[0] == 0x4c && s[1] == 0x41 && s[2] == 0x50 && s[3] == 0x53
-}
-
 // Whether the l entries of the table lead from body to body to the file's end.
 fn walks(s: &[u8], l: usize) -> bool
     requires { (8 + 8 * l ≤ length s.now) × (l ≤ 64) }
@@ -130,21 +152,6 @@ fn walks(s: &[u8], l: usize) -> bool
     at == s.len()
 }
 
-// Whether the mark and the table are right. The mark is compared first.
-pub fn has_table(s: &[u8]) -> bool
-    requires { (8 ≤ length s.now) × (lap_count s.now ≤ 64) }
-    ensures { result ≡ table_ok s.now }
-{
-    if !has_mark(s) {
-        return false;
-    }
-    let l = lap_count(s);
-    if s.len() < 8 + 8 * l {
-        return false;
-    }
-    walks(s, l)
-}
-
 // Whether a kind, the byte as the file or C has it, may stand where a Move is to stand, or elsewhere in a lap.
 #[tactic(auto, unfolding(crate::specs::File::placed))]
 pub fn is_placed(first: bool, kind: u8) -> bool
@@ -153,13 +160,12 @@ pub fn is_placed(first: bool, kind: u8) -> bool
     if first { kind == 0 } else { kind != 0 }
 }
 
-// What is asked of each command of a lap: of 73 bytes, at a place where a Move is to stand or none is.
+// What is asked of each command of a lap, at a place where a Move is to stand or none is.
 pub trait Test {
     ghost asks: { Bool → List ℕ → Bool };
 
-    fn passes(first: bool, c: &[u8]) -> bool
-        requires { 73 ≤ length c.now }
-        ensures { result ≡ asks first c.now };
+    fn passes(first: bool, c: Encoded) -> bool
+        ensures { result ≡ asks first c.entry.bytes.now };
 }
 
 // Row 4: its kind, its unused numbers, and where a Move stands.
@@ -169,8 +175,8 @@ impl Test for Form {
     ghost asks = { form_ok };
 
     #[tactic(auto, unfolding(crate::specs::File::form_ok))]
-    fn passes(first: bool, c: &[u8]) -> bool {
-        is_placed(first, c[0]) && is_well_formed(c)
+    fn passes(first: bool, c: Encoded) -> bool {
+        is_placed(first, c.bytes[0]) && c.is_well_formed()
     }
 }
 
@@ -181,11 +187,11 @@ impl Test for Domain {
     ghost asks = { domain_ok };
 
     #[tactic(auto, unfolding(crate::specs::File::domain_ok), using(file::proofs::Blank::end_in))]
-    fn passes(_first: bool, c: &[u8]) -> bool {
-        if c[0] < 2 {
-            return point3_in(point_from(c, 1));
+    fn passes(_first: bool, c: Encoded) -> bool {
+        if c.bytes[0] < 2 {
+            return point3_in(point_from(c.bytes, 1));
         }
-        command_in(read_command(c))
+        command_in(c.read())
     }
 }
 
@@ -196,7 +202,7 @@ impl Test for Both {
     ghost asks = { both_ok };
 
     #[tactic(auto, unfolding(crate::specs::File::both_ok))]
-    fn passes(first: bool, c: &[u8]) -> bool {
+    fn passes(first: bool, c: Encoded) -> bool {
         Form::passes(first, c) && Domain::passes(first, c)
     }
 }
@@ -208,8 +214,8 @@ impl Test for Fitted {
     ghost asks = { fitted_ok };
 
     #[tactic(auto, unfolding(crate::specs::File::fitted_ok))]
-    fn passes(first: bool, c: &[u8]) -> bool {
-        Form::passes(first, c) && c[0] != BEZIER
+    fn passes(first: bool, c: Encoded) -> bool {
+        Form::passes(first, c) && c.bytes[0] != BEZIER
     }
 }
 
@@ -220,10 +226,10 @@ impl Test for Finite {
     ghost asks = { finite_ok };
 
     #[tactic(auto, unfolding(crate::specs::File::finite_ok, crate::specs::File::finite_numbers))]
-    fn passes(_first: bool, c: &[u8]) -> bool {
-        is_finite3(point_from(c, 1))
-            && is_finite3(point_from(c, 25))
-            && is_finite3(point_from(c, 49))
+    fn passes(_first: bool, c: Encoded) -> bool {
+        is_finite3(point_from(c.bytes, 1))
+            && is_finite3(point_from(c.bytes, 25))
+            && is_finite3(point_from(c.bytes, 49))
     }
 }
 
@@ -290,10 +296,11 @@ pub fn check_file<'a>(s: &'a [u8]) -> Result<LapFile<'a>, Refusal>
     if too_short(s) {
         return Err(Refusal::NotWhole);
     }
-    if too_big(s) {
+    let headed = Headed { bytes: s };
+    if headed.is_too_big() {
         return Err(Refusal::TooMany);
     }
-    if !has_table(s) {
+    if !headed.has_table() {
         return Err(Refusal::BadFile);
     }
     let file = LapFile { bytes: s };
@@ -327,7 +334,8 @@ pub fn put_head(out: &mut [u8], l: usize)
     put_u32(out, 4, l as u64);
 }
 
-// Writes entry j of the table.
+// Writes entry j of the table. Its offset and its count come one by one, as its callers have them: where the last lap ended, and how long
+// this one is.
 pub fn put_entry(out: &mut [u8], j: usize, at: usize, n: usize)
     requires { 16 + 8 * j ≤ length out.old }
     ensures { out.new ≡ sets out.old (8 + 8 * j) (u32_bytes at ++ u32_bytes n) }

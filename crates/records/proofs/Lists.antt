@@ -1,5 +1,5 @@
 -- Laws of the walks along indices, in the form in which a loop `for i in a..e` meets them: e - i are left. Assumes nothing.
-use Prim.Native.Nat.{ℕ, zero, suc, ◌+◌, ◌-◌, ◌≤◌, ◌<◌}
+use Prim.Native.Nat.{ℕ, zero, suc, ◌+◌, ◌-◌, ◌*◌, ◌/◌, ◌≤◌, ◌<◌}
 use Rattle.std.proofs.Common.{if◌then◌else◌}
 use mathlib.Core.Path.{◌≡◌, refl, sym, ap, ◌∙◌}
 use mathlib.Core.Bool.{Bool, true, false, ◌&&◌}
@@ -7,12 +7,15 @@ use mathlib.Core.List.{List, [], ◌∷◌}
 use native.Mathlib.Omega.{arith}
 use lib.Dec.{eqb}
 use lib.ListN.{length, get_or, set, take, drop, length-set}
-use lib.Seq.{sets, drop-cons}
+use lib.Ieee.{Float, nan}
+use lib.Seq.{sets, drop-cons, get_or-drop, take-length}
+use Rattle.std.proofs.lemmas.List.{get_or-take, length-drop, length-take-le}
 use Rattle.std.specs.Str.{bytes_eq}
 use Rattle.geo.specs.Walk.{list_from}
 use Rattle.geo.specs.Domain.{every_from}
 use Rattle.geo.proofs.Every as every
-use Rattle.records.specs.Words.{bytes_written}
+use Rattle.file.specs.Bytes.{half_at, word_at}
+use Rattle.records.specs.Words.{has_pattern, numbers_written, bytes_written}
 
 -- ---- whether something holds at each index, told of the index rather than of a test
 module _ (ok : ℕ → Bool) (e : ℕ) (w : Bool) where
@@ -63,9 +66,46 @@ stretch b s at (suc n) i h k =
     let u : suc (at + i) ≡ at + (i + 1) = omega arith in
     rw (e, f, t, u) (rw (stretch b s at n (i + 1) (omega arith) (omega arith)) (both_if (eqb (get_or b i 0) (get_or s (at + i) 0)) _))
 
-pub same_bytes : (b s : List ℕ) (at n : ℕ) → n ≤ length b → at + n ≤ length s → bytes_eq (take n b) (take (at + n - at) (drop at s)) ≡ bytes_written s at n b
+pub same_bytes : (b s : List ℕ) → length s ≤ length b → bytes_eq (take (length s) b) s ≡ bytes_written s 0 (length s) b
 unfolding bytes_written
-same_bytes b s at n h k =
-    let t : at + n - at ≡ n = omega arith in
-    let u : at ≡ at + 0 = omega arith in
-    rw t (ap (λ (j : ℕ). bytes_eq (take n b) (take n (drop j s))) u ∙ stretch b s at n 0 (omega arith) (omega arith))
+same_bytes b s h = ap (bytes_eq (take (length s) b)) (sym (take-length s)) ∙ stretch b s 0 (length s) 0 (omega arith) (omega arith)
+
+-- ---- the n words, or bytes, of s from `at` on, as a slice has them
+-- what holds at each index by one test does by another that tells the same there
+every_same : (f g : ℕ → Bool) (n i : ℕ) → ((j : ℕ) → i ≤ j → j < i + n → f j ≡ g j) → every_from f n i ≡ every_from g n i
+unfolding every_from
+every_same f g zero i h = refl
+every_same f g (suc n) i h = rw (h i (omega arith) (omega arith), every_same f g n (i + 1) (λ j a b. h j (omega arith) (omega arith)))
+
+module _ (s : List ℕ) (at m : ℕ) where
+  byte_in : (j : ℕ) → j < m → get_or (take m (drop at s)) j 0 ≡ get_or s (at + j) 0
+  byte_in j h = get_or-take m (drop at s) j 0 h ∙ get_or-drop at s j 0
+
+  half_in : (j : ℕ) → j + 4 ≤ m → half_at (take m (drop at s)) j ≡ half_at s (at + j)
+  unfolding half_at
+  half_in j h =
+      let e : at + j + 1 ≡ at + (j + 1) = omega arith in
+      let f : at + j + 2 ≡ at + (j + 2) = omega arith in
+      let g : at + j + 3 ≡ at + (j + 3) = omega arith in
+      rw (e, f, g, byte_in j (omega arith), byte_in (j + 1) (omega arith), byte_in (j + 2) (omega arith), byte_in (j + 3) (omega arith))
+
+  word_in : (j : ℕ) → j + 8 ≤ m → word_at (take m (drop at s)) j ≡ word_at s (at + j)
+  unfolding word_at
+  word_in j h = let e : at + j + 4 ≡ at + (j + 4) = omega arith in rw (e, half_in j (omega arith), half_in (j + 4) (omega arith))
+
+module _ (s : List ℕ) (at n e : ℕ) where
+  pub numbers_there : (out : List Float) → e ≡ at + 8 * n → e ≤ length s
+      → numbers_written (take (e - at) (drop at s)) 0 (length (take (e - at) (drop at s)) / 8) out ≡ numbers_written s at n out
+  unfolding numbers_written
+  numbers_there out h k =
+      let z : e - at ≡ 8 * n = omega arith in
+      let l : length (take (8 * n) (drop at s)) / 8 ≡ n = let q = length-take-le (8 * n) (drop at s) (rw (length-drop at s) (omega arith)) in omega (arith, q) in
+      rw (z, l) (every_same _ _ n 0 (λ j a b. ap (has_pattern (get_or out j nan)) (word_in s at (8 * n) (0 + 8 * j) (omega arith) ∙ ap (word_at s) (omega arith))))
+
+  pub bytes_there : (bytes : List ℕ) → e ≡ at + n → e ≤ length s
+      → bytes_written (take (e - at) (drop at s)) 0 (length (take (e - at) (drop at s))) bytes ≡ bytes_written s at n bytes
+  unfolding bytes_written
+  bytes_there bytes h k =
+      let z : e - at ≡ n = omega arith in
+      let l : length (take n (drop at s)) ≡ n = length-take-le n (drop at s) (rw (length-drop at s) (omega arith)) in
+      rw (z, l) (every_same _ _ n 0 (λ j a b. ap (λ (x : ℕ). eqb (get_or bytes j 0) x) (byte_in s at n (0 + j) (omega arith) ∙ ap (λ (i : ℕ). get_or s i 0) (omega arith))))

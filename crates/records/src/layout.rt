@@ -1,7 +1,9 @@
 // A recorded call: a head of 14 words, what is lent to the call, and what it has to write. oracle/src/geometry/list.rs says
 // how it is laid out, and makes it.
-ghost use Rattle.std.specs.Prelude.{◌≡◌, true, false, ◌≤◌, length};
+ghost use Rattle.std.specs.Prelude.{◌≡◌, ◌&&◌, ◌+◌, ◌*◌, true, false, ◌≤◌, length};
+ghost use Rattle.floats.specs.Limits.{untouched};
 ghost use Rattle.records.specs.Record.{IsHead, Whole, lent_size, body_bytes, is_answered, is_output};
+ghost use Rattle.records.specs.Words.{numbers_written, bytes_written, numbers_left, bytes_left};
 
 use crate::{are_bytes_written, are_left, are_numbers_written};
 use file::words::word_at;
@@ -86,19 +88,27 @@ pub fn is_whole(h: Head) -> bool
         && h.space >= h.stored
 }
 
-// How many bytes are lent, and how many stand behind the head.
-pub fn lent_size(h: Head) -> usize
-    requires { Whole h }
-    ensures { result ≡ lent_size h }
-{
-    8 * h.numbers + h.kinds + h.recorded + h.fitted
+// A head whose counts fit the program's arrays, and that has no more to write than there is room for.
+#[derive(Clone, Copy)]
+pub struct WholeHead {
+    pub head: Head,
+    ghost fits: { Whole head },
 }
 
-pub fn body_size(h: Head) -> usize
-    requires { Whole h }
-    ensures { (result ≡ body_bytes h) × (result ≤ 618400) }
-{
-    lent_size(h) + 8 * h.written + h.stored
+impl WholeHead {
+    // How many bytes are lent, and how many stand behind the head.
+    pub fn lent_size(self) -> usize
+        ensures { result ≡ lent_size self.head }
+    {
+        let h = self.head;
+        8 * h.numbers + h.kinds + h.recorded + h.fitted
+    }
+
+    pub fn body_size(self) -> usize
+        ensures { (result ≡ body_bytes self.head) × (result ≤ 618400) }
+    {
+        self.lent_size() + 8 * self.head.written + self.head.stored
+    }
 }
 
 // Whether the answer is the expected refusal, or the expected count where that is 0.
@@ -112,15 +122,42 @@ pub fn is_answered(h: Head, a: Result<usize, Refusal>) -> bool
     }
 }
 
-// Whether the outputs are those that the body has behind what is lent.
-pub fn is_output(h: Head, body: &[u8], out: &[f64], bytes: &[u8]) -> bool
-    requires whole { Whole h × (body_bytes h ≤ length body.now) }
-    requires room_in_bounds { (h.room ≤ length out.now) × (h.space ≤ length bytes.now) }
-    ensures { result ≡ is_output h body.now out.now bytes.now }
+// Whether outputs are as before the call behind what is written.
+fn is_rest_left(h: Head, out: &[f64], bytes: &[u8]) -> bool
+    ensures { result ≡ (numbers_left out.now h.written (length out.now) untouched && bytes_left bytes.now h.stored (length bytes.now) 200) }
 {
-    let at = lent_size(h);
-    are_numbers_written(body, at, h.written, out)
-        && are_bytes_written(body, at + 8 * h.written, h.stored, bytes)
-        && are_left(out, h.written, out.len(), BEFORE)
+    are_left(out, h.written, out.len(), BEFORE)
         && are_left(bytes, h.stored, bytes.len(), BEFORE_BYTE)
+}
+
+// A recorded call: its head, and what stands behind it.
+#[derive(Clone, Copy)]
+pub struct Record<'a> {
+    pub whole: WholeHead,
+    pub body: &'a [u8],
+    ghost inside: { body_bytes whole.head ≤ length body.now },
+}
+
+impl<'a> Record<'a> {
+    // Whether the fronts of the outputs are what the body has behind what is lent.
+    fn is_written(self, out: &[f64], bytes: &[u8]) -> bool
+        requires { (self.whole.head.room ≤ length out.now) × (self.whole.head.space ≤ length bytes.now) }
+        ensures { result ≡ (numbers_written self.entry.body.now (lent_size self.entry.whole.head) self.entry.whole.head.written out.now && bytes_written self.entry.body.now (lent_size self.entry.whole.head + 8 * self.entry.whole.head.written) self.entry.whole.head.stored bytes.now) }
+    {
+        let h = self.whole.head;
+        let numbers = self.whole.lent_size();
+        let stored = numbers + 8 * h.written;
+        let end = stored + h.stored;
+        are_numbers_written(&self.body[numbers..stored], out)
+            && are_bytes_written(&self.body[stored..end], bytes)
+    }
+
+    // Whether the outputs are those that the body has behind what is lent.
+    #[tactic(auto, unfolding(crate::specs::Record::is_output))]
+    pub fn is_output(self, out: &[f64], bytes: &[u8]) -> bool
+        requires room_in_bounds { (self.whole.head.room ≤ length out.now) × (self.whole.head.space ≤ length bytes.now) }
+        ensures { result ≡ is_output self.entry.whole.head self.entry.body.now out.now bytes.now }
+    {
+        self.is_written(out, bytes) && is_rest_left(self.whole.head, out, bytes)
+    }
 }

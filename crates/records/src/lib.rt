@@ -4,7 +4,7 @@
 
 pub mod layout;
 
-ghost use Rattle.std.specs.Prelude.{◌≡◌, ◌+◌, ◌-◌, ◌*◌, ◌≤◌, length, get_or};
+ghost use Rattle.std.specs.Prelude.{◌≡◌, ◌-◌, ◌/◌, ◌≤◌, length, get_or};
 ghost use Rattle.geo.specs.Domain.{every_from};
 ghost use Rattle.std.proofs.lemmas.List.Edits.{sets};
 ghost use Rattle.records.specs.Words.{has_pattern, numbers_at, numbers_written, bytes_written};
@@ -21,36 +21,36 @@ pub fn has_pattern(x: f64, p: u64) -> bool
     f64::to_bits(x) == p
 }
 
-// Reads the n numbers of s from `at` on.
-pub fn read_numbers(s: &[u8], at: usize, n: usize, numbers: &mut [f64])
-    requires { (n ≤ length numbers.old) × (at + 8 * n ≤ length s.now) }
-    ensures { numbers.new ≡ sets numbers.old 0 (numbers_at s.now at n) }
+// Reads the numbers that s has, eight bytes each, to the front of `numbers`.
+pub fn read_numbers(s: &[u8], numbers: &mut [f64])
+    requires { length s.now / 8 ≤ length numbers.old }
+    ensures { numbers.new ≡ sets numbers.old 0 (numbers_at s.now 0 (length s.now / 8)) }
 {
-    for i in 0..n {
-        numbers[i] = float_of(word_at(s, at + 8 * i));
+    for i in 0..s.len() / 8 {
+        numbers[i] = float_of(word_at(s, 8 * i));
     }
 }
 
-// Whether the first n numbers have the patterns of s from `at` on.
-pub fn are_numbers_written(s: &[u8], at: usize, n: usize, out: &[f64]) -> bool
-    requires { (n ≤ length out.now) × (at + 8 * n ≤ length s.now) }
-    ensures { result ≡ numbers_written s.now at n out.now }
+// Whether s has the patterns of the first numbers of out.
+pub fn are_numbers_written(s: &[u8], out: &[f64]) -> bool
+    requires { length s.now / 8 ≤ length out.now }
+    ensures { result ≡ numbers_written s.now 0 (length s.now / 8) out.now }
 {
-    for i in 0..n {
-        if !has_pattern(out[i], word_at(s, at + 8 * i)) {
+    for i in 0..s.len() / 8 {
+        if !has_pattern(out[i], word_at(s, 8 * i)) {
             return false;
         }
     }
     true
 }
 
-// Whether the first n bytes are those of s from `at` on.
-pub fn are_bytes_written(s: &[u8], at: usize, n: usize, bytes: &[u8]) -> bool
-    requires { (n ≤ length bytes.now) × (at + n ≤ length s.now) }
-    ensures { result ≡ bytes_written s.now at n bytes.now }
+// Whether s has the first of the bytes.
+pub fn are_bytes_written(s: &[u8], bytes: &[u8]) -> bool
+    requires { length s.now ≤ length bytes.now }
+    ensures { result ≡ bytes_written s.now 0 (length s.now) bytes.now }
 {
-    let e = at + n;
-    bytes[..n] == s[at..e]
+    let n = s.len();
+    bytes[..n] == s[..]
 }
 
 // Whether the known value still stands at each index from `from` on and below `to`.

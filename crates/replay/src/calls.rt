@@ -1,6 +1,7 @@
 // The recorded functions by number, as oracle/src/geometry/list.rs numbers them. Each reads its arguments from the front of what
 // is lent and writes to the front of its outputs; a text is lent where a recorded file is, and so is what a fit's list of worst
 // steps has to be.
+use crate::thinner::Lent;
 use file::words::float_of;
 use geo::refusal::Refusal;
 use records::layout::Head;
@@ -8,6 +9,7 @@ use records::layout::Head;
 // What a recorded call answers: its count, or why it is refused; nothing where the record does not fit the call.
 pub type Answer = Option<Result<usize, Refusal>>;
 
+// Parameters stand one by one, here and in the files of the calls, since no two calls have the same list: each is that of C's call.
 pub fn call(
     h: Head,
     numbers: &[f64],
@@ -19,6 +21,12 @@ pub fn call(
 ) -> Answer {
     let f = h.function;
     let t = float_of(h.value);
+    let thinner = Lent {
+        tolerance: t,
+        numbers,
+        count: h.first,
+        closed: h.second != 0,
+    };
     match f {
         0 => crate::curves::get_midpoint_3d(numbers, out),
         1 => crate::curves::get_bezier_point_at(numbers, t, out),
@@ -59,9 +67,9 @@ pub fn call(
             recorded, fitted, h.first, kinds, numbers, t, bytes,
         )),
         25 => crate::thinner::start(t, out),
-        26 => crate::thinner::feed(t, numbers, h.first, h.second, out),
-        27 => crate::thinner::close(t, numbers, h.first, h.second, out),
-        28 => crate::thinner::retune(t, numbers, h.first, h.second, out),
+        26 => thinner.feed(out),
+        27 => thinner.close(out),
+        28 => thinner.retune(out),
         29 => crate::drawings::flatten_arc(kinds, numbers, t, bytes, out),
         30 => Some(svg::reading::read_course(recorded, bytes)),
         31 => crate::straights::fewest_straights(numbers, t, h.first, h.second, out),

@@ -11,6 +11,7 @@ pub fn truth(b: bool) -> Answer {
     Some(Ok(usize::from(b)))
 }
 
+// The parameters, here and below, are those of the recorded call, as C has them, and each call has its own.
 pub fn get_midpoint_3d(p: &[f64], out: &mut [f64]) -> Answer {
     if p.len() < 6 || out.len() < 3 {
         return None;
@@ -43,6 +44,7 @@ pub fn get_bezier_point_at(c: &[f64], t: f64, out: &mut [f64]) -> Answer {
     }
 }
 
+// A place is a slice and an index, as for `put_pair`.
 fn put_curve(out: &mut [f64], at: usize, q: CubicBezier<Point>)
     requires { at + 8 ≤ length out.old }
 {
@@ -88,6 +90,8 @@ pub fn is_bezier_flat(c: &[f64], tolerance_sq: f64) -> Answer {
     }
 }
 
+// The next function differs in the one argument that its call has in place of a count of steps: a body for both would take that call as
+// an argument, and be no shorter.
 pub fn linearize_bezier(c: &[f64], steps: usize, out: &mut [f64]) -> Answer {
     if c.len() < 12 {
         return None;

@@ -22,6 +22,7 @@ fn is_list(expected: &[u8], list: &[u32]) -> bool {
 }
 
 // The list of worst steps, which is lent here, has to be the record's.
+// The parameters, here and below, are those of the recorded call, as C has them, with what is expected among them.
 fn fit_range(
     points: &[f64],
     tolerance: f64,

@@ -14,13 +14,12 @@ mod straights;
 mod thinner;
 
 ghost use Rattle.std.specs.Prelude.{◌≡◌, ◌≤◌, length};
-ghost use Rattle.records.specs.Record.{Whole, body_bytes};
 
 use crate::calls::Answer;
 use buffers::read_full;
 use records::layout::{
-    BEFORE, BEFORE_BYTE, BODY_SIZE, BYTES, HEAD_SIZE, Head, NUMBERS, ROOM, body_size, head_of,
-    is_answered, is_output, is_whole,
+    BEFORE, BEFORE_BYTE, BODY_SIZE, BYTES, HEAD_SIZE, NUMBERS, ROOM, Record, WholeHead, head_of,
+    is_answered, is_whole,
 };
 use records::read_numbers;
 use std::io;
@@ -30,10 +29,12 @@ use std::io::Read;
 const SMALL: usize = 1000;
 
 // Makes the call of a record, where it fits the call. Kinds and files are lent as they stand in the record.
-fn answer_of(h: Head, body: &[u8], out: &mut [f64], bytes: &mut [u8]) -> Answer
-    requires whole { Whole h × (body_bytes h ≤ length body.now) }
-    requires room_in_bounds { (h.room ≤ length out.old) × (h.space ≤ length bytes.old) }
+// The outputs are parameters here and below, and no struct: two exclusive borrows would be taken apart and put together at each call.
+fn answer_of(record: Record, out: &mut [f64], bytes: &mut [u8]) -> Answer
+    requires room_in_bounds { (record.whole.head.room ≤ length out.old) × (record.whole.head.space ≤ length bytes.old) }
 {
+    let h = record.whole.head;
+    let body = record.body;
     let n = h.numbers;
     let kinds = 8 * n;
     let recorded = kinds + h.kinds;
@@ -42,7 +43,7 @@ fn answer_of(h: Head, body: &[u8], out: &mut [f64], bytes: &mut [u8]) -> Answer
     let room = h.room;
     let space = h.space;
     let mut numbers = [0.0; NUMBERS];
-    read_numbers(body, 0, n, &mut numbers);
+    read_numbers(&body[..kinds], &mut numbers);
     calls::call(
         h,
         &numbers[0..n],
@@ -55,35 +56,31 @@ fn answer_of(h: Head, body: &[u8], out: &mut [f64], bytes: &mut [u8]) -> Answer
 }
 
 // Whether the call of a record, with these outputs, answers and leaves what the record says.
-fn agrees_in(h: Head, body: &[u8], out: &mut [f64], bytes: &mut [u8]) -> bool
-    requires whole { Whole h × (body_bytes h ≤ length body.now) }
-    requires room_in_bounds { (h.room ≤ length out.old) × (h.space ≤ length bytes.old) }
+fn agrees_in(record: Record, out: &mut [f64], bytes: &mut [u8]) -> bool
+    requires room_in_bounds { (record.whole.head.room ≤ length out.old) × (record.whole.head.space ≤ length bytes.old) }
 {
-    match answer_of(h, body, out, bytes) {
-        Some(a) => is_answered(h, a) && is_output(h, body, out, bytes),
+    match answer_of(record, out, bytes) {
+        Some(a) => is_answered(record.whole.head, a) && record.is_output(out, bytes),
         None => false,
     }
 }
 
-fn agrees_in_large(h: Head, body: &[u8]) -> bool
-    requires { Whole h × (body_bytes h ≤ length body.now) }
-{
+fn agrees_in_large(record: Record) -> bool {
     let mut out = [BEFORE; ROOM];
     let mut bytes = [BEFORE_BYTE; BYTES];
-    agrees_in(h, body, &mut out, &mut bytes)
+    agrees_in(record, &mut out, &mut bytes)
 }
 
 // Whether the call of a record agrees, with outputs of one of two sizes: nine in ten records need little room, and filling and
 // comparing large outputs takes longer than the calls.
-fn agrees(h: Head, body: &[u8]) -> bool
-    requires { Whole h × (body_bytes h ≤ length body.now) }
-{
+fn agrees(record: Record) -> bool {
+    let h = record.whole.head;
     if SMALL < h.room || SMALL < h.space {
-        return agrees_in_large(h, body);
+        return agrees_in_large(record);
     }
     let mut out = [BEFORE; SMALL];
     let mut bytes = [BEFORE_BYTE; SMALL];
-    agrees_in(h, body, &mut out, &mut bytes)
+    agrees_in(record, &mut out, &mut bytes)
 }
 
 #[derive(Clone, Copy)]
@@ -95,14 +92,18 @@ enum Found {
 }
 
 // Reads what stands behind a head, and replays the record.
-fn replay_body<R: Read>(reader: &mut R, h: Head, body: &mut [u8]) -> io::Result<Found>
-    requires { Whole h × (618400 ≤ length body.old) }
+fn replay_body<R: Read>(reader: &mut R, whole: WholeHead, body: &mut [u8]) -> io::Result<Found>
+    requires { 618400 ≤ length body.old }
 {
-    let size = body_size(h);
+    let size = whole.body_size();
     if read_full(reader, &mut body[0..size])? < size {
         return Ok(Found::Damaged);
     }
-    if agrees(h, body) {
+    let record = Record {
+        whole,
+        body: &body[0..size],
+    };
+    if agrees(record) {
         return Ok(Found::Agrees);
     }
     Ok(Found::Differs)
@@ -122,7 +123,8 @@ fn replay_one<R: Read>(reader: &mut R, body: &mut [u8]) -> io::Result<Found>
     }
     let h = head_of(&head);
     if is_whole(h) {
-        return replay_body(reader, h, body);
+        let whole = WholeHead { head: h };
+        return replay_body(reader, whole, body);
     }
     Ok(Found::Damaged)
 }

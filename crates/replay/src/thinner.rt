@@ -70,62 +70,57 @@ pub fn start(tolerance: f64, out: &mut [f64]) -> Answer {
     }
 }
 
-pub fn feed(tolerance: f64, numbers: &[f64], count: usize, flag: usize, out: &mut [f64]) -> Answer {
-    if numbers.len() < Live::NUMBERS + 3 {
-        return None;
-    }
-    let mut state = Live {
-        tolerance,
-        points: slots_of(numbers),
-        count,
-        closed: flag != 0,
-    };
-    let handed = state.feed(point_at(numbers, Live::SLOTS));
-    written(state, handed, out)
+// A state as it is lent: what the calls of a thinner share.
+#[derive(Clone, Copy)]
+pub struct Lent<'a> {
+    pub tolerance: f64,
+    pub numbers: &'a [f64],
+    pub count: usize,
+    pub closed: bool,
 }
 
-pub fn close(
-    tolerance: f64,
-    numbers: &[f64],
-    count: usize,
-    flag: usize,
-    out: &mut [f64],
-) -> Answer {
-    if numbers.len() < Live::NUMBERS {
-        return None;
-    }
-    let mut state = Live {
-        tolerance,
-        points: slots_of(numbers),
-        count,
-        closed: flag != 0,
-    };
-    let handed = state.close();
-    written(state, handed, out)
-}
-
-pub fn retune(
-    tolerance: f64,
-    numbers: &[f64],
-    count: usize,
-    flag: usize,
-    out: &mut [f64],
-) -> Answer {
-    if numbers.len() < Live::NUMBERS + 1 || out.len() < Live::NUMBERS {
-        return None;
-    }
-    let mut state = Live {
-        tolerance,
-        points: slots_of(numbers),
-        count,
-        closed: flag != 0,
-    };
-    match state.retune(numbers[Live::NUMBERS], &mut out[Live::NUMBERS..]) {
-        Ok(n) => {
-            let points = state.points;
-            put_slots(&points, out);
-            Some(Ok(told(state, n)))
+impl<'a> Lent<'a> {
+    fn state(self) -> Live
+        requires { 195 ≤ length self.numbers.now }
+    {
+        Live {
+            tolerance: self.tolerance,
+            points: slots_of(self.numbers),
+            count: self.count,
+            closed: self.closed,
         }
-        Err(cause) => Some(Err(cause)),
+    }
+
+    pub fn feed(self, out: &mut [f64]) -> Answer {
+        if self.numbers.len() < Live::NUMBERS + 3 {
+            return None;
+        }
+        let mut state = self.state();
+        let handed = state.feed(point_at(self.numbers, Live::SLOTS));
+        written(state, handed, out)
+    }
+
+    pub fn close(self, out: &mut [f64]) -> Answer {
+        if self.numbers.len() < Live::NUMBERS {
+            return None;
+        }
+        let mut state = self.state();
+        let handed = state.close();
+        written(state, handed, out)
+    }
+
+    pub fn retune(self, out: &mut [f64]) -> Answer {
+        if self.numbers.len() < Live::NUMBERS + 1 || out.len() < Live::NUMBERS {
+            return None;
+        }
+        let mut state = self.state();
+        match state.retune(self.numbers[Live::NUMBERS], &mut out[Live::NUMBERS..]) {
+            Ok(n) => {
+                let points = state.points;
+                put_slots(&points, out);
+                Some(Ok(told(state, n)))
+            }
+            Err(cause) => Some(Err(cause)),
+        }
     }
 }

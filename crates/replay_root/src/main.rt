@@ -2,8 +2,6 @@
 // that of its root as the machine gave it, each with the lowest byte first. The program prints how many differ.
 #![tactic(auto)]
 
-ghost use Rattle.std.specs.Prelude.{◌*◌, ◌≤◌, length};
-
 use buffers::read_full;
 use file::words::{float_of, word_at};
 use records::has_pattern;
@@ -14,13 +12,14 @@ fn is_same(number: u64, expected: u64) -> bool {
     has_pattern(floats::root::sqrt(float_of(number)), expected)
 }
 
-// How many of the first n records of s have another root.
-fn differences(s: &[u8], n: usize) -> u64
-    requires { n * 16 ≤ length s.now }
-{
+// The bytes of a record.
+const SIZE: usize = 16;
+
+// How many of the records of s have another root.
+fn differences(s: &[u8]) -> u64 {
     let mut differ: u64 = 0;
-    for i in 0..n {
-        if !is_same(word_at(s, i * 16), word_at(s, i * 16 + 8)) {
+    for i in 0..s.len() / SIZE {
+        if !is_same(word_at(s, SIZE * i), word_at(s, SIZE * i + 8)) {
             differ += 1;
         }
     }
@@ -33,7 +32,7 @@ const ALL: usize = 65536;
 fn main(rt: HostRuntime) -> io::Result<()> {
     let mut records = [0; ALL];
     let mut reader = rt.reader();
-    let n = read_full(&mut reader, &mut records)? / 16;
-    let differ = differences(&records, n);
+    let n = read_full(&mut reader, &mut records)? / SIZE;
+    let differ = differences(&records[..SIZE * n]);
     println!(rt; "{n} compared, {differ} differ")
 }

@@ -4,4 +4,4 @@ use Rattle.records.proofs.Lists.{same_bytes}
 use Rattle.records.proofs.are_bytes_written.Goals as goal
 
 pub returns : goal.returns
-returns c = c.eq.ensures ∙ same_bytes c.args.bytes.now c.args.s.now c.args.at c.args.n c.requires.0 c.requires.1
+returns c = c.eq.ensures ∙ same_bytes c.args.bytes.now c.args.s.now c.requires

@@ -9,15 +9,18 @@ pub returns-then-fails_1-clause-row : goal.returns-then-fails_1-clause-row
 unfolding table_rows
 returns-then-fails_1-clause-row c = sym (row_fails _ _ _ (sym c.fails_1.ensures ∙ c.if-fails_1.true))
 
-pub fails_2-requires : goal.fails_2-requires
-fails_2-requires c = let a = c.args in let p = past_1 a.lent.recorded.now a.lent.fitted.now _ (sym c.fails_1.ensures ∙ c.if-fails_1.false) in (p.0, p.1)
+pub invariant_of-recorded : goal.invariant_of-recorded
+invariant_of-recorded c = let a = c.args in record { long = (past_1 a.lent.recorded.now a.lent.fitted.now _ (sym c.fails_1.ensures ∙ c.if-fails_1.false)).0 }
+
+pub invariant_of-fitted : goal.invariant_of-fitted
+invariant_of-fitted c = let a = c.args in record { long = (past_1 a.lent.recorded.now a.lent.fitted.now _ (sym c.fails_1.ensures ∙ c.if-fails_1.false)).1 }
 
 pub returns-then-fails_2-clause-row : goal.returns-then-fails_2-clause-row
 unfolding table_rows
 returns-then-fails_2-clause-row c = sym (row-passes _ _ _ (sym c.fails_1.ensures ∙ c.if-fails_1.false) ∙ row_fails _ _ _ (sym c.fails_2.ensures ∙ c.if-fails_2.true))
 
 pub fails_3-requires : goal.fails_3-requires
-fails_3-requires c = let a = c.args in let p = past_1 a.lent.recorded.now a.lent.fitted.now _ (sym c.fails_1.ensures ∙ c.if-fails_1.false) in let q = past_2 a.lent.recorded.now a.lent.fitted.now _ (sym c.fails_2.ensures ∙ c.if-fails_2.false) in (p.0, p.1, q.0, q.1)
+fails_3-requires c = let a = c.args in let q = past_2 a.lent.recorded.now a.lent.fitted.now _ (sym c.fails_2.ensures ∙ c.if-fails_2.false) in (q.0, q.1)
 
 pub returns-then-fails_3-clause-row : goal.returns-then-fails_3-clause-row
 unfolding table_rows

@@ -8,4 +8,4 @@ pub returns-then-lap-eq0 : goal.returns-then-lap-eq0
 returns-then-lap-eq0 c = let l = c.args.lap in end_none l.bytes.now c.args.start l.at l.count c.if-lap-eq0.true
 
 pub returns : goal.returns
-returns c = let l = c.args.lap in end_read l.bytes.now c.args.start _ l.at l.count c.read_command.result c.if-lap-eq0.false (c.read_command.ensures ∙ ap decoded c.command.ensures.bytes) c.end_point.ensures
+returns c = let l = c.args.lap in end_read l.bytes.now c.args.start _ l.at l.count c.read.result c.if-lap-eq0.false (c.read.ensures ∙ ap decoded c.command.ensures.bytes) c.end_point.ensures

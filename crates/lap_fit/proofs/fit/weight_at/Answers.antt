@@ -6,4 +6,4 @@ pub returns-then-c-lt-BEZIER : goal.returns-then-c-lt-BEZIER
 returns-then-c-lt-BEZIER c = let l = c.args.lap.body in once c.args.tolerance l.bytes.now _ _ _ c.command-c.ensures.bytes c.if-c-lt-BEZIER.true
 
 pub returns : goal.returns
-returns c = let l = c.args.lap.body in weighed c.args.tolerance l.bytes.now _ _ c.args.lap.start _ l.at c.args.i _ _ _ _ c.front.ensures c.lap_end-last.ensures c.command-c.ensures.bytes c.read_command.ensures c.weight.ensures
+returns c = let l = c.args.lap.body in weighed c.args.tolerance l.bytes.now _ _ c.args.lap.start _ l.at c.args.i _ _ _ _ c.front.ensures c.lap_end-last.ensures c.command-c.ensures.bytes c.read.ensures c.weight.ensures
