@@ -7,7 +7,7 @@ use borrow.Author.Tests.{le-ltb}
 use lib.Dec.{ltb}
 use Rattle.geo.specs.declared.types.Point3D.{Point3D}
 use Rattle.geo.specs.declared.types.Command.TheVariants.{Bezier}
-use Rattle.geo.specs.Lent.{command_of}
+use Rattle.geo.specs.Lent.{command_of, end_of}
 use Rattle.geo.specs.Domain.{zero3, formed}
 
 -- a Move or a Line
@@ -33,3 +33,11 @@ bezier_of zero p q r h = absurd (omega arith)
 bezier_of (suc zero) p q r h = absurd (omega arith)
 bezier_of (suc (suc zero)) p q r h = absurd (omega arith)
 bezier_of (suc (suc (suc k))) p q r h = refl
+
+-- a command ends at the first of its points, whatever its kind
+pub ends_first : (k : ℕ) (p q r : Point3D) → end_of (command_of k p q r) ≡ p
+unfolding end_of command_of
+ends_first zero p q r = refl
+ends_first (suc zero) p q r = refl
+ends_first (suc (suc zero)) p q r = refl
+ends_first (suc (suc (suc k))) p q r = refl
