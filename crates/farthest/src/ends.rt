@@ -113,24 +113,23 @@ impl<'a> Ends for Commands<'a> {
     ghost measured = { commands_measured };
 
     fn end(self, i: usize) -> Point3D {
-        self.at(i).end_point()
+        self.end_at(i)
     }
 
+    #[tactic(auto, unfolding(crate::specs::Ends::candidate_of))]
     fn candidate(self, i: usize) -> Option<Point3D> {
-        let c = self.at(i);
-        if is_move(c) {
+        if is_move_at(self, i) {
             return None;
         }
-        Some(c.end_point())
+        Some(self.end_at(i))
     }
 }
 
-#[tactic(auto, unfolding(crate::specs::Ends::is_move))]
-pub fn is_move(c: Command) -> bool
-    ensures { result ≡ is_move c }
+// Whether the command at an index is a Move. Its kind alone is read: a search that reads whole commands takes a third longer.
+#[tactic(auto, unfolding(geo::specs::Lent::command_at), using(crate::proofs::Moves::move_told))]
+pub fn is_move_at(commands: Commands, i: usize) -> bool
+    requires { i < length commands.kinds.now }
+    ensures { result ≡ is_move (command_at commands.entry.kinds.now commands.entry.nums.now i) }
 {
-    match c {
-        Command::Move { end: _ } => true,
-        _ => false,
-    }
+    commands.kinds[i] == 0
 }

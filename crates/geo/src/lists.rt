@@ -1,6 +1,6 @@
 // Lists as they are lent, each in one value: commands, and a stretch of a list of points.
 ghost use Rattle.std.specs.Prelude.{◌≡◌, ◌+◌, ◌*◌, ◌<◌, length};
-ghost use Rattle.geo.specs.Lent.{command_at, point_at};
+ghost use Rattle.geo.specs.Lent.{command_at, point_at, end_of};
 ghost use Rattle.geo.specs.Domain.{commands_in, commands_formed};
 
 use crate::domain::{all_coordinates, command_in, is_formed};
@@ -65,6 +65,15 @@ impl<'a> Commands<'a> {
         let q = crate::lent::point_at(self.nums, b + 1);
         let r = crate::lent::point_at(self.nums, b + 2);
         make_command(self.kinds[i], p, q, r)
+    }
+
+    // Where the command at an index ends: the first of its points, whatever its kind.
+    #[tactic(auto, unfolding(crate::specs::Lent::command_at), using(crate::proofs::Formed::ends_first))]
+    pub fn end_at(self, i: usize) -> Point3D
+        requires { i < length self.kinds.now }
+        ensures { result ≡ end_of (command_at self.entry.kinds.now self.entry.nums.now i) }
+    {
+        crate::lent::point_at(self.nums, 3 * i)
     }
 
     // Row 4: whether each kind is known, and the numbers that it does not use are +0, wherever a Move may stand.

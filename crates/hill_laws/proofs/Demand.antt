@@ -14,6 +14,7 @@ use Rattle.geo.specs.declared.types.Command.{Command}
 use Rattle.geo.specs.declared.types.Command.TheVariants.{Line}
 use Rattle.geo.specs.Lent.{origin, end_of, command_of}
 use Rattle.geo.specs.Outcome.{refused, gives, unless, refusal}
+use Rattle.geo.proofs.Formed.{ends_first}
 use Rattle.file.specs.Bytes.{number_at}
 use Rattle.file.specs.Command.{decoded, enc, point_from, HeldPoint}
 use Rattle.std.specs.Prelude.{None}
@@ -108,16 +109,9 @@ point-held : (s : List ℕ) (at : ℕ) → HeldPoint (point_from s at)
 unfolding point_from
 point-held s at = (read_held s at, read_held s (at + 8), read_held s (at + 16))
 
-end_of_lem : (k : ℕ) (p q r : Point3D) → end_of (command_of k p q r) ≡ p
-unfolding end_of command_of
-end_of_lem zero p q r = refl
-end_of_lem (suc zero) p q r = refl
-end_of_lem (suc (suc zero)) p q r = refl
-end_of_lem (suc (suc (suc k))) p q r = refl
-
 end-held : (c : List ℕ) → HeldPoint (end_of (decoded c))
 unfolding decoded
-end-held c = subst HeldPoint (sym (end_of_lem (get_or c 0 0) (point_from c 1) (point_from c 25) (point_from c 49))) (point-held c 1)
+end-held c = subst HeldPoint (sym (ends_first (get_or c 0 0) (point_from c 1) (point_from c 25) (point_from c 49))) (point-held c 1)
 
 ends_held : (l : Lap) → HeldEnds (map decoded l)
 ends_held [] = tt

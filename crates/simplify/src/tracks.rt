@@ -10,7 +10,7 @@ ghost use Rattle.simplify.specs.Placed.{none_placed, placed_size, placed_ahead};
 
 use crate::form::Form;
 use crate::track::Track;
-use farthest::ends::is_move;
+use farthest::ends::is_move_at;
 use farthest::farthest::{Farthest, Ruler, farthest_between, farthest_from_line};
 use geo::lent::{point_at, put_command, put_point};
 use geo::lists::{Commands, Stretch};
@@ -157,7 +157,7 @@ impl<'a, 'k, 'n> Track for Listed<'a, 'k, 'n> {
     }
 
     fn stays(&self, i: usize) -> bool {
-        is_move(self.commands.at(i))
+        is_move_at(self.commands, i)
     }
 
     fn place(&mut self, from: usize, to: usize) {

@@ -13,6 +13,7 @@ use super::laps::{bodies, body, file, recording};
 use super::shapes::{noise, track};
 use super::simplify::{Commands, parts};
 use crate::random::Random;
+use raygeo::geo::algo::fitting as given_fitting;
 use raygeo::geo::types::{Command, Point3D};
 use raygeo_segment::geo::algo::fitting;
 use std::hint::black_box;
@@ -239,6 +240,22 @@ fn course(name: String, c: Commands, tolerance: f64) -> Row<'static> {
     }
 }
 
+/// The same beside the given Rust with its own distance, that to the endless line, which makes other commands: neither is counted. So a
+/// run of today can be held beside those of before document 02, §4, whose other side was that Rust.
+fn course_by_lines(name: String, c: Commands, tolerance: f64) -> Row<'static> {
+    let data = c.given();
+    let Row { mut proved, .. } = course(String::new(), c, tolerance);
+    let given = move || {
+        black_box(given_fitting::fit_arcs(black_box(&data), black_box(tolerance)));
+        0
+    };
+    let proved = move || {
+        black_box(proved());
+        0
+    };
+    Row { name, given: Box::new(given), proved: Box::new(proved) }
+}
+
 /// Full files: six laps with 800 commands, and the most laps, with twelve commands each.
 pub fn full_files(draw: &mut Draw) -> [(&'static str, Vec<Commands>); 2] {
     let mut laps = |counts: &[usize]| counts.iter().map(|count| lines(&track(draw, *count, 4.0, 1.0))).collect();
@@ -253,6 +270,8 @@ fn rows() -> Vec<Row<'static>> {
         let c = lines(&track(&mut draw, count, 4.0, 1.0));
         for tolerance in [0.5, 2.0, 5.0] {
             rows.push(course(format!("fit_arcs, track of {count} points, {tolerance}"), c.clone(), tolerance));
+            let name = format!("the same beside the Rust as given, {tolerance}");
+            rows.push(course_by_lines(name, c.clone(), tolerance));
         }
     }
     // growth: one lap, and one of two laps replaced
