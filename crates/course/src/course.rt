@@ -104,7 +104,8 @@ fn walk_along(kinds: &[u8], nums: &[f64], w: &mut Walker) -> usize
 
 // Walks along a course from its start, and answers how many commands it gives. The caller lends the chain's buffer, so that many courses
 // share one, and a column for the steps that each command covers, empty where nobody wants them. The outputs are lent one by one here and below:
-// C has no struct of them, and what is asked of their lengths depends on the course.
+// C has no struct of them, and what is asked of their lengths depends on the course. Nor are rule and buffer a pair: the rule is a file's, and what the
+// buffer holds each course's own.
 fn walk_course(
     kinds: &[u8],
     nums: &[f64],

@@ -131,6 +131,7 @@ fn fails_7(k: usize, file: LapFile) -> bool
 }
 
 // The first of the rows 4 to 7 that they fall under.
+// The number of the lap may be any, so it is no part of the file: row 7 tells whether the file has it.
 pub fn check_laps(
     file: LapFile,
     k: usize,

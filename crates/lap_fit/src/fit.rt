@@ -120,6 +120,8 @@ pub fn most_of(file: LapFile, tolerance: f64) -> usize
 }
 
 // Writes the fit of lent commands, from their start, from `to` on, and returns how many commands it has.
+// The rule, the output and the place stay parameters, here and below: one rule is for all laps of a file and each has its own start, and the
+// place stands in the file's table besides.
 fn fit_lent(
     commands: Commands,
     start: Point3D,
@@ -206,6 +208,7 @@ fn fit_laps(file: LapFile, rule: FitRule, out: &mut [u8]) -> usize
 }
 
 // The first row that the fit of a file falls under, or the file, whose table is right.
+// The tolerance and the room go nowhere together: each is looked at by rows of its own.
 fn check_fit<'a>(s: &'a [u8], tolerance: f64, room: usize) -> Result<LapFile<'a>, Refusal>
     ensures row { refused_by result ≡ refusal (file_fit_rows s.now tolerance room) }
     ensures same { IfOk result (λ file. file.bytes.now ≡ s.now) }

@@ -44,6 +44,7 @@ impl ListRoom {
 
 // Lists the commands of a lap with its start, and answers how many rows they have: they are fitted, and beside each command stands
 // how many steps it covers.
+// That the tolerance is above zero stays a clause, here and below: a type of it would hold one number, and be taken apart where the rule is made.
 fn list_commands(lap: StartedLap, tolerance: f64, room: &mut ListRoom) -> usize
     requires { ((+0 ≺ tolerance) ≡ true) × (most_lap tolerance lap.start (commands_at lap.body.bytes.now lap.body.at lap.body.count) ≤ most_commands) }
     // What the other arrays hold at exit is left open.
@@ -69,7 +70,7 @@ fn list_commands(lap: StartedLap, tolerance: f64, room: &mut ListRoom) -> usize
     )
 }
 
-// Writes the text of one lap, of this number and with its start, from `to` on.
+// Writes the text of one lap, of this number and with its start, from `to` on. The output is lent whole with the place, as in `put_rows`.
 fn put_lap(
     lap: StartedLap,
     number: usize,
@@ -108,6 +109,7 @@ fn list_laps(file: LapFile, tolerance: f64, out: &mut [u8]) -> usize
 }
 
 // The first row that the listing of a file falls under, or the file, whose table is right.
+// The tolerance and the room go nowhere together: each is looked at by rows of its own.
 fn check_text<'a>(s: &'a [u8], tolerance: f64, room: usize) -> Result<LapFile<'a>, Refusal>
     ensures row { refused_by result ≡ refusal (text_rows s.now tolerance room) }
     ensures same { IfOk result (λ file. file.bytes.now ≡ s.now) }
@@ -128,6 +130,7 @@ fn check_text<'a>(s: &'a [u8], tolerance: f64, room: usize) -> Result<LapFile<'a
 }
 
 // Lists the fit of a recorded file: writes the listing's text to the front of out. A refusal changes nothing.
+// The parameters are as those of `fit_file`, which are C's; from the check on there is a file.
 pub fn list_file(recorded: &[u8], tolerance: f64, out: &mut [u8]) -> Result<usize, Refusal>
     ensures { Wrote (λ (bytes : List ℕ). bytes) (list_file recorded.now tolerance (length out.old)) out.old out.new result }
 {

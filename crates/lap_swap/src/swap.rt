@@ -19,6 +19,7 @@ use laps::lap_file::{LapFile, lacks_move, put_entry, put_head};
 use ranges::ranges::FitRule;
 
 // Copies the commands of a lap as they stand.
+// The output is lent whole with the place to write at, here and below, as that place stands in the file's table besides.
 fn copy_lap(lap: Body, out: &mut [u8], to: usize)
     requires { to + 73 * lap.count ≤ length out.old }
     ensures { PutLap (commands_at lap.entry.bytes.now lap.entry.at lap.entry.count) out.old out.new to lap.entry.count }
@@ -52,6 +53,8 @@ fn choose<'a>(k: usize, new: Body<'a>, next: Option<Body<'a>>, j: usize, lap: Bo
 }
 
 // Writes the fitted file, the mark first, with a new lap k and, where there is one, a new lap behind it. Returns how many bytes it has.
+// A lap's number stays beside its file, here and below: `next_of`, `put_part` and `with_others` take numbers that a file does not have, so a type
+// of those that it has would ask more of their callers.
 fn put_file(fitted: LapFile, k: usize, new: Body, next: Option<Body>, out: &mut [u8]) -> usize
     requires { (1 ≤ k) × (command_count (swap_both (is_some next) k (commands_at new.bytes.now new.at new.count) (commands_of next) (laps_of fitted.bytes.now)) ≤ 800) × (file_size (lap_count fitted.bytes.now) (command_count (swap_both (is_some next) k (commands_at new.bytes.now new.at new.count) (commands_of next) (laps_of fitted.bytes.now))) ≤ length out.old) }
     ensures { (result ≡ length (encode (swap_both (is_some next.entry) k (commands_at new.entry.bytes.now new.entry.at new.entry.count) (commands_of next.entry) (laps_of fitted.entry.bytes.now)))) × (out.new ≡ encode (swap_both (is_some next.entry) k (commands_at new.entry.bytes.now new.entry.at new.entry.count) (commands_of next.entry) (laps_of fitted.entry.bytes.now)) ++ drop (length (encode (swap_both (is_some next.entry) k (commands_at new.entry.bytes.now new.entry.at new.entry.count) (commands_of next.entry) (laps_of fitted.entry.bytes.now)))) out.old) }
@@ -94,6 +97,8 @@ pub fn next_of<'a>(file: LapFile<'a>, k: usize) -> Option<Body<'a>>
 
 // Writes the fit of a recorded lap with its start, if there is one, from `to` on, by way of arrays of its own, and returns how many commands
 // it has. Where there is none, no array is filled.
+// The next lap comes without its start, and that it has few commands is a clause, here and below: whether there is one is asked where no start is
+// known.
 fn fit_next(next: Option<Body>, start: Point3D, rule: FitRule, out: &mut [u8], to: usize) -> usize
     requires { IfSome next (λ lap. lap.count ≤ 800) × (most_lap rule.rule.tolerance start (commands_of next) ≤ 800) × (to + 73 * length (fit_lap rule.rule start (commands_of next)) ≤ length out.old) }
     ensures { PutLap (fit_lap rule.rule start (commands_of next.entry)) out.old out.new to result }
@@ -147,6 +152,7 @@ pub struct Refit {
 }
 
 // Fits the new commands, and behind them the next lap where that is fitted again, to the front of a buffer.
+// The new commands stay beside the number of the lap, here and below: a commit has the number, and no commands.
 pub fn fit_both(
     recorded: LapFile,
     k: usize,

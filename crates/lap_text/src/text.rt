@@ -9,7 +9,7 @@ ghost use Rattle.lap_text.specs.Left.{TextPut, listed, rows_from};
 use crate::bytes;
 use listing::listing::letter;
 
-// Writes a number's decimal digits from `at` on, and answers where they end.
+// Writes a number's decimal digits from `at` on, and answers where they end. The number n is no length: it and the place are each call's own.
 #[tactic(auto, using(std::proofs::lemmas::Grind::common_steps, crate::proofs::Decimal::one_digit, crate::proofs::Decimal::two_digits, crate::proofs::Decimal::three_digits))]
 fn put_decimal(out: &mut [u8], at: usize, n: usize) -> usize
     requires { (n < 1000) × (at + length (decimal n) ≤ length out.old) }

@@ -39,7 +39,7 @@ fn check_counts(tally: Tally, room: usize) -> Result<(), Refusal>
     Ok(())
 }
 
-// Writes the lap that stands at the text's front from `to` on: a slice and an index, here and below, as `write_command` takes them.
+// Writes the lap that stands at the text's front from `to` on. The output is lent whole with that place, which stands in the table besides.
 fn put_lap<'a>(s: &'a [u8], out: &mut [u8], to: usize) -> LapRead<'a>
     requires { LapFits s.now to (length out.old) }
     ensures { LapPut s.now out.old out.new to result }
