@@ -123,6 +123,7 @@ pub fn is_answered(h: Head, a: Result<usize, Refusal>) -> bool
 }
 
 // Whether outputs are as before the call behind what is written.
+// The outputs are two parameters, here and below: who calls has each as an exclusive borrow, and a struct of both would be made for one call.
 fn is_rest_left(h: Head, out: &[f64], bytes: &[u8]) -> bool
     ensures { result ≡ (numbers_left out.now h.written (length out.now) untouched && bytes_left bytes.now h.stored (length bytes.now) 200) }
 {

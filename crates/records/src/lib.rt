@@ -31,7 +31,7 @@ pub fn read_numbers(s: &[u8], numbers: &mut [f64])
     }
 }
 
-// Whether s has the patterns of the first numbers of out.
+// Whether s has the patterns of the first numbers of out, eight bytes each.
 pub fn are_numbers_written(s: &[u8], out: &[f64]) -> bool
     requires { length s.now / 8 ≤ length out.now }
     ensures { result ≡ numbers_written s.now 0 (length s.now / 8) out.now }
@@ -44,7 +44,7 @@ pub fn are_numbers_written(s: &[u8], out: &[f64]) -> bool
     true
 }
 
-// Whether s has the first of the bytes.
+// Whether the bytes of s are the first of `bytes`.
 pub fn are_bytes_written(s: &[u8], bytes: &[u8]) -> bool
     requires { length s.now ≤ length bytes.now }
     ensures { result ≡ bytes_written s.now 0 (length s.now) bytes.now }

@@ -9,7 +9,7 @@ use records::layout::Head;
 // What a recorded call answers: its count, or why it is refused; nothing where the record does not fit the call.
 pub type Answer = Option<Result<usize, Refusal>>;
 
-// Parameters stand one by one, here and in the files of the calls, since no two calls have the same list: each is that of C's call.
+// Parameters stand one by one, here and in the files of the calls: each call takes those that C's call has, and few take the same.
 pub fn call(
     h: Head,
     numbers: &[f64],

@@ -5,7 +5,7 @@ use crate::curves::truth;
 use geo::lent::{point_at, put_pair};
 use geo::types::Point;
 
-// The parameters, here and below, are those of the recorded call, as C has them, and each call has its own.
+// The parameters, here and below, are those of the recorded call, as C has them.
 pub fn are_points_collinear_3d(points: &[f64], tolerance: f64) -> Answer {
     match circle::circle::are_points_collinear_3d(points, tolerance) {
         Ok(b) => truth(b),

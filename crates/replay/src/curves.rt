@@ -11,7 +11,7 @@ pub fn truth(b: bool) -> Answer {
     Some(Ok(usize::from(b)))
 }
 
-// The parameters, here and below, are those of the recorded call, as C has them, and each call has its own.
+// The parameters, here and below, are those of the recorded call, as C has them.
 pub fn get_midpoint_3d(p: &[f64], out: &mut [f64]) -> Answer {
     if p.len() < 6 || out.len() < 3 {
         return None;
@@ -90,8 +90,8 @@ pub fn is_bezier_flat(c: &[f64], tolerance_sq: f64) -> Answer {
     }
 }
 
-// The next function differs in the one argument that its call has in place of a count of steps: a body for both would take that call as
-// an argument, and be no shorter.
+// The next function makes another call, with a resolution in place of the steps: a body for both would take the call as an argument, and
+// be no shorter.
 pub fn linearize_bezier(c: &[f64], steps: usize, out: &mut [f64]) -> Answer {
     if c.len() < 12 {
         return None;
