@@ -6,7 +6,7 @@ use native.Mathlib.Omega.{arith}
 use lib.ListN.{length}
 use lib.Seq.{sets}
 use lib.Ieee.{Float}
-use Rattle.std.specs.Prelude.{Result, Ok, Err}
+use Rattle.std.specs.Prelude.{Bool, Option, Result, Ok, Err}
 use Rattle.geo.specs.declared.refusal.Refusal.{Refusal}
 use Rattle.geo.specs.declared.types.Command.{Command}
 use Rattle.geo.specs.Outcome.{Outcome, refused, gives, left}
@@ -15,7 +15,7 @@ use Rattle.geo.specs.Wrote.{answer, Wrote, WroteCommands}
 use Rattle.geo.specs.Lent.{flat, kind_of, numbers_of}
 use Rattle.fitting.specs.declared.fitting.Primitives.{Primitives}
 use Rattle.fitting.specs.Calls.{primitives_answer}
-use Rattle.exports.specs.Plain.{number_of, laid_plain, told, count_or, Gave, Told, Handed, Listed, ListedCommands}
+use Rattle.exports.specs.Plain.{is_found, number_of, laid_plain, told, count_or, Gave, Told, Handed, Listed, ListedCommands}
 
 module _ {A : Type 0} (lay : A → List Float) (o : Outcome A) (out : List Float) where
   pub gave : (a : A) (out' : List Float) → gives a ≡ o → out' ≡ sets out 0 (lay a) → Gave lay o out out' 0
@@ -34,6 +34,14 @@ module _ {A B : Type 0} (of : A → B) (o : Outcome A) (b : B) where
   pub tells_nothing : (n k : ℕ) → refused n ≡ o → k ≡ n → Told of o b b k
   unfolding number_of told
   tells_nothing n k e h = rw (sym e) record { says = h; leaves = refl }
+
+-- ---- what a search found, if anything: whether it did, and the numbers of what it found
+module _ {A : Type 0} (lay : Option A → List Float) (o : Outcome (Option A)) (b : Bool) (out : List Float) where
+  pub finds : (a : Option A) (b' : Bool) (out' : List Float) → gives a ≡ o → b' ≡ is_found a → out' ≡ sets out 0 (lay a) → Told is_found o b b' 0 × Gave lay o out out' 0
+  finds a b' out' e h k = (tells is_found o b a b' e h, gave lay o out a out' e k)
+
+  pub finds_nothing : (n k : ℕ) → refused n ≡ o → k ≡ n → Told is_found o b b k × Gave lay o out out k
+  finds_nothing n k e h = (tells_nothing is_found o b n k e h, gave_nothing lay o out n k e h)
 
 -- ---- an answer that was handed on: the outcome is told by it
 handed : {A : Type 0} (o : Outcome (List A)) (a : Result ℕ Refusal) (count count' r : ℕ) → outcome a ≡ answer o → Handed a count count' r → (r ≡ number_of o) × (count' ≡ told length count o)
