@@ -136,7 +136,8 @@ pub fn all_coordinates(nums: &[f64]) -> bool
     all
 }
 
-// Whether the kind, a byte as it is lent, is known, and the numbers that it does not use are +0.
+// Whether the kind, a byte as it is lent, is known, and the numbers that it does not use are +0. Of its three points only the two
+// behind the end may go unused.
 #[tactic(auto, unfolding(crate::specs::Domain::formed))]
 pub fn is_formed(kind: u8, q: Point3D, r: Point3D) -> bool
     ensures { result ≡ formed kind q r }

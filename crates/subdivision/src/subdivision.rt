@@ -173,7 +173,7 @@ pub fn linearize_bezier_adaptive(
     Ok(put_polyline(max_depth, tolerance_sq, q, out))
 }
 
-// A direction in space.
+// A direction in space, from one operand to the other.
 #[tactic(auto, unfolding(crate::specs::Flatten::minus))]
 fn minus_3d(p: Point3D, q: Point3D) -> Point3D
     ensures { result ≡ minus p q }
