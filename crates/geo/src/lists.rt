@@ -1,5 +1,5 @@
 // Lists as they are lent, each in one value: commands, and a stretch of a list of points.
-ghost use Rattle.std.specs.Prelude.{◌≡◌, ◌+◌, ◌*◌, ◌<◌, length};
+ghost use Rattle.std.specs.Prelude.{◌≡◌, ◌+◌, ◌*◌, ◌<◌, ◌≤◌, length};
 ghost use Rattle.geo.specs.Lent.{command_at, point_at, end_of};
 ghost use Rattle.geo.specs.Domain.{commands_in, commands_formed};
 
@@ -39,12 +39,12 @@ impl<'a> Stretch<'a> {
     }
 }
 
-// Commands: their kinds, and nine numbers for each.
+// Commands: their kinds, and nine numbers for each at least.
 #[derive(Clone, Copy)]
 pub struct Commands<'a> {
     pub kinds: &'a [u8],
     pub nums: &'a [f64],
-    ghost whole: { length nums.now ≡ 9 * length kinds.now },
+    ghost whole: { 9 * length kinds.now ≤ length nums.now },
 }
 
 impl<'a> Commands<'a> {

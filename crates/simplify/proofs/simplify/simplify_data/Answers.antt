@@ -14,7 +14,8 @@ returns-in_err-refuse_commands c = commands-refused _ _ c.in_err-refuse_commands
 
 pub invariant_of-listed : goal.invariant_of-listed
 invariant_of-listed c = let a = c.args in
-    record { whole = (commands-accepted a.kinds.now a.nums.now a.tolerance (length a.out_kinds.now) (length a.out_nums.now) c.in_ok-refuse_commands.ensures).0 }
+    let r = commands-accepted a.kinds.now a.nums.now a.tolerance (length a.out_kinds.now) (length a.out_nums.now) c.in_ok-refuse_commands.ensures in
+    record { whole = omega (arith, r) }
 
 pub invariant_of-listed-2 : goal.invariant_of-listed-2
 invariant_of-listed-2 c = let a = c.args in
