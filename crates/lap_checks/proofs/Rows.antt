@@ -116,6 +116,13 @@ sizes_with new k s f l r t room e p q =
     ⊎_elim (λ h. let a = told_more r new.most p in size_8 l t room h ∙ sym (size_8 (lap_count f) (new.most + command_count (swap_both (next_lacks k (laps_of s)) k [] [] (laps_of f))) room (omega arith)))
     (λ h. rw (e, q, told_below r new.most p (omega arith))) (lt_or_ge 800 t)
 
+-- the new lap's most, as it is told, where the whole file's is no more than 800
+pub most_told : (new : NewLap) (k : ℕ) (s f : List ℕ) (r : ℕ) → r ≡ cap new.most → most_with new k s f ≤ 800 → (r ≡ new.most) × (r ≤ 800)
+unfolding most_with
+most_told new k s f r e h =
+    let m = told_more r new.most e in
+    let l : r ≤ 800 = omega (arith, m, h) in (told_below r new.most e l, l)
+
 -- ---- the rows by their two halves, of what the code found of the new lap
 pub tables_of : (s f : List ℕ) (w W few : Bool) (r : ℕ) → r ≡ refusal (table_rows s f w few) → w ≡ W → r ≡ refusal (table_rows s f W few)
 tables_of s f w W few r e h = e ∙ ap (λ (b : Bool). refusal (table_rows s f b few)) h

@@ -48,9 +48,9 @@ unfolding body flat
 body-enc [] = refl
 body-enc (c ∷ cs) = ap (λ (l : List ℕ). enc c ++ l) (body-enc cs)
 
-module _ (r : Rule) (pos : (+0 ≺ r.tolerance) ≡ true) (start : Point3D) (ks : List ℕ) (ns : List Float) (few : most_on r.tolerance start (lent_course ks ns) ≤ 800) (n : ℕ) (fk₀ fk : List ℕ) (fn₀ fn : List Float)
-    (p : FitPlaced (fit_on r start (lent_course ks ns)) 0 n fk₀ fk fn₀ fn) (h : 800 ≤ length fk₀) (k : 7200 ≤ length fn₀) where
-  pub counted : n ≤ 800
+module _ (r : Rule) (pos : (+0 ≺ r.tolerance) ≡ true) (start : Point3D) (ks : List ℕ) (ns : List Float) (n : ℕ) (fk₀ fk : List ℕ) (fn₀ fn : List Float)
+    (p : FitPlaced (fit_on r start (lent_course ks ns)) 0 n fk₀ fk fn₀ fn) (h : most_on r.tolerance start (lent_course ks ns) ≤ length fk₀) (k : 9 * most_on r.tolerance start (lent_course ks ns) ≤ length fn₀) where
+  pub counted : n ≤ most_on r.tolerance start (lent_course ks ns)
   counted = let a = course_few r pos start (lent_course ks ns) in let b = p.count in omega arith
 
   pub counted_new : length (fit_new r start ks ns) ≡ n

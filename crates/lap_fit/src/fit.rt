@@ -25,6 +25,11 @@ use laps::lap_file::{BEZIER, LapFile, check_file, check_sizes, put_entry, put_he
 use pieces::pieces::Rule;
 use ranges::ranges::FitRule;
 
+// So many commands or fewer are few.
+pub const FEW: usize = 256;
+// The numbers of few commands, nine a command.
+const FEW_NUMBERS: usize = 9 * FEW;
+
 // The arrays that a fit works in: its chain, and its commands.
 #[derive(Drop)]
 pub struct FitRoom {
@@ -121,16 +126,20 @@ pub fn most_of(file: LapFile, tolerance: f64) -> usize
 
 // Writes the fit of lent commands, from their start, from `to` on, and returns how many commands it has.
 // The rule, the output and the place stay parameters, here and below: one rule is for all laps of a file and each has its own start, and the
-// place stands in the file's table besides.
+// place stands in the file's table besides. The arrays are lent one by one, as few commands have smaller ones: a `FitRoom` of any lengths would ask
+// of each caller that a type so long has a size.
 fn fit_lent(
     commands: Commands,
     start: Point3D,
     rule: FitRule,
-    room: &mut FitRoom,
+    chain: &mut [f64; Walk::CHAIN],
+    kinds: &mut [u8],
+    nums: &mut [f64],
     out: &mut [u8],
     to: usize,
 ) -> usize
-    requires { (most_on rule.rule.tolerance start (lent_course commands.kinds.now commands.nums.now) ≤ most_commands) × (to + 73 * length (fit_new rule.rule start commands.kinds.now commands.nums.now) ≤ length out.old) }
+    requires { (most_on rule.rule.tolerance start (lent_course commands.kinds.now commands.nums.now) ≤ most_commands) × (most_on rule.rule.tolerance start (lent_course commands.kinds.now commands.nums.now) ≤ length kinds.old) × (9 * most_on rule.rule.tolerance start (lent_course commands.kinds.now commands.nums.now) ≤ length nums.old) × (to + 73 * length (fit_new rule.rule start commands.kinds.now commands.nums.now) ≤ length out.old) }
+    // What the arrays hold at exit is left open.
     ensures { PutLap (fit_new rule.rule start commands.entry.kinds.now commands.entry.nums.now) out.old out.new to result }
 {
     let n = fit_course(
@@ -138,32 +147,67 @@ fn fit_lent(
         commands.nums,
         start,
         rule,
-        &mut room.chain,
-        &mut room.kinds,
-        &mut room.nums,
+        chain,
+        kinds,
+        nums,
     );
     let m = 9 * n;
     let fit = Commands {
-        kinds: &room.kinds[..n],
-        nums: &room.nums[..m],
+        kinds: &kinds[..n],
+        nums: &nums[..m],
     };
     write_commands(fit, out, to);
     n
 }
 
-// Writes the fit of lent commands, from their start, from `to` on, and returns how many commands it has.
-pub fn fit_commands(
-    commands: Commands,
-    start: Point3D,
-    rule: FitRule,
-    out: &mut [u8],
-    to: usize,
-) -> usize
+// The fit of few commands, in small arrays, which are filled sooner than large ones.
+fn fit_few(commands: Commands, start: Point3D, rule: FitRule, out: &mut [u8], to: usize) -> usize
+    requires { (most_on rule.rule.tolerance start (lent_course commands.kinds.now commands.nums.now) ≤ 256) × (to + 73 * length (fit_new rule.rule start commands.kinds.now commands.nums.now) ≤ length out.old) }
+    ensures { PutLap (fit_new rule.rule start commands.entry.kinds.now commands.entry.nums.now) out.old out.new to result }
+{
+    let mut chain = [0.0; Walk::CHAIN];
+    let mut kinds = [0u8; FEW];
+    let mut nums = [0.0; FEW_NUMBERS];
+    fit_lent(
+        commands, start, rule, &mut chain, &mut kinds, &mut nums, out, to,
+    )
+}
+
+// The fit of any commands.
+fn fit_many(commands: Commands, start: Point3D, rule: FitRule, out: &mut [u8], to: usize) -> usize
     requires { (most_on rule.rule.tolerance start (lent_course commands.kinds.now commands.nums.now) ≤ 800) × (to + 73 * length (fit_new rule.rule start commands.kinds.now commands.nums.now) ≤ length out.old) }
     ensures { PutLap (fit_new rule.rule start commands.entry.kinds.now commands.entry.nums.now) out.old out.new to result }
 {
     let mut room = FitRoom::new();
-    fit_lent(commands, start, rule, &mut room, out, to)
+    fit_lent(
+        commands,
+        start,
+        rule,
+        &mut room.chain,
+        &mut room.kinds,
+        &mut room.nums,
+        out,
+        to,
+    )
+}
+
+// Writes the fit of lent commands, from their start, from `to` on, and returns how many commands it has. They could become `most` at most, by
+// which its arrays are chosen; each choice has them in a function of its own, so that none takes room for both.
+pub fn fit_commands(
+    commands: Commands,
+    start: Point3D,
+    rule: FitRule,
+    most: usize,
+    out: &mut [u8],
+    to: usize,
+) -> usize
+    requires { (most_on rule.rule.tolerance start (lent_course commands.kinds.now commands.nums.now) ≤ most) × (most ≤ 800) × (to + 73 * length (fit_new rule.rule start commands.kinds.now commands.nums.now) ≤ length out.old) }
+    ensures { PutLap (fit_new rule.rule start commands.entry.kinds.now commands.entry.nums.now) out.old out.new to result }
+{
+    if most <= FEW {
+        return fit_few(commands, start, rule, out, to);
+    }
+    fit_many(commands, start, rule, out, to)
 }
 
 // Writes the fit of a lap with its start, from `to` on, and returns how many commands it has.
@@ -184,7 +228,16 @@ pub fn fit_lap(
         kinds: &room.kinds[..n],
         nums: &room.nums[..m],
     };
-    fit_lent(read, lap.start, rule, &mut room.fit, out, to)
+    fit_lent(
+        read,
+        lap.start,
+        rule,
+        &mut room.fit.chain,
+        &mut room.fit.kinds,
+        &mut room.fit.nums,
+        out,
+        to,
+    )
 }
 
 // Writes the fit of a file, the mark first, and returns how many bytes it has.

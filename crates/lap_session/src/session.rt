@@ -4,7 +4,10 @@ ghost use Rattle.std.specs.Prelude.{◌≡◌, false, ◌&&◌, ◌+◌, ◌*◌
 ghost use Rattle.geo.specs.Outcome.{refusal};
 ghost use Rattle.geo.specs.Refusal.{refused_by};
 ghost use Rattle.file.specs.Command.{commands_at};
+ghost use Rattle.course.specs.Course.{lent_course};
+ghost use Rattle.chain.specs.Chains.{cap};
 ghost use Rattle.laps.specs.File.{laps_of, lap_ok, lap_tested};
+ghost use Rattle.lap_swap.specs.Swap.{most_both};
 ghost use Rattle.lap_checks.specs.Checks.{lent_new, new_rows};
 ghost use Rattle.lap_session.specs.Session.{begun, ask_rows, ask_lap, Answers, refits_next, counts_agree, part_new, commit_rows, commit_lap, Commits};
 
@@ -53,6 +56,7 @@ impl Session {
 fn check_asking<'a>(given: Replacement<'a>, room: usize) -> Result<Found<'a>, Refusal>
     ensures row { refused_by result ≡ refusal (ask_rows given.entry.files.recorded.now given.entry.files.fitted.now given.entry.lap (lent_new given.entry.tolerance (laps_of given.entry.files.recorded.now) given.entry.lap given.entry.kinds.now given.entry.nums.now) given.entry.tolerance room) }
     ensures same { IfOk result (λ found. (found.files.recorded.bytes.now ≡ given.entry.files.recorded.now) × (found.files.fitted.bytes.now ≡ given.entry.files.fitted.now) × (found.commands.kinds.now ≡ given.entry.kinds.now) × (found.commands.nums.now ≡ given.entry.nums.now)) }
+    ensures own { IfOk result (λ found. found.own ≡ cap (most_both given.entry.tolerance (laps_of given.entry.files.recorded.now) given.entry.lap (lent_course given.entry.kinds.now given.entry.nums.now))) }
 {
     let found = look_at_new(given)?;
     if MOST_COMMANDS < found.all {
@@ -90,7 +94,14 @@ pub fn ask_lap(
     let rule = FitRule {
         rule: Rule::of_laps(tolerance),
     };
-    let fit = fit_both(found.files.recorded, lap, found.commands, rule, buffer);
+    let fit = fit_both(
+        found.files.recorded,
+        lap,
+        found.commands,
+        rule,
+        found.own,
+        buffer,
+    );
     Ok(Ticket {
         lap,
         tolerance,

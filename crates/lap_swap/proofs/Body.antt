@@ -71,10 +71,10 @@ module _ (r : Rule) (ls : List Lap) (k : ℕ) (ks : List ℕ) (ns : List Float) 
 
   -- what the code works out: where the new commands start and end, and the next lap
   module _ (p q : Point3D) (l : Lap) (ep : p ≡ start_of k ls) (eq : q ≡ end_on p (lent_course ks ns)) (el : l ≡ next_lap k ls) where
-    pub few-laps : (+0 ≺ r.tolerance) ≡ true → most_both r.tolerance ls k (lent_course ks ns) ≤ 800
-        → (most_on r.tolerance p (lent_course ks ns) ≤ 800) × (most_lap r.tolerance q l ≤ 800)
+    pub few-laps : (+0 ≺ r.tolerance) ≡ true → (most : ℕ) → most_both r.tolerance ls k (lent_course ks ns) ≤ most
+        → (most_on r.tolerance p (lent_course ks ns) ≤ most) × (most_lap r.tolerance q l ≤ most)
         × (length (fit_new r p ks ns) + length (fit_lap r q l) ≤ most_both r.tolerance ls k (lent_course ks ns))
-    few-laps pos h =
+    few-laps pos most h =
         let m : most_on r.tolerance p (lent_course ks ns) + most_lap r.tolerance q l ≡ most_both r.tolerance ls k (lent_course ks ns) = unfold most_both in rw (el, eq, ep) in
         (omega (arith, m), omega (arith, m), rw (el, eq, ep) (both-few pos))
 

@@ -151,21 +151,22 @@ pub struct Refit {
     pub next: usize,
 }
 
-// Fits the new commands, and behind them the next lap where that is fitted again, to the front of a buffer.
+// Fits the new commands, and behind them the next lap where that is fitted again, to the front of a buffer. They could become `most` at most.
 // The new commands stay beside the number of the lap, here and below: a commit has the number, and no commands.
 pub fn fit_both(
     recorded: LapFile,
     k: usize,
     commands: Commands,
     rule: FitRule,
+    most: usize,
     buffer: &mut [u8],
 ) -> Refit
-    requires { (1 ≤ k) × (k ≤ lap_count recorded.bytes.now) × (most_both rule.rule.tolerance (laps_of recorded.bytes.now) k (lent_course commands.kinds.now commands.nums.now) ≤ 800) × (73 * most_both rule.rule.tolerance (laps_of recorded.bytes.now) k (lent_course commands.kinds.now commands.nums.now) ≤ length buffer.old) }
+    requires { (1 ≤ k) × (k ≤ lap_count recorded.bytes.now) × (most_both rule.rule.tolerance (laps_of recorded.bytes.now) k (lent_course commands.kinds.now commands.nums.now) ≤ most) × (most ≤ 800) × (73 * most_both rule.rule.tolerance (laps_of recorded.bytes.now) k (lent_course commands.kinds.now commands.nums.now) ≤ length buffer.old) }
     ensures { PutBoth (new_fit rule.rule (laps_of recorded.entry.bytes.now) k commands.entry.kinds.now commands.entry.nums.now) (next_fit rule.rule (laps_of recorded.entry.bytes.now) k commands.entry.kinds.now commands.entry.nums.now) buffer.old buffer.new result.count result.next }
 {
     let start = start_of(recorded, k);
     let lap = next_of(recorded, k);
-    let count = fit_commands(commands, start, rule, buffer, 0);
+    let count = fit_commands(commands, start, rule, most, buffer, 0);
     let end = course_end(commands.kinds, commands.nums, start);
     let next = fit_next(lap, end, rule, buffer, COMMAND_BYTES * count);
     Refit { count, next }

@@ -3,8 +3,8 @@ use Rattle.std.proofs.Common.{rules}
 use native.Mathlib.Omega.{arith}
 use Rattle.geo.proofs.Tolerance.{tolerance-positive}
 use Rattle.laps.specs.File.{laps_of}
-use Rattle.lap_checks.specs.Checks.{lent_new, most_with}
-use Rattle.lap_checks.proofs.Rows.{past_7}
+use Rattle.lap_checks.specs.Checks.{lent_new}
+use Rattle.lap_checks.proofs.Rows.{past_7, most_told}
 use Rattle.lap_session.specs.Session.{ask_lap}
 use Rattle.lap_session.proofs.Rows.{ask_passed, not_asked, is_asked}
 use Rattle.lap_session.proofs.session.ask_lap.Goals as goal
@@ -18,9 +18,9 @@ invariant_of-rule c = let a = c.args in let p = ask_passed a.recorded.now a.fitt
     record { positive = rw c.of_laps.ensures (tolerance-positive a.tolerance p.0.p6) }
 
 pub fit_both-fit-requires : goal.fit_both-fit-requires
-unfolding most_with
 fit_both-fit-requires c = let a = c.args in let e = c.in_ok-found.ensures.same in let p = ask_passed a.recorded.now a.fitted.now a.lap (lent_new a.tolerance (laps_of a.recorded.now) a.lap a.kinds.now a.nums.now) a.tolerance _ c.in_ok-found.ensures.row in
-    rw (c.of_laps.ensures, e.0, e.2, e.3) ((past_7 a.lap a.recorded.now p.0.p7).0, (past_7 a.lap a.recorded.now p.0.p7).1, omega (arith, p.1), p.2)
+    let o = most_told (lent_new a.tolerance (laps_of a.recorded.now) a.lap a.kinds.now a.nums.now) a.lap a.recorded.now a.fitted.now _ c.in_ok-found.ensures.own p.1 in
+    rw (c.of_laps.ensures, e.0, e.2, e.3) ((past_7 a.lap a.recorded.now p.0.p7).0, (past_7 a.lap a.recorded.now p.0.p7).1, omega (arith, o.0), o.1, p.2)
 
 pub returns : goal.returns
 unfolding ask_lap
