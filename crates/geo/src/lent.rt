@@ -74,8 +74,8 @@ pub fn make_command(kind: u8, p: Point3D, q: Point3D, r: Point3D) -> Command
     }
 }
 
-// The command at index i of lent commands. The two lists are no `Commands`, here and in `put_command`: they may hold more numbers than
-// nine for each kind.
+// The command at index i of lent commands, of which this one alone has to have its numbers. The lists and the index are three, here and
+// in `put_command`, as above.
 pub fn command_at(kinds: &[u8], nums: &[f64], i: usize) -> Command
     requires { (i < length kinds.now) × (9 * i + 8 < length nums.now) }
     ensures { result ≡ command_at kinds.now nums.now i }
