@@ -150,8 +150,9 @@ pub fn arc_deviation(stretch: Stretch, arc: Circle) -> Deviation
     worst
 }
 
+// The offset of p from m. It, `cross` and `dot` serve `flatten` too.
 #[tactic(auto, unfolding(crate::specs::Traversal::offset_of))]
-fn offset(m: Point, p: Point3D) -> Point
+pub fn offset(m: Point, p: Point3D) -> Point
     ensures { result ≡ offset_of m p }
 {
     Point {
@@ -162,14 +163,14 @@ fn offset(m: Point, p: Point3D) -> Point
 
 // The vectors of a product, and below a cross beside a dot, are operands: a struct of two would be made for one call.
 #[tactic(auto, unfolding(crate::specs::Traversal::cross2))]
-fn cross(p: Point, q: Point) -> f64
+pub fn cross(p: Point, q: Point) -> f64
     ensures { result ≡ cross2 p q }
 {
     p.x * q.y - p.y * q.x
 }
 
 #[tactic(auto, unfolding(crate::specs::Traversal::dot2))]
-fn dot(p: Point, q: Point) -> f64
+pub fn dot(p: Point, q: Point) -> f64
     ensures { result ≡ dot2 p q }
 {
     p.x * q.x + p.y * q.y
