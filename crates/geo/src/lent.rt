@@ -97,7 +97,7 @@ fn put_points(out: &mut [f64], at: usize, p: Point3D, q: Point3D, r: Point3D)
     put_point(out, at + 6, r);
 }
 
-// Writes a command at index i: its kind, and its nine numbers.
+// Writes a command at index i: its kind, by the numbers of `make_command`, and its nine numbers.
 pub fn put_command(kinds: &mut [u8], nums: &mut [f64], i: usize, c: Command)
     requires { (i < length kinds.old) × (9 * i + 8 < length nums.old) }
     ensures kinds { kinds.new ≡ set kinds.old i (kind_of c) }

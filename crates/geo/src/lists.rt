@@ -54,7 +54,7 @@ impl<'a> Commands<'a> {
         self.kinds.len()
     }
 
-    // The command at an index.
+    // The command at an index. That the index lies in the list is asked here and below: a type for it would be made at each step.
     pub fn at(self, i: usize) -> Command
         requires { i < length self.kinds.now }
         ensures { result ≡ command_at self.entry.kinds.now self.entry.nums.now i }
