@@ -243,7 +243,8 @@ fn height_after(a: Point3D, b: Point3D, n: usize, i: usize) -> f64
     a.z + (b.z - a.z) * (i as f64 / n as f64)
 }
 
-// The second pass: the heights of the first k of n Lines. How many they are is known only now.
+// The second pass: the heights of the first k of n Lines. How many they are is known only now. The list is C's, longer than the Lines, and
+// cut to them it would need a law of what stays behind the cut: so both counts go with it.
 fn set_heights(a: Point3D, b: Point3D, n: usize, k: usize, nums: &mut [f64])
     requires { (n ≤ 4096) × (k < n) × (9 * n ≤ length nums.old) }
     ensures { nums.new ≡ heightened (height_after a b n) k 0 nums.old }
