@@ -403,7 +403,7 @@ impl Center {
     }
 }
 
-// The circle of least squares and its greatest error: three numbers side by side, as the source's answer has them. `Center` has the
+// The circle of least squares and its greatest error: three fields, as its definition has them. `Center` has the
 // square in place of the radius, since the trials need no root of it.
 #[derive(Clone, Copy)]
 pub struct LeastSquares {
