@@ -23,7 +23,7 @@ pub fn turn(center: Point, p: Point, q: Point) -> f64
 }
 
 // The cross products of each two neighbours, added up: a `for`, since the sum is rounded after each of them, from the first on. Points
-// and centre are two, here and below, as C hands them over.
+// and centre are two, here and below, as C hands them over. That there is a point is a row of `check_direction`, and asked here alone.
 #[tactic(auto, unfolding(crate::specs::Direction::cross_sum))]
 fn sum_turns(points: &[f64], center: Point) -> f64
     requires { 1 ≤ length points.now / 2 }

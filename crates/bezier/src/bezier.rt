@@ -119,7 +119,7 @@ pub fn split_bezier(
 
 impl Walk {
     // Writes the steps and answers how often the curve was evaluated: the first start before the loop, then each step's end,
-    // which is handed to the next step (document 02, §3). The callers drop the count.
+    // which is handed to the next step (document 02, §3): so a `for`, since a `fold` would carry the output too. The callers drop the count.
     fn put_steps(self, out: &mut [f64]) -> usize
         requires { 6 * self.steps ≤ length out.old }
         ensures written { out.new ≡ sets out.old 0 (flat six (steps_of self.curve self.steps)) }
@@ -222,7 +222,8 @@ pub fn steps_needed(q: CubicBezier<Point3D>, resolution: f64) -> f64
 }
 
 // Writes the ends of n steps of a curve as triples, from index `at` on. It serves `chain`, which has each step's start
-// already: so it hands no end on, and is a loop of its own beside `put_steps`.
+// already: so it hands no end on, and is a loop of its own beside `put_steps`. That the count and the place are small is asked, as by a
+// `Walk`: it is a bound of the callers' lists, and of no value here.
 pub fn put_ends(q: CubicBezier<Point3D>, n: usize, out: &mut [f64], at: usize)
     requires { (n ≤ most_asked) × (at ≤ most_asked) × (3 * (at + n) ≤ length out.old) }
     ensures { out.new ≡ sets out.old (3 * at) (flat step_end (steps_of q n)) }

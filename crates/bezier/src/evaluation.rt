@@ -102,7 +102,7 @@ pub(crate) struct Walk {
 }
 
 impl Walk {
-    // The share i of its steps.
+    // The share i of its steps. That i is small is asked here and below: a type for it would be made at each step.
     #[tactic(auto, unfolding(crate::specs::Linearize::share))]
     fn share(self, i: usize) -> f64
         requires { i ≤ most_asked }

@@ -1,3 +1,2 @@
 pub mod Apart
 pub mod Passed
-pub mod Walks

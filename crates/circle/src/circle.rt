@@ -378,8 +378,9 @@ impl Center {
     // A squared radius below this is none.
     const LEAST_SQUARE: f64 = 1e-10;
 
-    // By Kasa's normal equations; or none. How many points there are has to be a float: two functions here and two of the trials
-    // ask for it, and a type of its own would be no plainer, since every caller had to make it.
+    // By Kasa's normal equations; or none. How many points there are has to be a float, so this is asked of each caller, up to the
+    // fits of `pieces` and `ranges`: a type for it would be a second `Stretch` with the same methods, and trial::Trials and
+    // ranges::Fit, which have the fact as their own, would make one at each call.
     #[tactic(auto, unfolding(crate::specs::Kasa::kasa_center, crate::specs::Kasa::centered))]
     pub fn of(stretch: Stretch) -> Option<Self>
         requires { stretch.end < most_points }
@@ -402,7 +403,8 @@ impl Center {
     }
 }
 
-// The circle of least squares and its greatest error.
+// The circle of least squares and its greatest error: three fields, as its definition has them. `Center` has the
+// square in place of the radius, since the trials need no root of it.
 #[derive(Clone, Copy)]
 pub struct LeastSquares {
     pub center: Point,
@@ -467,7 +469,7 @@ pub fn check_points(points: &[f64]) -> Result<(), Refusal>
     Ok(())
 }
 
-// Tests whether a sequence of points lies on a straight line within the given tolerance.
+// Tests whether a sequence of points lies on a straight line within the given tolerance. The two are C's, one by one.
 pub fn are_points_collinear_3d(points: &[f64], tolerance: f64) -> Result<bool, Refusal>
     ensures { outcome result ≡ collinear_call points.now tolerance }
 {

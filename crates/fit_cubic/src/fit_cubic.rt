@@ -14,7 +14,8 @@ use geo::point::{get_distance, interpolate};
 use geo::refusal::Refusal;
 use geo::types::{CubicBezier, Point};
 
-// Points in the plane, lent as pairs of numbers.
+// Points in the plane, lent as pairs of numbers. farthest::Pairs is of any number, for a search; of these each has
+// its place in an array of chords.
 #[derive(Clone, Copy)]
 struct Pairs<'a> {
     nums: &'a [f64],
@@ -102,7 +103,8 @@ impl Sums {
 }
 
 impl<'a> Pairs<'a> {
-    // Fills in the length of the polyline up to each point.
+    // Fills in the length of the polyline up to each point. That there is one is asked, here and below: `curve` alone knows it, behind
+    // its own test. A `for`: the sum is rounded after each point, and stored, which a `fold` could not without the array beside it.
     fn sum_chords(self, chords: &mut [f64])
         requires room { (1 ≤ length self.nums.now / 2) × (length self.nums.now / 2 ≤ length chords.old) }
         requires starts_at_zero { get_or chords.old 0 nan ≡ +0 }
@@ -116,7 +118,8 @@ impl<'a> Pairs<'a> {
         }
     }
 
-    // The sums over the points, at parameters by chord length.
+    // The sums over the points, at parameters by chord length. A `for`: each sum is rounded after each point, and a `fold`'s closure
+    // would need a contract that says `add` again.
     fn sum_up(self, chords: &[f64]) -> Sums
         requires room { (1 ≤ length self.nums.now / 2) × (length self.nums.now / 2 ≤ length chords.now) }
         requires filled { Chords (pair_at self.nums.now) (length self.nums.now / 2) chords.now }

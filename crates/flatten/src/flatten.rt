@@ -18,6 +18,7 @@ use geo::lent::{make_command, point_at, put_command, put_point};
 use geo::point::get_length;
 use geo::refusal::Refusal;
 use geo::types::{Command, Point, Point3D};
+use trial::trial::{cross, dot, offset};
 
 // A vector and its length, which is rooted once. That the length is the vector's is asked of two functions below, and is no fact of the
 // type: each definition that makes a ray would have to prove it.
@@ -72,30 +73,12 @@ fn center(a: Point3D, o: Point3D) -> Point
     }
 }
 
-// A point less the centre: both are operands, as the vectors, directions and products below are, and a struct of two would be made for
+// A point less the centre: both are operands, as the vectors and directions below are, and a struct of two would be made for
 // one call.
-#[tactic(auto, unfolding(trial::specs::Traversal::offset_of))]
 fn vector(m: Point, p: Point3D) -> Ray
     ensures { result ≡ ray_of (offset_of m p) }
 {
-    Ray::new(Point {
-        x: p.x - m.x,
-        y: p.y - m.y,
-    })
-}
-
-#[tactic(auto, unfolding(trial::specs::Traversal::cross2))]
-fn cross(u: Point, w: Point) -> f64
-    ensures { result ≡ cross2 u w }
-{
-    u.x * w.y - u.y * w.x
-}
-
-#[tactic(auto, unfolding(trial::specs::Traversal::dot2))]
-fn dot(u: Point, w: Point) -> f64
-    ensures { result ≡ dot2 u w }
-{
-    u.x * w.x + u.y * w.y
+    Ray::new(offset(m, p))
 }
 
 // An exact quarter turn: the numbers exchanged, and one sign.
@@ -260,7 +243,8 @@ fn height_after(a: Point3D, b: Point3D, n: usize, i: usize) -> f64
     a.z + (b.z - a.z) * (i as f64 / n as f64)
 }
 
-// The second pass: the heights of the first k of n Lines. How many they are is known only now.
+// The second pass: the heights of the first k of n Lines. How many they are is known only now. The list is C's, longer than the Lines, and
+// cut to them it would need a law of what stays behind the cut: so both counts go with it.
 fn set_heights(a: Point3D, b: Point3D, n: usize, k: usize, nums: &mut [f64])
     requires { (n ≤ 4096) × (k < n) × (9 * n ≤ length nums.old) }
     ensures { nums.new ≡ heightened (height_after a b n) k 0 nums.old }

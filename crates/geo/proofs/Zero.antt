@@ -1,26 +1,23 @@
--- Infinities and the pattern 0 as the code tests them. Assumes nothing.
+-- What is finite and the pattern 0, as the code tests them. Assumes nothing.
 use mathlib.Core.Path.{◌≡◌, refl, sym, ap, ◌∙◌, subst}
 use mathlib.Core.Bool.{Bool, true, false, not}
 use Prim.Native.Nat.{ℕ, zero, suc, ◌*◌, ◌<◌}
 use native.Mathlib.Nat.{zero-lt-suc, mul-pos, lt_irrefl, zero-mul}
 use lib.Dec.{T, eqb, eqb→eq}
 use lib.IntN.{ℤ}
-use lib.Ieee.{Float, nan, inf, fin, binary64, up, down, lt, eq, div, of_bits, to_bits, fits, is_nan}
+use lib.Ieee.{Float, nan, inf, fin, binary64, up, down, eq, of_bits, to_bits, fits, is_nan}
 use lib.Ieee.Fits.{up_pos, and_l}
-use Rattle.floats.specs.Float.{abs_of}
+use Rattle.std.specs.Float.{float_is_finite}
 use Rattle.floats.proofs.Order.{clash}
 use Rattle.floats.proofs.float.Large.{zero_exponent}
 use Rattle.geo.specs.Domain.{is_finite, is_plus_zero}
 
--- below infinity is finite
-below_inf : (x : Float) → lt (abs_of x) (div binary64 (of_bits binary64 0x3ff0_0000_0000_0000) (of_bits binary64 0)) ≡ is_finite x
-unfolding abs_of is_finite div of_bits lt
-below_inf nan = refl
-below_inf (inf s) = refl
-below_inf (fin s m e) = refl
-
-pub finite-is : (x a : Float) → a ≡ abs_of x → lt a (div binary64 (of_bits binary64 0x3ff0_0000_0000_0000) (of_bits binary64 0)) ≡ is_finite x
-finite-is x a e = ap (λ (y : Float). lt y (div binary64 (of_bits binary64 0x3ff0_0000_0000_0000) (of_bits binary64 0))) e ∙ below_inf x
+-- the library's test
+pub finite-is : (x : Float) → float_is_finite x ≡ is_finite x
+unfolding float_is_finite is_finite
+finite-is nan = refl
+finite-is (inf s) = refl
+finite-is (fin s m e) = refl
 
 pub eq_no_nan : (x y : Float) → eq x y ≡ true → T (not (is_nan x))
 unfolding eq is_nan

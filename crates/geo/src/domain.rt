@@ -40,7 +40,7 @@ fn is_coordinate(x: f64) -> bool
 fn is_finite(x: f64) -> bool
     ensures { result ≡ is_finite x }
 {
-    abs(x) < 1.0 / 0.0
+    x.is_finite()
 }
 
 // Whether x may be a coordinate of a centre that is handed in.
@@ -123,7 +123,8 @@ pub fn is_finite3(p: Point3D) -> bool
 }
 
 // Whether each lent number may be a coordinate. It goes to the end whatever it meets, so that the machine can test
-// several numbers at a time.
+// several numbers at a time: so a `for`, where `all` would stop. It goes by index, as the definition does; a law of what an iterator
+// has left would be no plainer.
 pub fn all_coordinates(nums: &[f64]) -> bool
     ensures { result ≡ numbers_in coordinate nums.now }
 {

@@ -74,8 +74,8 @@ pub fn make_command(kind: u8, p: Point3D, q: Point3D, r: Point3D) -> Command
     }
 }
 
-// The command at index i of lent commands. The two lists are no `Commands`, here and in `put_command`: they may hold more numbers than
-// nine for each kind.
+// The command at index i of lent commands, of which this one alone has to have its numbers. The lists and the index are three, here and
+// in `put_command`, as above.
 pub fn command_at(kinds: &[u8], nums: &[f64], i: usize) -> Command
     requires { (i < length kinds.now) × (9 * i + 8 < length nums.now) }
     ensures { result ≡ command_at kinds.now nums.now i }
@@ -97,7 +97,7 @@ fn put_points(out: &mut [f64], at: usize, p: Point3D, q: Point3D, r: Point3D)
     put_point(out, at + 6, r);
 }
 
-// Writes a command at index i: its kind, and its nine numbers.
+// Writes a command at index i: its kind, by the numbers of `make_command`, and its nine numbers.
 pub fn put_command(kinds: &mut [u8], nums: &mut [f64], i: usize, c: Command)
     requires { (i < length kinds.old) × (9 * i + 8 < length nums.old) }
     ensures kinds { kinds.new ≡ set kinds.old i (kind_of c) }

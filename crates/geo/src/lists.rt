@@ -4,7 +4,7 @@ ghost use Rattle.geo.specs.Lent.{command_at, point_at, end_of};
 ghost use Rattle.geo.specs.Domain.{commands_in, commands_formed};
 
 use crate::domain::{all_coordinates, command_in, is_formed};
-use crate::lent::make_command;
+use crate::lent::command_at;
 use crate::types::{Command, Point3D};
 
 // Two points of a list of triples, and what lies between them: nothing does where the second stands before the first.
@@ -54,17 +54,12 @@ impl<'a> Commands<'a> {
         self.kinds.len()
     }
 
-    // The command at an index.
-    #[tactic(auto, unfolding(crate::specs::Lent::command_at))]
+    // The command at an index. That the index lies in the list is asked here and below: a type for it would be made at each step.
     pub fn at(self, i: usize) -> Command
         requires { i < length self.kinds.now }
         ensures { result ≡ command_at self.entry.kinds.now self.entry.nums.now i }
     {
-        let b = 3 * i;
-        let p = crate::lent::point_at(self.nums, b);
-        let q = crate::lent::point_at(self.nums, b + 1);
-        let r = crate::lent::point_at(self.nums, b + 2);
-        make_command(self.kinds[i], p, q, r)
+        command_at(self.kinds, self.nums, i)
     }
 
     // Where the command at an index ends: the first of its points, whatever its kind.
@@ -80,14 +75,11 @@ impl<'a> Commands<'a> {
     pub fn are_formed(self) -> bool
         ensures { result ≡ commands_formed self.entry.kinds.now self.entry.nums.now }
     {
-        for i in 0..self.kinds.len() {
+        (0..self.kinds.len()).all(|i| {
             let q = crate::lent::point_at(self.nums, 3 * i + 1);
             let r = crate::lent::point_at(self.nums, 3 * i + 2);
-            if !is_formed(self.kinds[i], q, r) {
-                return false;
-            }
-        }
-        true
+            is_formed(self.kinds[i], q, r)
+        })
     }
 
     // Row 5: whether the numbers of each are in the domain. Where each number may be a coordinate, so are those that count, and
@@ -102,11 +94,6 @@ impl<'a> Commands<'a> {
     fn each_is_in(self) -> bool
         ensures { result ≡ commands_in self.entry.kinds.now self.entry.nums.now }
     {
-        for i in 0..self.kinds.len() {
-            if !command_in(self.at(i)) {
-                return false;
-            }
-        }
-        true
+        (0..self.kinds.len()).all(|i| command_in(self.at(i)))
     }
 }

@@ -32,6 +32,7 @@ impl Coordinates for Point {
         }
     }
 
+    // Both are operands, as the trait says.
     fn beyond(self, t: f64, o: Self) -> Self {
         Self {
             x: self.x + t * o.x,

@@ -91,7 +91,8 @@ pub fn is_bezier_flat(
 }
 
 // Writes the ends of the parts of a curve from place `at` on, the left half's first, and answers their number. `depth` is
-// how often a part may still be halved.
+// how often a part may still be halved; it, the curve and the place change with each half, the output is handed on, and so they stay
+// parameters here and in `put_polyline`: a struct would be made anew for each half.
 fn subdivide<P: Part>(
     depth: usize,
     tolerance_sq: f64,
@@ -173,7 +174,8 @@ pub fn linearize_bezier_adaptive(
     Ok(put_polyline(max_depth, tolerance_sq, q, out))
 }
 
-// A direction in space, from one operand to the other.
+// A direction in space, from one operand to the other. This and the two below have their like in `segment` and `circle`: those are told
+// over the axes that count, and for arcs, and a curve's part would stand on both crates for three formulas of a line.
 #[tactic(auto, unfolding(crate::specs::Flatten::minus))]
 fn minus_3d(p: Point3D, q: Point3D) -> Point3D
     ensures { result ≡ minus p q }

@@ -125,7 +125,8 @@ impl Step {
 }
 
 // The greatest deviation of a step from the arc, and the first step that has it, 0 where there is none above 0. A
-// point's distance from the centre is worked out once: it serves the step before and the step after.
+// point's distance from the centre is worked out once: it serves the step before and the step after. So a `for`: a `fold` would carry
+// three values.
 pub fn arc_deviation(stretch: Stretch, arc: Circle) -> Deviation
     ensures { result ≡ arc_deviation arc.center arc.radius (point_at stretch.entry.points.now) stretch.entry.start stretch.entry.end }
 {
@@ -150,8 +151,9 @@ pub fn arc_deviation(stretch: Stretch, arc: Circle) -> Deviation
     worst
 }
 
+// The offset of p from m. It, `cross` and `dot` serve `flatten` too.
 #[tactic(auto, unfolding(crate::specs::Traversal::offset_of))]
-fn offset(m: Point, p: Point3D) -> Point
+pub fn offset(m: Point, p: Point3D) -> Point
     ensures { result ≡ offset_of m p }
 {
     Point {
@@ -162,14 +164,14 @@ fn offset(m: Point, p: Point3D) -> Point
 
 // The vectors of a product, and below a cross beside a dot, are operands: a struct of two would be made for one call.
 #[tactic(auto, unfolding(crate::specs::Traversal::cross2))]
-fn cross(p: Point, q: Point) -> f64
+pub fn cross(p: Point, q: Point) -> f64
     ensures { result ≡ cross2 p q }
 {
     p.x * q.y - p.y * q.x
 }
 
 #[tactic(auto, unfolding(crate::specs::Traversal::dot2))]
-fn dot(p: Point, q: Point) -> f64
+pub fn dot(p: Point, q: Point) -> f64
     ensures { result ≡ dot2 p q }
 {
     p.x * q.x + p.y * q.y
@@ -243,7 +245,8 @@ fn at_centre(q: Point) -> bool
     q.x == 0.0 && q.y == 0.0
 }
 
-// Whether the points go round m by less than a whole turn.
+// Whether the points go round m by less than a whole turn. A `for`: it ends at a point in the centre, and a `try_fold` would carry three
+// values. It is asked what `Trials` has, and no more of a trial than its stretch.
 fn traversal_passes(stretch: Stretch, m: Point) -> bool
     requires { (stretch.start ≤ stretch.end) × (stretch.end < most_points) }
     ensures { result ≡ traverses m (point_at stretch.entry.points.now) stretch.entry.start stretch.entry.end }
@@ -347,7 +350,7 @@ struct Trials<'a> {
 impl<'a> Trials<'a> {
     // Whether the deviation of the arc round m is below the tolerance, by its worst step, where `first` is the first point's spoke
     // and its length the radius: the walk ends at the first step that is not. It takes no root where a square decides, which
-    // `arc_deviation` cannot: its radius is any.
+    // `arc_deviation` cannot: its radius is any. A `for`, as there.
     fn measure(self, m: Point, first: Spoke) -> Option<usize>
         requires { first ≡ spoke_of m (point_at self.stretch.points.now self.stretch.start) }
         ensures { result ≡ measured_by (arc_deviation m (radius_from m (point_at self.entry.stretch.points.now self.entry.stretch.start)) (point_at self.entry.stretch.points.now) self.entry.stretch.start self.entry.stretch.end) self.entry.tolerance }
@@ -458,7 +461,8 @@ fn is_closed_range(a: Point3D, b: Point3D) -> bool
     sqrt(l) < Trial::CLOSED
 }
 
-// The arc of the first trial that passes. A sharp turn at the split point or a closed range blocks both trials.
+// The arc of the first trial that passes. A sharp turn at the split point or a closed range blocks both trials. What is asked of the
+// stretch is a fact of `Trials`, which is made behind both tests; why it is asked of callers, circle::Center::of says.
 #[tactic(auto, unfolding(crate::specs::Trial::try_arcs))]
 pub fn try_arcs(stretch: Stretch, split: usize, tolerance: f64) -> Option<Trial>
     requires { (stretch.start ≤ stretch.end) × (stretch.end < most_points) }

@@ -1,9 +1,8 @@
 -- A pattern without the sign's bit is the value without its sign. Assumes nothing.
 use Rattle.std.proofs.Common.{◌≡◌, ℕ, zero, suc, ◌+◌, ◌/◌, ◌%◌, ◌<◌, Bool, true, false, cond, not, T, eqb, ltb, leb, sym, refl, ap, ◌∙◌, subst, not-le_of_lt, arith, leb→le}
 use lib.Dec.{not_T}
-use lib.Ieee.{Float, nan, inf, binary64, odd, of_fields, of_bits, to_bits, fits, is_nan, nan_bits, ne}
+use lib.Ieee.{Float, nan, inf, fin, binary64, odd, of_fields, of_bits, to_bits, fits, is_nan, nan_bits}
 use lib.Ieee.Bits.{is_false, of_bits-to_bits, nan_bits_is, nan_bits_above}
-use lib.Ieee.Compare.{differs_from_itself}
 use Rattle.floats.specs.Float.{abs_of}
 use Rattle.floats.proofs.root.Read.{of_bits_is}
 
@@ -46,8 +45,12 @@ abs_no_nan x f h =
     let e : nan_bits binary64 c ≡ is_nan x = nan_bits_above binary64 c ∙ ap (λ (n : ℕ). ltb 0x7ff0_0000_0000_0000 n) p ∙ sym (nan_bits_above binary64 b) ∙ nan_bits_is binary64 b ∙ ap is_nan (of_bits-to_bits binary64 x f) in
     subst (λ (t : Bool). T (not t)) (sym e) h
 
-pub nan_abs : (x : Float) → ne x x ≡ true → x ≡ abs_of x
-nan_abs x e = subst (λ (y : Float). y ≡ abs_of y) (sym (differs_from_itself x (subst T (sym e) tt))) there
-  where
-    there : nan ≡ abs_of nan
-    there = unfold abs_of in refl
+pub nan_abs : (x : Float) → is_nan x ≡ true → x ≡ abs_of x
+unfolding is_nan abs_of
+nan_abs nan h = refl
+nan_abs (inf s) h = absurd (subst T (sym h) tt)
+nan_abs (fin s m e) h = absurd (subst T (sym h) tt)
+
+-- what is no NaN by the library's test
+pub no_nan : (x : Float) → is_nan x ≡ false → T (not (is_nan x))
+no_nan x h = subst (λ (t : Bool). T (not t)) (sym h) tt

@@ -6,7 +6,7 @@ use Rattle.std.proofs.lemmas.Iterator.{YieldsList-from_range}
 use Rattle.std.proofs.lemmas.Iterator.Search.{all_from_yields_List}
 use Rattle.geo.specs.Lent.{point_at}
 use Rattle.circle.specs.Collinear.{collinear, collinear_by, near_to, all_near, beside_of, all_beside}
-use Rattle.circle.proofs.Walks.{all_every}
+use Rattle.geo.proofs.Every.{all_every}
 use Rattle.circle.proofs.circle.is_collinear.Goals as goal
 
 pub returns-then-c : goal.returns-then-c

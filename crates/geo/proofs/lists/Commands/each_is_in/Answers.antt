@@ -1,20 +1,15 @@
--- `geo::lists::Commands::each_is_in` meets its contract: the loop's invariant is that the commands left decide the whole answer. The measure is how many are left. Assumes nothing.
-use Rattle.std.proofs.Common.{ap, not}
-use mathlib.Core.Path.{refl, ◌∙◌}
+-- `geo::lists::Commands::each_is_in` meets its contract: `all` along the commands is the definition's walk. Assumes nothing.
+use Rattle.std.proofs.Common.{rules, refl, ◌∙◌}
+use native.Mathlib.Omega.{arith}
 use lib.ListN.{length}
-use Rattle.geo.specs.Domain.{commands_in}
-use Rattle.geo.proofs.Every.{every_start, every_step, every_stop, every_done}
+use Rattle.std.proofs.lemmas.Iterator.{YieldsList-from_range}
+use Rattle.std.proofs.lemmas.Iterator.Search.{all_from_yields_List}
+use Rattle.geo.specs.Lent.{command_at}
+use Rattle.geo.specs.Domain.{command_in, commands_in}
+use Rattle.geo.proofs.Every.{all_every}
 use Rattle.geo.proofs.lists.Commands.each_is_in.Goals as goal
 
-pub loop-i-init : goal.loop-i-init
-unfolding commands_in
-loop-i-init c = every_start _ (length c.args.self.kinds.now) _ refl
-
-pub returns-then-not-command_in : goal.returns-then-not-command_in
-returns-then-not-command_in c = every_stop _ (length c.args.self.kinds.now) _ _ _ c.loop-i-test.true (c.command_in.ensures ∙ rw c.at.ensures) (ap not c.if-not-command_in.true) c.loop-i.invariant
-
-pub loop-i-preserved : goal.loop-i-preserved
-loop-i-preserved c = every_step _ (length c.args.self.kinds.now) _ _ _ c.loop-i-test.true (c.command_in.ensures ∙ rw c.at.ensures) (ap not c.if-not-command_in.false) c.loop-i.invariant
-
 pub returns : goal.returns
-returns c = every_done _ (length c.args.self.kinds.now) _ _ c.loop-i-test.false c.loop-i.invariant
+unfolding commands_in
+returns c = let a = c.args.self in
+    all_from_yields_List (λ i. command_in (command_at a.kinds.now a.nums.now i)) _ _ _ c.all.ensures.ran (YieldsList-from_range 0 (length a.kinds.now) (length a.kinds.now) refl (omega arith)) (λ x b q k. search rules) ∙ all_every _ _ _
