@@ -38,7 +38,7 @@ pub trait Ends: Copy {
     ghost measured: { (a b x : Self.Item) → measure a b x ≡ to_end (chord_of (end_of a) (end_of b)) (candidate_of x) };
 }
 
-// Points of the plane as they are lent, at height 0.
+// Points of the plane as they are lent, at height 0. fit_cubic's `Pairs` are at most as many as a fit takes, which no search asks.
 #[derive(Clone, Copy)]
 pub struct Pairs<'a>(pub &'a [f64]);
 
@@ -125,7 +125,8 @@ impl<'a> Ends for Commands<'a> {
     }
 }
 
-// Whether the command at an index is a Move. Its kind alone is read: a search that reads whole commands takes a third longer.
+// Whether the command at an index is a Move. Its kind alone is read: a search that reads whole commands takes a third longer. The index
+// is asked to be one of the commands: a type of it would hold one number, and be made for each command looked at.
 #[tactic(auto, unfolding(geo::specs::Lent::command_at), using(crate::proofs::Moves::move_told))]
 pub fn is_move_at(commands: Commands, i: usize) -> bool
     requires { i < length commands.kinds.now }

@@ -21,7 +21,8 @@ pub enum Ruler {
     Space,
 }
 
-// The chord of a range, worked out once for all the points between. Distances are measured in x and y.
+// The chord of a range, worked out once for all the points between. Distances are measured in x and y. subdivision's `Chord` is of points
+// of the plane, and degenerate below another limit.
 #[derive(Clone, Copy)]
 pub struct Chord {
     pub start: Point3D,
@@ -150,7 +151,8 @@ impl Search {
 }
 
 // The first farthest of the items strictly between start and end from the endless line; z is not measured, and not each item is
-// a candidate. The ends stand beside the items, which are of any form: a `Stretch` is of points.
+// a candidate. The ends stand beside the items, which are of any form: a `Stretch` is of points. A `fold` would
+// carry the search and be no plainer, as in `farthest_from_each`.
 pub fn farthest_from_line<T: Ends>(track: T, start: usize, end: usize) -> Farthest
     requires { (start < T.size track) × (end < T.size track) }
     ensures { result ≡ farthest_in T.measure (T.item track) start end }

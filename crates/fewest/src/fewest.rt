@@ -1,6 +1,6 @@
 // The fewest straights, for printed maps: a search in layers, by a budget of tests. The output is written when the search
 // has ended.
-ghost use Rattle.std.specs.Prelude.{◌≡◌, true, false, ◌+◌, ◌-◌, ◌*◌, ◌/◌, ◌≤◌, ◌<◌, [], length};
+ghost use Rattle.std.specs.Prelude.{◌≡◌, true, false, ◌+◌, ◌-◌, ◌*◌, ◌/◌, ◌≤◌, ◌<◌, [], length, IfOk};
 ghost use Rattle.std.proofs.lemmas.List.Edits.{sets};
 ghost use Rattle.floats.specs.Ops.{◌≺◌, +0};
 ghost use Rattle.geo.specs.Lent.{point_at, flat};
@@ -8,7 +8,7 @@ ghost use Rattle.geo.specs.Outcome.{refusal, left, Placed};
 ghost use Rattle.geo.specs.Refusal.{outcome, refused_by};
 ghost use Rattle.farthest.specs.Measure.{chord_of};
 ghost use Rattle.ways.specs.Layers.{going, in_order, back};
-ghost use Rattle.fewest.specs.Straights.{most_points, passing, cut_ends, fewest_of, numbers_at};
+ghost use Rattle.fewest.specs.Straights.{most_points, last_of, passing, cut_ends, fewest_of, numbers_at};
 ghost use Rattle.fewest.specs.Calls.{straights_rows, straights_call, straights_answer, ends_given};
 ghost use Rattle.fewest.specs.Lent.{Gave};
 
@@ -62,7 +62,8 @@ impl<'a> Task<'a> {
     }
 
     // Writes the ends of the recursive line-only cut of a range, from place `at` on, and answers how many they are. The range is
-    // no Stretch here: handed on by each cut it made each frame on the stack 32 bytes larger.
+    // no Stretch here: handed on by each cut it made each frame on the stack 32 bytes larger. Output and place are two, for the second part
+    // is written behind the first: a struct of both would be made anew at each cut.
     fn cut(&self, lo: usize, hi: usize, out: &mut [f64], at: usize) -> usize
         requires { (lo < hi) × (hi ≤ self.now.last) × (3 * (at + (hi - lo)) ≤ length out.old) }
         ensures { Placed (numbers_at self.now.points.now) 3 (cut_ends self.now.points.now self.now.tolerance lo hi) at result out.old out.new }
@@ -85,8 +86,9 @@ impl<'a> Task<'a> {
 }
 
 // Whether a point from `from` on, and before `to`, is seen at or above the tolerance from the Line of a stretch, which then does not
-// pass. A part of a stretch is two indices, and no second stretch. A point whose spread says that it is nearer costs no division and
-// no root; that test alone decides nothing.
+// pass. A part is two indices and no second `Stretch`, whose ends would not be the chord's. A point whose spread says that it is nearer
+// costs no division and no root; that test alone decides nothing. A loop: its test says that a point lies between the ends, which from an
+// `any` would have to be read back out of the list that it went through.
 fn strays(between: Stretch, chord: Chord, tolerance: f64, from: usize, to: usize) -> bool
     requires { (chord ≡ chord_of (point_at between.points.now between.start) (point_at between.points.now between.end)) × ((between.start < from) × (to ≤ between.end)) }
     ensures { result ≡ true → passing between.entry.points.now tolerance between.entry.start between.entry.end ≡ false }
@@ -102,7 +104,7 @@ fn strays(between: Stretch, chord: Chord, tolerance: f64, from: usize, to: usize
 }
 
 // How a point was reached: by the layer of this number, the first point's being 1, and 0 where it is not reached; and from which
-// point.
+// point. No Option stands for the 0: the search is defined over these numbers in `ways`, and each test would have to go between the two.
 #[derive(Clone, Copy)]
 struct Reach {
     level: u16,
@@ -146,7 +148,8 @@ impl<'a> Search<'a> {
     }
 
     // The pair of u and v comes up in a search that goes on. Where v is reached already no pair is due, and its first parent
-    // stays; the budget is looked at only when a pair is due.
+    // stays; the budget is looked at only when a pair is due. That the search goes on is asked here and below, of points up to the last: no
+    // field can say it, for the next pair may end the search.
     fn try_pair(&mut self, u: usize, v: usize)
         requires { (u < v) × (v ≤ self.old.task.last) × On self.old }
         ensures { Went (λ t. pair_of t u v) self.old self.new }
@@ -206,7 +209,8 @@ impl<'a> Search<'a> {
         }
     }
 
-    // The whole search, layer after layer. The loop counts in the field that the answer is made of.
+    // The whole search, layer after layer. The loop counts in `finished`, which each step reads and the answer is made of: a `for` would
+    // have a second count, and its law would say besides that the two agree.
     fn run(&mut self)
         requires { (self.old.finished ≡ 0) × (going self.old.phase ≡ true) }
         ensures { Ran (λ t. in_order (λ i. layer_of t) t.last 0) self.old self.new }
@@ -220,7 +224,8 @@ impl<'a> Search<'a> {
         }
     }
 
-    // Writes the ends of the way to the last point, by parents: `count` Lines, from the last to the first.
+    // Writes the ends of the way to the last point, by parents: `count` Lines, from the last to the first. A `fold` would carry the point,
+    // and write the output beside it.
     fn trace(&self, count: usize, out: &mut [f64])
         requires { (3 * count ≤ length out.old) × Within self.now.task.last (parents self.now.reached) }
         ensures { out.new ≡ sets out.old 0 (flat (numbers_at self.now.task.points.now) (back (parents self.now.reached) count self.now.task.last [])) }
@@ -241,19 +246,11 @@ pub struct Counts {
     pub bound: usize,
 }
 
-// The fewest straights that the budget finds. The arguments are C's, here and below, and make a `Task` once they are checked. The cut
-// is the best so far: it is asked for only where no way was found.
-fn find(points: &[f64], tolerance: f64, budget: u64, out: &mut [f64]) -> Counts
-    requires { (2 ≤ length points.now / 3) × (length points.now / 3 ≤ most_points) × (3 * (length points.now / 3 - 1) ≤ length out.old) × ((+0 ≺ tolerance) ≡ true) }
-    ensures { Gave points.now (fewest_of points.now tolerance budget) out.old out.new result }
+// The fewest straights that the budget finds. The cut is the best so far: it is asked for only where no way was found.
+fn find(task: Task, out: &mut [f64]) -> Counts
+    requires { (task.last ≡ last_of task.points.now) × (1 ≤ task.last) × (3 * task.last ≤ length out.old) }
+    ensures { Gave task.entry.points.now (fewest_of task.entry.points.now task.entry.tolerance task.entry.budget) out.old out.new result }
 {
-    let last = points.len() / 3 - 1;
-    let task = Task {
-        points,
-        tolerance,
-        last,
-        budget,
-    };
     let mut s = Search::new(task);
     s.run();
     let bound = s.finished + 1;
@@ -261,7 +258,7 @@ fn find(points: &[f64], tolerance: f64, budget: u64, out: &mut [f64]) -> Counts
         s.trace(bound, out);
         bound
     } else {
-        task.cut(0, last, out, 0)
+        task.cut(0, task.last, out, 0)
     };
     Counts {
         count,
@@ -270,10 +267,17 @@ fn find(points: &[f64], tolerance: f64, budget: u64, out: &mut [f64]) -> Counts
     }
 }
 
+// The first row that a call falls under, or what the search is asked. Any budget is accepted, 0 too. The arguments are C's, here and in
+// the call.
 #[tactic(auto, unfolding(crate::specs::Calls::straights_rows, geo::specs::Outcome::refusal, geo::specs::Domain::whole))]
-// The first row that a call falls under. Any budget is accepted, 0 too.
-fn check_straights(points: &[f64], tolerance: f64, room: usize) -> Result<(), Refusal>
-    ensures { refused_by result ≡ refusal (straights_rows points.now tolerance room) }
+fn check_straights<'a>(
+    points: &'a [f64],
+    tolerance: f64,
+    budget: u64,
+    room: usize,
+) -> Result<Task<'a>, Refusal>
+    ensures row { refused_by result ≡ refusal (straights_rows points.now tolerance room) }
+    ensures same { IfOk result (λ task. (task.points.now ≡ points.now) × (task.tolerance ≡ tolerance) × (task.budget ≡ budget) × (task.last ≡ last_of points.now)) }
 {
     if points.len() % 3 != 0 {
         return Err(Refusal::NotWhole);
@@ -297,7 +301,12 @@ fn check_straights(points: &[f64], tolerance: f64, room: usize) -> Result<(), Re
     if room / 3 < n - 1 {
         return Err(Refusal::NoRoom);
     }
-    Ok(())
+    Ok(Task {
+        points,
+        tolerance,
+        last: n - 1,
+        budget,
+    })
 }
 
 // Finds the fewest Lines from the first point to the last, each pair's line deviation below the tolerance, and writes each
@@ -311,6 +320,6 @@ pub fn fewest_straights(
     ensures says { outcome result ≡ straights_answer (straights_call points.now tolerance budget (length out.old)) }
     ensures leaves { out.new ≡ left (flat (numbers_at points.now)) out.old (ends_given (straights_call points.now tolerance budget (length out.old))) }
 {
-    check_straights(points, tolerance, out.len())?;
-    Ok(find(points, tolerance, budget, out))
+    let task = check_straights(points, tolerance, budget, out.len())?;
+    Ok(find(task, out))
 }

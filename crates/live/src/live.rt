@@ -2,7 +2,6 @@
 ghost use Rattle.std.specs.Prelude.{◌≡◌, ◌||◌, ◌+◌, ◌*◌, ◌-◌, ◌<◌, ◌≤◌, length, ltb};
 ghost use Rattle.std.proofs.lemmas.List.Edits.{sets};
 ghost use Rattle.floats.specs.Ops.{◌≺◌};
-ghost use Rattle.floats.specs.Root.{root_of};
 ghost use Rattle.geo.specs.Lent.{flat, triple};
 ghost use Rattle.geo.specs.Outcome.{refusal, unless};
 ghost use Rattle.geo.specs.Refusal.{refused_by, outcome};
@@ -13,7 +12,7 @@ ghost use Rattle.live.specs.Calls.{feed, retune, close, start_rows, state_rows, 
 ghost use Rattle.live.specs.Replay.{ends_in, Pushed, Replays};
 
 use farthest::farthest::{Ruler, farthest_between};
-use floats::root::sqrt;
+use floats::root::is_root_below;
 use geo::domain::{all_coordinates, is_tolerance, point3_in};
 use geo::lent::{point_at, put_point};
 use geo::lists::Stretch;
@@ -28,14 +27,6 @@ pub struct Live {
     pub points: [f64; Live::NUMBERS],
     pub count: usize,
     pub closed: bool,
-}
-
-// Whether a squared distance is that of a point below the tolerance. As in get_polyline_line_deviation the root is taken before it is
-// compared: squares would let a point pass whose root is the tolerance.
-fn is_below(square: f64, tolerance: f64) -> bool
-    ensures { result ≡ (root_of square ≺ tolerance) }
-{
-    sqrt(square) < tolerance
 }
 
 impl Live {
@@ -73,7 +64,8 @@ impl Live {
         Ok(Live::new(tolerance))
     }
 
-    // The last point held, or the anchor where it is alone.
+    // The last point held, or the anchor where it is alone. That a point is held and that no more than the slots are in use is asked here and
+    // below: C lends any count, and the calls refuse it, so no field of the type can say it.
     #[tactic(auto, unfolding(crate::specs::Thinner::slot))]
     fn last(&self) -> Point3D
         requires { (1 ≤ self.now.count) × (self.now.count ≤ 65) }
@@ -92,7 +84,8 @@ impl Live {
         self.count += 1;
     }
 
-    // Whether the line from the anchor to the last point stays below the tolerance from the points between, if there are any.
+    // Whether the line from the anchor to the last point stays below the tolerance from the points between, if there are any. As in
+    // get_polyline_line_deviation it is the root that is below: squares would let a point pass whose root is the tolerance.
     #[tactic(auto, unfolding(crate::specs::Thinner::slot, deviations::specs::Line::line_deviation, deviations::specs::Line::rooted))]
     fn goes_on(&self) -> bool
         requires { (1 ≤ self.now.count) × (self.now.count ≤ 65) }
@@ -106,11 +99,10 @@ impl Live {
             start: 0,
             end: self.count - 1,
         };
-        is_below(farthest_between(Ruler::Line, held).square, self.tolerance)
+        is_root_below(farthest_between(Ruler::Line, held).square, self.tolerance)
     }
 
-    // Hands out the last point, which becomes the anchor, and holds p alone after it. That no more than the slots are in use is asked
-    // here, of `push` and of `replay`: C lends any count, and the calls refuse it, so no field of the type can say it.
+    // Hands out the last point, which becomes the anchor, and holds p alone after it.
     #[tactic(auto, unfolding(crate::specs::Thinner::cutting, crate::specs::Thinner::put))]
     fn cut(&mut self, p: Point3D) -> Point3D
         requires { (1 ≤ self.old.count) × (self.old.count ≤ 65) }
@@ -193,8 +185,8 @@ impl Live {
         }
     }
 
-    // Feeds the held points again from the anchor, and writes the ends. The tolerance and the output, or its room, are C's arguments, here
-    // and below.
+    // Feeds the held points again from the anchor, and writes the ends: a `fold` would carry their count, the state and the output. The
+    // tolerance and the output, or its room, are C's arguments, here and below.
     fn replay(&mut self, tolerance: f64, out: &mut [f64]) -> usize
         requires { (self.old.count ≤ 65) × (189 ≤ length out.old) }
         ensures { Replays self.old self.new tolerance out.old out.new result }

@@ -129,7 +129,8 @@ pub fn arc_command(a: Point3D, b: Point3D, center: Point, clockwise: bool) -> Co
 }
 
 // Writes a command at place `at`, and a note beside it, where the column of notes reaches so far: who wants no notes
-// lends an empty one. Who lends the three outputs got them from C one by one, so they are parameters, and the place that moves on too.
+// lends an empty one. The outputs are parameters and no struct, and the place too: a fit and a course have them in two structs of their
+// own, and a third, of three exclusive borrows, would be put together and taken apart at each command.
 pub fn put_noted(
     kinds: &mut [u8],
     nums: &mut [f64],
@@ -147,7 +148,9 @@ pub fn put_noted(
     }
 }
 
-// The arc of a range whose Line fails, where arcs are tried; k is its Line's first farthest point.
+// The arc of a range whose Line fails, where arcs are tried; k is its Line's first farthest point. That the range ends among the most
+// points is asked here, as by the trials and by `ranges::fit_range`: a `Stretch` is of a list of any length, and a type beside it would
+// be made at each cut for this one clause.
 pub fn try_rule(rule: Rule, range: Stretch, k: usize) -> Option<Trial>
     requires { (range.end < most_points) × (range.start < k) × (k < range.end) }
     ensures { result ≡ counted rule (try_arcs (point_at range.entry.points.now) range.entry.start range.entry.end k rule.tolerance) }
@@ -158,7 +161,8 @@ pub fn try_rule(rule: Rule, range: Stretch, k: usize) -> Option<Trial>
     try_arcs(range, k, rule.tolerance)
 }
 
-// What is noted beside a command that covers so many steps, `worst` being the worst of them.
+// What is noted beside a command that covers so many steps, `worst` being the worst of them. The number is the note as it is
+// written, and no refusal.
 #[tactic(auto, unfolding(crate::specs::Written::note_by))]
 pub fn note_of(note: Note, covered: usize, worst: usize) -> u32
     requires { (covered < most_points) × (worst < most_points) }

@@ -133,7 +133,8 @@ impl<'a> Sheet<'a> {
         }
     }
 
-    // Writes the commands for the points of a fit from place `at` on, and answers how many they are.
+    // Writes the commands for the points of a fit from place `at` on, and answers how many they are. A `while`: how many parts there are
+    // is known only when the last of them ends where the fit does.
     fn fit_parts(&mut self, fit: &Fit, at: usize, ends: &mut [u16]) -> usize
         requires { (fit.now.route.end - fit.now.route.start ≤ length ends.old) × (at + (fit.now.route.end - fit.now.route.start) ≤ length self.old.kinds.now) × (9 * (at + (fit.now.route.end - fit.now.route.start)) ≤ length self.old.nums.now) }
         // The ends are lent as room to work in: what they hold at exit is left open.
@@ -155,7 +156,8 @@ impl<'a> Sheet<'a> {
 
 // Writes the commands for the points of a stretch, from place `at` on, and answers how many they are. Few points wait in a small
 // array, which is filled sooner than a large one. The outputs are parameters here and below, and no `Sheet`: its room would be asked all the
-// same, and each contract would say besides that its three slices stay the ones that were lent.
+// same, and each contract would say besides that its three slices stay the ones that were lent. That the route ends among the most points
+// is asked too, as in `pieces`: a `Fit`, which has it as a fact, is made here.
 pub fn fit_range(
     rule: FitRule,
     route: Stretch,
@@ -177,7 +179,8 @@ pub fn fit_range(
     sheet.fit_parts(&fit, at, &mut ends)
 }
 
-// Fits a chain: it is thinned in place, and what is kept is fitted. A course of at most 800 commands has no longer chain than 801 points.
+// Fits a chain: it is thinned in place, and what is kept is fitted. A course of at most 800 commands has no longer chain than 801 points;
+// that and the room for its commands are asked, for a struct of chain and outputs would be taken apart here, for `fit_range`.
 pub fn flush_chain(
     rule: FitRule,
     chain: &mut [f64],

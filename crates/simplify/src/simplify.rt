@@ -21,7 +21,8 @@ use geo::refusal::Refusal;
 use geo::types::{Point, Point3D};
 use std::marker::PhantomData;
 
-// Thins the triples of a slice in place, and answers how many are kept.
+// Thins the triples of a slice in place, and answers how many are kept. That the limit is not below zero is asked, as track.rt says: a type
+// of its own would hold one number, and each caller would make it.
 pub fn thin_in_place(ruler: Ruler, points: &mut [f64], limit: f64) -> usize
     requires { ((limit ≺ +0) ≡ false) × (length points.old / 3 ≤ most_points) }
     ensures { Copied triple (thinned_points (measure_of ruler) limit (point_at points.old) (length points.old / 3)) points.old points.new result }

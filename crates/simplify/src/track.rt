@@ -68,7 +68,7 @@ fn mark<T: Track>(track: &T, limit: f64, lo: usize, hi: usize, keep: &mut [bool]
 }
 
 // Writes the items whose flag is set, and those that are always kept, from the front on, in their order, and answers how many
-// they are. None is written behind its own place, so in place those ahead stand as they stood.
+// they are: their count is the place of the next. None is written behind its own place, so in place those ahead stand as they stood.
 fn close_up<T: Track>(track: &mut T, keep: &[bool]) -> usize
     requires { T.size track.old ≤ length keep.now }
     ensures count { result ≡ length (flagged T.always (T.item track.old) keep.now (T.size track.old)) }

@@ -17,7 +17,8 @@ use geo::lists::{Commands, Stretch};
 use geo::types::{Command, Point3D};
 use std::marker::PhantomData;
 
-// Points of a form, thinned to the front of an output that has room for all.
+// Points of a form, thinned to the front of an output that has room for all. A range and a move are two indices, here and below: items may
+// be commands, which no `Stretch` holds.
 #[derive(Drop)]
 pub struct Points<'a, P: Form> {
     pub points: &'a [f64],
@@ -62,7 +63,7 @@ impl<'a, P: Form> Track for Points<'a, P> {
     }
 }
 
-// Copies the triple at one index to another, both of one move.
+// Copies the triple at one index to another. A move is two indices, as `place` takes it: a struct would be made here to be taken apart.
 fn move_point(points: &mut [f64], from: usize, to: usize)
     requires { (from < length points.old / 3) × (to < length points.old / 3) }
     ensures { points.new ≡ sets points.old (3 * to) (triple (point_at points.old from)) }

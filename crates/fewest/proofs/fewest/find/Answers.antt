@@ -8,22 +8,22 @@ use Rattle.fewest.proofs.Whole.{whole_below, whole-within, gave_found, gave_cut}
 use Rattle.fewest.proofs.fewest.find.Goals as goal
 
 pub overflow_add-bound : goal.overflow_add-bound
-overflow_add-bound c = let a = c.args in let p = c.requires in let s = c.run.new.self in
-    omega (arith, whole_below a.points.now a.tolerance a.budget p.3 p.0 p.1 (state_of s) (run-state _ _ s c.new-s.ensures c.run.ensures), p.1)
+overflow_add-bound c = let t = c.args.task in let p = c.requires in let s = c.run.new.self in
+    omega (arith, whole_below t.points.now t.tolerance t.budget t.positive (omega (arith, p)) (omega (arith, p, t.few)) (state_of s) (rw p.0 at (run-state _ _ s c.new-s.ensures c.run.ensures)), p, t.few)
 
 pub trace-requires : goal.trace-requires
-trace-requires c = let a = c.args in let p = c.requires in let s = c.run.new.self in
-    let e = run-state _ _ s c.new-s.ensures c.run.ensures in (
-      omega (arith, whole_below a.points.now a.tolerance a.budget p.3 p.0 p.1 (state_of s) e, p.2),
-      rw (run-task _ _ s c.new-s.ensures c.run.ensures) (whole-within a.points.now a.tolerance a.budget p.3 p.0 p.1 (state_of s) e),
+trace-requires c = let t = c.args.task in let p = c.requires in let s = c.run.new.self in
+    let e = rw p.0 at (run-state _ _ s c.new-s.ensures c.run.ensures) in (
+      omega (arith, whole_below t.points.now t.tolerance t.budget t.positive (omega (arith, p)) (omega (arith, p, t.few)) (state_of s) e, p),
+      rw (run-task _ _ s c.new-s.ensures c.run.ensures, p.0) (whole-within t.points.now t.tolerance t.budget t.positive (omega (arith, p)) (omega (arith, p, t.few)) (state_of s) e),
     )
 
 pub returns-then-eq : goal.returns-then-eq
-returns-then-eq c = let a = c.args in let p = c.requires in let s = c.run.new.self in
-    gave_found a.points.now a.tolerance a.budget p.3 p.0 p.1 (state_of s) (run-state _ _ s c.new-s.ensures c.run.ensures) _ _
-    (sym (is_arrived _) ∙ sym c.eq.ensures ∙ c.if-eq.true) (rw (run-task _ _ s c.new-s.ensures c.run.ensures) at c.trace.ensures)
+returns-then-eq c = let t = c.args.task in let p = c.requires in let s = c.run.new.self in
+    gave_found t.points.now t.tolerance t.budget t.positive (omega (arith, p)) (omega (arith, p, t.few)) (state_of s) (rw p.0 at (run-state _ _ s c.new-s.ensures c.run.ensures)) _ _
+    (sym (is_arrived _) ∙ sym c.eq.ensures ∙ c.if-eq.true) (rw (run-task _ _ s c.new-s.ensures c.run.ensures, p.0) at c.trace.ensures)
 
 pub returns-else-eq : goal.returns-else-eq
-returns-else-eq c = let a = c.args in let p = c.requires in let s = c.run.new.self in
-    gave_cut a.points.now a.tolerance a.budget p.3 p.0 p.1 (state_of s) (run-state _ _ s c.new-s.ensures c.run.ensures) _ _ _
-    (sym (is_arrived _) ∙ sym c.eq.ensures ∙ c.if-eq.false) c.cut-count.ensures
+returns-else-eq c = let t = c.args.task in let p = c.requires in let s = c.run.new.self in
+    gave_cut t.points.now t.tolerance t.budget t.positive (omega (arith, p)) (omega (arith, p, t.few)) (state_of s) (rw p.0 at (run-state _ _ s c.new-s.ensures c.run.ensures)) _ _ _
+    (sym (is_arrived _) ∙ sym c.eq.ensures ∙ c.if-eq.false) (rw p.0 at c.cut-count.ensures)
