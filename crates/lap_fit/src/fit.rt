@@ -134,8 +134,7 @@ fn fit_lent(
     ensures { PutLap (fit_new rule.rule start commands.entry.kinds.now commands.entry.nums.now) out.old out.new to result }
 {
     let n = fit_course(
-        commands.kinds,
-        commands.nums,
+        commands,
         start,
         rule,
         &mut room.chain,
