@@ -47,7 +47,7 @@ pub fn weight(c: Command, last: Point3D, tolerance: f64) -> usize
     }
 }
 
-// The sum of two counts, 801 for all above 800.
+// The sum of two counts, 801 for all above 800, as `bezier_steps` counts. The test is that of the definition: `min` with 801 would leave the 800 unsaid.
 #[tactic(auto, unfolding(chain::specs::Chains::cap))]
 pub fn add_capped(a: usize, b: usize) -> usize
     requires { (a ≤ chain_points) × (b ≤ chain_points) }
@@ -86,7 +86,8 @@ pub fn course_end(commands: Commands, start: Point3D) -> Point3D
     commands.end_at(n - 1)
 }
 
-// Walks along a course from where w stands, which has written nothing and holds its start alone, and answers how many commands it gives.
+// Walks along a course from where w stands, which has written nothing and holds its start alone, and answers how many commands it gives. A `for`,
+// since each turn changes w.
 fn walk_along(commands: Commands, w: &mut Walker) -> usize
     requires room { (most_of (parts_by w.old.how w.old.rule.rule.tolerance w.old.at.last (lent_course commands.kinds.now commands.nums.now)) ≤ most_commands) × (most_of (parts_by w.old.how w.old.rule.rule.tolerance w.old.at.last (lent_course commands.kinds.now commands.nums.now)) ≤ length w.old.kinds.now) × (9 * most_of (parts_by w.old.how w.old.rule.rule.tolerance w.old.at.last (lent_course commands.kinds.now commands.nums.now)) ≤ length w.old.nums.now) × (length w.old.chain.now ≡ chain_numbers) }
     requires begun { (w.old.at ≡ record { points = 1; last = w.old.at.last; written = 0 }) × (take 3 w.old.chain.now ≡ triple w.old.at.last) }
