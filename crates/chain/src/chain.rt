@@ -85,7 +85,8 @@ impl Walk {
         self.last = end;
     }
 
-    // The ends of a Bezier's steps join the chain.
+    // The ends of a Bezier's steps join the chain. Its three points come apart, as the `match` over the command gives them: a type would hold
+    // them for this one call, since with the last point they are a `CubicBezier`.
     fn add_bezier(
         &mut self,
         end: Point3D,
@@ -117,8 +118,10 @@ pub fn bezier_steps(q: CubicBezier<Point3D>, resolution: f64) -> usize
     Walk::OVER
 }
 
-// Writes a Line to each point but the first. Each covers one step; their count is the answer too. The outputs are parameters here and below, as
-// `fit_range` and `flush_chain` take them, and so are rule and chain: of a `Walker`'s buffer only the front is the chain.
+// Writes a Line to each point but the first. Each covers one step. The count is kept beside the index: it is the answer too, and one less than
+// the points would be below zero where there are none. The outputs are parameters here and below, and what is asked of their room and of the
+// chain's length are clauses: a struct of them would be asked the same room, and each contract would say besides that its slices stay the ones
+// that were lent, as that of `fit_range` would. Rule and chain are parameters too: of a `Walker`'s buffer only the front is the chain.
 fn put_lines(
     points: &[f64],
     kinds: &mut [u8],

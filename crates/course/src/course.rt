@@ -15,7 +15,8 @@ ghost use Rattle.course.specs.Walks.{weight_of, path_flush, parts_by, fit_by, no
 use bezier::bezier::raise_controls;
 use chain::chain::{Flush, Walk, Walker, bezier_steps};
 use geo::domain::check_input;
-use geo::lent::{command_at, put_point};
+use geo::lent::put_point;
+use geo::lists::Commands;
 use geo::refusal::Refusal;
 use geo::types::{Command, Point3D};
 use pieces::pieces::Rule;
@@ -46,7 +47,7 @@ pub fn weight(c: Command, last: Point3D, tolerance: f64) -> usize
     }
 }
 
-// The sum of two counts, 801 for all above 800.
+// The sum of two counts, 801 for all above 800, as `bezier_steps` counts. The test is that of the definition: `min` with 801 would leave the 800 unsaid.
 #[tactic(auto, unfolding(chain::specs::Chains::cap))]
 pub fn add_capped(a: usize, b: usize) -> usize
     requires { (a ≤ chain_points) × (b ≤ chain_points) }
@@ -59,17 +60,15 @@ pub fn add_capped(a: usize, b: usize) -> usize
     n
 }
 
-// The most of a course from its start, 801 for all above 800. Here and below the commands stay two lists: callers are asked for nine numbers
-// each at least, and `Commands` would ask for exactly nine. Start and tolerance, or start and rule, are no pair: a file has one rule, and each of
-// its laps a start of its own.
-pub fn course_most(kinds: &[u8], nums: &[f64], start: Point3D, tolerance: f64) -> usize
-    requires { 9 * length kinds.now ≤ length nums.now }
-    ensures { result ≡ cap (most_on tolerance start (lent_course kinds.now nums.now)) }
+// The most of a course from its start, 801 for all above 800. A `for`, since a `fold` would carry both the sum and where the last command ended.
+// Start and tolerance, or start and rule, are no pair here and below: a file has one rule, and each of its laps a start of its own.
+pub fn course_most(commands: Commands, start: Point3D, tolerance: f64) -> usize
+    ensures { result ≡ cap (most_on tolerance start (lent_course commands.entry.kinds.now commands.entry.nums.now)) }
 {
     let mut most = 0;
     let mut last = start;
-    for i in 0..kinds.len() {
-        let c = command_at(kinds, nums, i);
+    for i in 0..commands.kinds.len() {
+        let c = commands.at(i);
         most = add_capped(most, weight(c, last, tolerance));
         last = c.end_point();
     }
@@ -77,26 +76,26 @@ pub fn course_most(kinds: &[u8], nums: &[f64], start: Point3D, tolerance: f64) -
 }
 
 // Where a course ends that starts at `start`: with its last command, of whatever kind.
-pub fn course_end(kinds: &[u8], nums: &[f64], start: Point3D) -> Point3D
-    requires { 9 * length kinds.now ≤ length nums.now }
-    ensures { result ≡ end_on start (lent_course kinds.now nums.now) }
+pub fn course_end(commands: Commands, start: Point3D) -> Point3D
+    ensures { result ≡ end_on start (lent_course commands.entry.kinds.now commands.entry.nums.now) }
 {
-    let n = kinds.len();
+    let n = commands.kinds.len();
     if n == 0 {
         return start;
     }
-    command_at(kinds, nums, n - 1).end_point()
+    commands.end_at(n - 1)
 }
 
-// Walks along a course from where w stands, which has written nothing and holds its start alone, and answers how many commands it gives.
-fn walk_along(kinds: &[u8], nums: &[f64], w: &mut Walker) -> usize
-    requires room { (9 * length kinds.now ≤ length nums.now) × (most_of (parts_by w.old.how w.old.rule.rule.tolerance w.old.at.last (lent_course kinds.now nums.now)) ≤ most_commands) × (most_of (parts_by w.old.how w.old.rule.rule.tolerance w.old.at.last (lent_course kinds.now nums.now)) ≤ length w.old.kinds.now) × (9 * most_of (parts_by w.old.how w.old.rule.rule.tolerance w.old.at.last (lent_course kinds.now nums.now)) ≤ length w.old.nums.now) × (length w.old.chain.now ≡ chain_numbers) }
+// Walks along a course from where w stands, which has written nothing and holds its start alone, and answers how many commands it gives. A `for`,
+// since each turn changes w.
+fn walk_along(commands: Commands, w: &mut Walker) -> usize
+    requires room { (most_of (parts_by w.old.how w.old.rule.rule.tolerance w.old.at.last (lent_course commands.kinds.now commands.nums.now)) ≤ most_commands) × (most_of (parts_by w.old.how w.old.rule.rule.tolerance w.old.at.last (lent_course commands.kinds.now commands.nums.now)) ≤ length w.old.kinds.now) × (9 * most_of (parts_by w.old.how w.old.rule.rule.tolerance w.old.at.last (lent_course commands.kinds.now commands.nums.now)) ≤ length w.old.nums.now) × (length w.old.chain.now ≡ chain_numbers) }
     requires begun { (w.old.at ≡ record { points = 1; last = w.old.at.last; written = 0 }) × (take 3 w.old.chain.now ≡ triple w.old.at.last) }
     ensures same { SameLent w.old w.new }
-    ensures written { NotedPlaced (fit_by w.old.how w.old.rule.rule w.old.at.last (lent_course kinds.now nums.now)) 0 result w.old.kinds.now w.new.kinds.now w.old.nums.now w.new.nums.now w.old.steps.now w.new.steps.now }
+    ensures written { NotedPlaced (fit_by w.old.how w.old.rule.rule w.old.at.last (lent_course commands.entry.kinds.now commands.entry.nums.now)) 0 result w.old.kinds.now w.new.kinds.now w.old.nums.now w.new.nums.now w.old.steps.now w.new.steps.now }
 {
-    for i in 0..kinds.len() {
-        w.take(command_at(kinds, nums, i));
+    for i in 0..commands.kinds.len() {
+        w.take(commands.at(i));
     }
     let n = w.flush();
     w.at.written + n
@@ -107,8 +106,7 @@ fn walk_along(kinds: &[u8], nums: &[f64], w: &mut Walker) -> usize
 // C has no struct of them, and what is asked of their lengths depends on the course. Nor are rule and buffer a pair: the rule is a file's, and what the
 // buffer holds each course's own.
 fn walk_course(
-    kinds: &[u8],
-    nums: &[f64],
+    commands: Commands,
     start: Point3D,
     how: Flush,
     rule: FitRule,
@@ -117,9 +115,9 @@ fn walk_course(
     out_nums: &mut [f64],
     steps: &mut [u32],
 ) -> usize
-    requires { (9 * length kinds.now ≤ length nums.now) × (most_of (parts_by how rule.rule.tolerance start (lent_course kinds.now nums.now)) ≤ most_commands) × (most_of (parts_by how rule.rule.tolerance start (lent_course kinds.now nums.now)) ≤ length out_kinds.old) × (9 * most_of (parts_by how rule.rule.tolerance start (lent_course kinds.now nums.now)) ≤ length out_nums.old) }
+    requires { (most_of (parts_by how rule.rule.tolerance start (lent_course commands.kinds.now commands.nums.now)) ≤ most_commands) × (most_of (parts_by how rule.rule.tolerance start (lent_course commands.kinds.now commands.nums.now)) ≤ length out_kinds.old) × (9 * most_of (parts_by how rule.rule.tolerance start (lent_course commands.kinds.now commands.nums.now)) ≤ length out_nums.old) }
     // What the chain holds at exit is left open.
-    ensures { NotedPlaced (fit_by how rule.rule start (lent_course kinds.now nums.now)) 0 result out_kinds.old out_kinds.new out_nums.old out_nums.new steps.old steps.new }
+    ensures { NotedPlaced (fit_by how rule.rule start (lent_course commands.entry.kinds.now commands.entry.nums.now)) 0 result out_kinds.old out_kinds.new out_nums.old out_nums.new steps.old steps.new }
 {
     // The buffer may still hold the chain of another course.
     put_point(chain, 0, start);
@@ -132,13 +130,12 @@ fn walk_course(
         nums: out_nums,
         steps,
     };
-    walk_along(kinds, nums, &mut w)
+    walk_along(commands, &mut w)
 }
 
 // Fits a course from its start, notes how many steps each command covers, and answers how many commands there are.
 pub fn fit_course_with_steps(
-    kinds: &[u8],
-    nums: &[f64],
+    commands: Commands,
     start: Point3D,
     rule: FitRule,
     chain: &mut [f64; Walk::CHAIN],
@@ -146,13 +143,12 @@ pub fn fit_course_with_steps(
     out_nums: &mut [f64],
     steps: &mut [u32],
 ) -> usize
-    requires { (9 * length kinds.now ≤ length nums.now) × (most_on rule.rule.tolerance start (lent_course kinds.now nums.now) ≤ most_commands) × (most_on rule.rule.tolerance start (lent_course kinds.now nums.now) ≤ length out_kinds.old) × (9 * most_on rule.rule.tolerance start (lent_course kinds.now nums.now) ≤ length out_nums.old) }
+    requires { (most_on rule.rule.tolerance start (lent_course commands.kinds.now commands.nums.now) ≤ most_commands) × (most_on rule.rule.tolerance start (lent_course commands.kinds.now commands.nums.now) ≤ length out_kinds.old) × (9 * most_on rule.rule.tolerance start (lent_course commands.kinds.now commands.nums.now) ≤ length out_nums.old) }
     // The chain is lent as room to work in: what it holds at exit is left open.
-    ensures { NotedPlaced (noted_on rule.rule start (lent_course kinds.now nums.now)) 0 result out_kinds.old out_kinds.new out_nums.old out_nums.new steps.old steps.new }
+    ensures { NotedPlaced (noted_on rule.rule start (lent_course commands.entry.kinds.now commands.entry.nums.now)) 0 result out_kinds.old out_kinds.new out_nums.old out_nums.new steps.old steps.new }
 {
     walk_course(
-        kinds,
-        nums,
+        commands,
         start,
         Flush::Fitted,
         rule,
@@ -165,21 +161,19 @@ pub fn fit_course_with_steps(
 
 // Fits a course from its start, and answers how many commands it gives.
 pub fn fit_course(
-    kinds: &[u8],
-    nums: &[f64],
+    commands: Commands,
     start: Point3D,
     rule: FitRule,
     chain: &mut [f64; Walk::CHAIN],
     out_kinds: &mut [u8],
     out_nums: &mut [f64],
 ) -> usize
-    requires { (9 * length kinds.now ≤ length nums.now) × (most_on rule.rule.tolerance start (lent_course kinds.now nums.now) ≤ most_commands) × (most_on rule.rule.tolerance start (lent_course kinds.now nums.now) ≤ length out_kinds.old) × (9 * most_on rule.rule.tolerance start (lent_course kinds.now nums.now) ≤ length out_nums.old) }
+    requires { (most_on rule.rule.tolerance start (lent_course commands.kinds.now commands.nums.now) ≤ most_commands) × (most_on rule.rule.tolerance start (lent_course commands.kinds.now commands.nums.now) ≤ length out_kinds.old) × (9 * most_on rule.rule.tolerance start (lent_course commands.kinds.now commands.nums.now) ≤ length out_nums.old) }
     // The chain is lent as room to work in: what it holds at exit is left open.
-    ensures { FitPlaced (fit_on rule.rule start (lent_course kinds.now nums.now)) 0 result out_kinds.old out_kinds.new out_nums.old out_nums.new }
+    ensures { FitPlaced (fit_on rule.rule start (lent_course commands.entry.kinds.now commands.entry.nums.now)) 0 result out_kinds.old out_kinds.new out_nums.old out_nums.new }
 {
     fit_course_with_steps(
-        kinds,
-        nums,
+        commands,
         start,
         rule,
         chain,
@@ -200,7 +194,8 @@ fn check_course(
     ensures { refused_by result ≡ refusal (arcs_rows kinds.now nums.now tolerance out_kinds out_nums) }
 {
     check_input(kinds, nums, tolerance, out_nums)?;
-    let most = course_most(kinds, nums, Point3D::ZERO, tolerance);
+    let commands = Commands { kinds, nums };
+    let most = course_most(commands, Point3D::ZERO, tolerance);
     if Walk::MOST < most {
         return Err(Refusal::TooMuch);
     }
@@ -224,13 +219,13 @@ pub fn fit_arcs(
     ensures { WroteCommands (arcs_call kinds.now nums.now tolerance (length out_kinds.old) (length out_nums.old)) out_kinds.old out_kinds.new out_nums.old out_nums.new result }
 {
     check_course(kinds, nums, tolerance, out_kinds.len(), out_nums.len())?;
+    let commands = Commands { kinds, nums };
     let mut chain = [0.0; Walk::CHAIN];
     let rule = FitRule {
         rule: Rule::of_laps(tolerance),
     };
     Ok(fit_course(
-        kinds,
-        nums,
+        commands,
         Point3D::ZERO,
         rule,
         &mut chain,
@@ -263,14 +258,14 @@ pub fn optimize_path_from_array(
     ensures { WroteCommands (optimize_call kinds.now nums.now tolerance use_fit_arcs (length out_kinds.old) (length out_nums.old)) out_kinds.old out_kinds.new out_nums.old out_nums.new result }
 {
     refuse_commands(kinds, nums, tolerance, out_kinds.len(), out_nums.len())?;
+    let commands = Commands { kinds, nums };
     let how = path_flush(use_fit_arcs);
     let rule = FitRule {
         rule: Rule::of_points(tolerance),
     };
     let mut chain = [0.0; Walk::CHAIN];
     Ok(walk_course(
-        kinds,
-        nums,
+        commands,
         Point3D::ZERO,
         how,
         rule,

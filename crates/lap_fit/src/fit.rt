@@ -85,7 +85,8 @@ pub fn lap_end(lap: Body, start: Point3D) -> Point3D
     lap.command(lap.count - 1).read().end_point()
 }
 
-// What command i of a lap adds to the most. Only a Bezier asks where the command before it ended, so of any other just the kind is read.
+// What command i of a lap adds to the most. Only a Bezier asks where the command before it ended, so of any other just the kind is read, a byte
+// of the file and no command yet.
 fn weight_at(lap: StartedLap, i: usize, tolerance: f64) -> usize
     requires { i < lap.body.count }
     ensures { result ≡ cap (weight_of (joined tolerance (lap_end lap.entry.start (commands_at lap.entry.body.bytes.now lap.entry.body.at i)) (decoded (take 73 (drop (lap.entry.body.at + 73 * i) lap.entry.body.bytes.now))))) }
@@ -98,7 +99,8 @@ fn weight_at(lap: StartedLap, i: usize, tolerance: f64) -> usize
     weight(c.read(), last, tolerance)
 }
 
-// What the commands of a lap, from their start, could become at most.
+// What the commands of a lap, from their start, could become at most, 801 for all above 800, here and below, as `bezier_steps` of chain counts.
+// A `for`: of a `fold` it would have to be shown that each sum on the way is one that `add_capped` takes, which is the loop's invariant again.
 pub fn most_lap(lap: StartedLap, tolerance: f64) -> usize
     ensures { result ≡ cap (most_lap tolerance lap.entry.start (commands_at lap.entry.body.bytes.now lap.entry.body.at lap.entry.body.count)) }
 {
@@ -109,7 +111,7 @@ pub fn most_lap(lap: StartedLap, tolerance: f64) -> usize
     most
 }
 
-// What the laps of a file could become at most.
+// What the laps of a file could become at most. A `for`, since a `fold` would carry the next lap's start besides.
 pub fn most_of(file: LapFile, tolerance: f64) -> usize
     ensures { result ≡ cap (laps_most tolerance origin (laps_of file.entry.bytes.now)) }
 {
@@ -143,8 +145,7 @@ fn fit_lent(
     ensures { PutLap (fit_new rule.rule start commands.entry.kinds.now commands.entry.nums.now) out.old out.new to result }
 {
     let n = fit_course(
-        commands.kinds,
-        commands.nums,
+        commands,
         start,
         rule,
         chain,
@@ -211,6 +212,7 @@ pub fn fit_commands(
 }
 
 // Writes the fit of a lap with its start, from `to` on, and returns how many commands it has.
+// That its most is small is a clause: it depends on the rule, and a `StartedLap` is what is counted before that is known.
 pub fn fit_lap(
     lap: StartedLap,
     rule: FitRule,
@@ -240,7 +242,7 @@ pub fn fit_lap(
     )
 }
 
-// Writes the fit of a file, the mark first, and returns how many bytes it has.
+// Writes the fit of a file, the mark first, and returns how many bytes it has. A `for`, since a `fold` would carry the place and the next lap's start.
 fn fit_laps(file: LapFile, rule: FitRule, out: &mut [u8]) -> usize
     requires { (laps_most rule.rule.tolerance origin (laps_of file.bytes.now) ≤ 800) × (file_size (lap_count file.bytes.now) (laps_most rule.rule.tolerance origin (laps_of file.bytes.now)) ≤ length out.old) }
     ensures { (result ≡ length (encode (fit_laps rule.rule origin (laps_of file.entry.bytes.now)))) × (out.new ≡ encode (fit_laps rule.rule origin (laps_of file.entry.bytes.now)) ++ drop (length (encode (fit_laps rule.rule origin (laps_of file.entry.bytes.now)))) out.old) }

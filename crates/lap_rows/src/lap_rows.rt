@@ -17,6 +17,7 @@ use chain::chain::Walk;
 use course::course::fit_course_with_steps;
 use file::command::read_commands;
 use geo::domain::is_tolerance;
+use geo::lists::Commands;
 use geo::refusal::Refusal;
 use geo::types::Point3D;
 use lap_fit::fit::{LapRoom, StartedLap, lap_end, most_of};
@@ -44,7 +45,8 @@ impl ListRoom {
 
 // Lists the commands of a lap with its start, and answers how many rows they have: they are fitted, and beside each command stands
 // how many steps it covers.
-// That the tolerance is above zero stays a clause, here and below: a type of it would hold one number, and be taken apart where the rule is made.
+// That the tolerance is above zero stays a clause, here and below, and no `FitRule` stands in its place: the rows are defined for the rule of laps
+// alone, so that its being that one would be a clause. That the most is small is one too: it depends on the tolerance, which no lap has.
 fn list_commands(lap: StartedLap, tolerance: f64, room: &mut ListRoom) -> usize
     requires { ((+0 ≺ tolerance) ≡ true) × (most_lap tolerance lap.start (commands_at lap.body.bytes.now lap.body.at lap.body.count) ≤ most_commands) }
     // What the other arrays hold at exit is left open.
@@ -58,9 +60,12 @@ fn list_commands(lap: StartedLap, tolerance: f64, room: &mut ListRoom) -> usize
     let rule = FitRule {
         rule: Rule::of_laps(tolerance),
     };
+    let read = Commands {
+        kinds: &room.lap.kinds[..n],
+        nums: &room.lap.nums[..m],
+    };
     fit_course_with_steps(
-        &room.lap.kinds[..n],
-        &room.lap.nums[..m],
+        read,
         lap.start,
         rule,
         &mut room.lap.fit.chain,
@@ -70,7 +75,8 @@ fn list_commands(lap: StartedLap, tolerance: f64, room: &mut ListRoom) -> usize
     )
 }
 
-// Writes the text of one lap, of this number and with its start, from `to` on. The output is lent whole with the place, as in `put_rows`.
+// Writes the text of one lap, of this number and with its start, from `to` on. The output is lent whole with the place, as in `put_rows`, and
+// that the number has two digits is a clause, as there.
 fn put_lap(
     lap: StartedLap,
     number: usize,
@@ -88,7 +94,8 @@ fn put_lap(
 }
 
 // Writes the listing's text, which is its first line, the rows of each lap and the sum of their steps, and answers how many
-// bytes it has.
+// bytes it has. That a file has few laps is a clause: a `LapFile` has a table of any length, and this is the one function here that needs it short.
+// A `for`, since a `fold` would carry the place, the sum and the next lap's start.
 fn list_laps(file: LapFile, tolerance: f64, out: &mut [u8]) -> usize
     requires { ((+0 ≺ tolerance) ≡ true) × (lap_count file.bytes.now ≤ 64) × (laps_most tolerance origin (laps_of file.bytes.now) ≤ most_commands) × (most_text (laps_most tolerance origin (laps_of file.bytes.now)) ≤ length out.old) }
     ensures { (result ≡ length (list_text tolerance (laps_of file.entry.bytes.now))) × (out.new ≡ list_text tolerance (laps_of file.entry.bytes.now) ++ drop (length (list_text tolerance (laps_of file.entry.bytes.now))) out.old) }
@@ -109,7 +116,8 @@ fn list_laps(file: LapFile, tolerance: f64, out: &mut [u8]) -> usize
 }
 
 // The first row that the listing of a file falls under, or the file, whose table is right.
-// The tolerance and the room go nowhere together: each is looked at by rows of its own.
+// The tolerance and the room go nowhere together: each is looked at by rows of its own. Up to the tolerance the rows are those of `fit_file`; behind
+// it they are another table's, which has no row for the size of a fitted file.
 fn check_text<'a>(s: &'a [u8], tolerance: f64, room: usize) -> Result<LapFile<'a>, Refusal>
     ensures row { refused_by result ≡ refusal (text_rows s.now tolerance room) }
     ensures same { IfOk result (λ file. file.bytes.now ≡ s.now) }

@@ -167,7 +167,7 @@ pub fn fit_both(
     let start = start_of(recorded, k);
     let lap = next_of(recorded, k);
     let count = fit_commands(commands, start, rule, most, buffer, 0);
-    let end = course_end(commands.kinds, commands.nums, start);
+    let end = course_end(commands, start);
     let next = fit_next(lap, end, rule, buffer, COMMAND_BYTES * count);
     Refit { count, next }
 }
@@ -233,7 +233,7 @@ pub fn most_new(s: LapFile, k: usize, commands: Commands, tolerance: f64) -> usi
     ensures { result ≡ cap (most_both tolerance (laps_of s.entry.bytes.now) k (lent_course commands.entry.kinds.now commands.entry.nums.now)) }
 {
     let start = start_of(s, k);
-    let end = course_end(commands.kinds, commands.nums, start);
-    let own = course_most(commands.kinds, commands.nums, start, tolerance);
+    let end = course_end(commands, start);
+    let own = course_most(commands, start, tolerance);
     add_capped(own, most_next(next_of(s, k), end, tolerance))
 }

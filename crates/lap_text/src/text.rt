@@ -10,6 +10,7 @@ use crate::bytes;
 use listing::listing::letter;
 
 // Writes a number's decimal digits from `at` on, and answers where they end. The number n is no length: it and the place are each call's own.
+// That a number has three digits at most, or a lap's two, is a clause here and below: a type would hold the one number, and be made for each call.
 #[tactic(auto, using(std::proofs::lemmas::Grind::common_steps, crate::proofs::Decimal::one_digit, crate::proofs::Decimal::two_digits, crate::proofs::Decimal::three_digits))]
 fn put_decimal(out: &mut [u8], at: usize, n: usize) -> usize
     requires { (n < 1000) × (at + length (decimal n) ≤ length out.old) }
@@ -64,9 +65,10 @@ pub struct Added {
     pub steps: usize,
 }
 
-// Writes the rows of a lap from `at` on. Their kinds and their steps stand in two columns, as the fit writes them and C lends them.
+// Writes the rows of a lap from `at` on. Their kinds and their steps stand in two columns, as `fit_course_with_steps` writes them. They are read
+// by index in a `for`: the contract's rows are read by index too, and a `fold` would carry the output besides both numbers.
 pub fn put_rows(kinds: &[u8], steps: &[u32], lap: usize, out: &mut [u8], at: usize) -> Added
-    requires { (lap < 100) × (length steps.now ≡ length kinds.now) × (sum_of (steps_in (rows_from kinds.now steps.now (length kinds.now) 0)) < 1000) × (at + 9 * length kinds.now ≤ length out.old) }
+    requires { (lap < 100) × (length kinds.now ≤ length steps.now) × (sum_of (steps_in (rows_from kinds.now steps.now (length kinds.now) 0)) < 1000) × (at + 9 * length kinds.now ≤ length out.old) }
     ensures text { TextPut (rows_text lap (rows_from kinds.now steps.now (length kinds.now) 0)) out.old out.new at result.end }
     ensures sum { result.steps ≡ sum_of (steps_in (rows_from kinds.now steps.now (length kinds.now) 0)) }
 {

@@ -16,8 +16,8 @@ returns-in_err-check_input c = let a = c.args in
     let e : c.from_residual.result ≡ Err c.in_err-check_input.field-0.0 = search rules in
     rw e (input_refused a.kinds.now a.nums.now a.tolerance a.out_nums _ c.in_err-check_input.ensures _ (not_zero _ (number-positive _)))
 
-pub course_most-most-requires : goal.course_most-most-requires
-course_most-most-requires c = let a = c.args in let r = (input_accepted a.kinds.now a.nums.now a.tolerance a.out_nums _ c.in_ok-check_input.ensures refl).0 in omega (arith, r)
+pub invariant_of-commands : goal.invariant_of-commands
+invariant_of-commands c = let a = c.args in let r = (input_accepted a.kinds.now a.nums.now a.tolerance a.out_nums _ c.in_ok-check_input.ensures refl).0 in record { whole = omega (arith, r) }
 
 pub returns-then-most-gt-MOST : goal.returns-then-most-gt-MOST
 unfolding arcs_rows

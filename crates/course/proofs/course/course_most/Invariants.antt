@@ -10,7 +10,7 @@ use Rattle.course.specs.Walks.{weights_from}
 use Rattle.course.proofs.course.course_most.Given as goal
 
 abbrev pub invariant-loop-i : goal.invariant-loop-i
-invariant-loop-i l = (cap (l.most + weights_from (joined l.tolerance) l.last (commands_from l.kinds l.nums (length l.kinds - l.i) l.i)) ≡ cap (weights_from (joined l.tolerance) l.initial.last (lent_course l.kinds l.nums))) × (l.most ≤ 801) × (cap l.most ≡ l.most)
+invariant-loop-i l = (cap (l.most + weights_from (joined l.tolerance) l.last (commands_from l.commands.kinds.now l.commands.nums.now (length l.commands.kinds.now - l.i) l.i)) ≡ cap (weights_from (joined l.tolerance) l.initial.last (lent_course l.commands.kinds.now l.commands.nums.now))) × (l.most ≤ 801) × (cap l.most ≡ l.most)
 
 abbrev pub decreases-loop-i : goal.decreases-loop-i
-decreases-loop-i l = length l.kinds - l.i
+decreases-loop-i l = length l.commands.kinds.now - l.i

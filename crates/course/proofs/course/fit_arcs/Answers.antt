@@ -15,12 +15,16 @@ pub invariant_of-rule : goal.invariant_of-rule
 invariant_of-rule c = let a = c.args in
     record { positive = rw c.of_laps.ensures (arcs_accepted a.kinds.now a.nums.now a.tolerance (length a.out_kinds.now) (length a.out_nums.now) c.in_ok-check_course.ensures).above_zero }
 
+pub invariant_of-commands : goal.invariant_of-commands
+invariant_of-commands c = let a = c.args in
+    let r = arcs_accepted a.kinds.now a.nums.now a.tolerance (length a.out_kinds.now) (length a.out_nums.now) c.in_ok-check_course.ensures in
+    let n = r.nine-each in record { whole = omega (arith, n) }
+
 pub fit_course-requires : goal.fit_course-requires
 fit_course-requires c = let a = c.args in
     let r = arcs_accepted a.kinds.now a.nums.now a.tolerance (length a.out_kinds.now) (length a.out_nums.now) c.in_ok-check_course.ensures in
-    let n = r.nine-each in
     let k = r.room-numbers in
-    rw c.of_laps.ensures (omega (arith, n), r.not_many, r.room-kinds, omega (arith, k))
+    rw c.of_laps.ensures (r.not_many, r.room-kinds, omega (arith, k))
 
 pub returns : goal.returns
 returns c = let a = c.args in wrote_arcs a.kinds.now a.nums.now a.tolerance a.out_kinds.now _ a.out_nums.now _ _ c.in_ok-check_course.ensures (rw c.of_laps.ensures at c.fit_course.ensures)

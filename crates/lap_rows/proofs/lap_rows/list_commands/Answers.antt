@@ -17,7 +17,7 @@ fit_course_with_steps-requires c = let a = c.args in let l = a.lap.body in let p
     let x = long_kinds l.bytes.now l.at l.count _ _ _ _ (omega (arith, p)) (omega (arith, p)) r.kinds r.numbers in
     let y = long_numbers l.bytes.now l.at l.count _ _ _ _ (omega (arith, p)) (omega (arith, p)) r.kinds r.numbers in
     let z = most-read l.bytes.now l.at l.count _ _ _ _ (omega (arith, p)) (omega (arith, p)) r.kinds r.numbers (laps_rule a.tolerance) a.lap.start in
-    rw c.of_laps.ensures (omega arith, omega (arith, p.1), omega (arith, p.1), omega (arith, p.1))
+    rw c.of_laps.ensures (omega (arith, p.1), omega (arith, p.1), omega (arith, p.1))
 
 pub returns-clause-rows : goal.returns-clause-rows
 unfolding lap_rows

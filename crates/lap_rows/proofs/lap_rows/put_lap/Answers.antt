@@ -33,7 +33,7 @@ put_rows-requires c = let a = c.args in let p = c.requires in let w = c.list_com
     let e = rows_back _ _ _ _ _ _ w (omega (arith, f, o, p.2)) (omega (arith, f, p.2)) in
     let k = columns_back _ _ _ _ _ _ w (omega (arith, f, o, p.2)) (omega (arith, f, p.2)) in
     let x = kinds_length (lap_rows a.tolerance a.lap.start l) in
-    (p.1, ap length k.1 ∙ steps_length (lap_rows a.tolerance a.lap.start l) ∙ sym x ∙ sym (ap length k.0), subst (λ (rs : List ListRow). sum_of (steps_in rs) < 1000) (sym e) (rows_short a.tolerance p.0 a.lap.start l p.2), let q = ap length k.0 in omega (arith, f, x, q, p.3))
+    (p.1, (let q = ap length k.0 in let s = ap length k.1 ∙ steps_length (lap_rows a.tolerance a.lap.start l) in omega (arith, q, s, x)), subst (λ (rs : List ListRow). sum_of (steps_in rs) < 1000) (sym e) (rows_short a.tolerance p.0 a.lap.start l p.2), let q = ap length k.0 in omega (arith, f, x, q, p.3))
 
 pub returns-clause-text : goal.returns-clause-text
 unfolding lap_text
