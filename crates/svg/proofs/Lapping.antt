@@ -1,9 +1,9 @@
 -- The second walk over a text, in one lap: the commands that are left, written from here, give the whole lap. Assumes nothing.
 use Rattle.std.specs.Prelude.{if◌then◌else◌}
 use Prim.Native.Nat.{ℕ, ◌+◌, ◌-◌, ◌*◌, ◌≤◌, ◌<◌}
-use mathlib.Core.Path.{◌≡◌, refl, sym, ap, ◌∙◌}
+use mathlib.Core.Path.{◌≡◌, refl, sym, ap, ◌∙◌, subst}
 use mathlib.Core.Bool.{Bool, true, false}
-use mathlib.Core.List.{List, [], ◌∷◌, map, append-nil, head-eq_of_cons-eq}
+use mathlib.Core.List.{List, [], ◌∷◌, ◌++◌, map, append-nil, append_assoc, head-eq_of_cons-eq}
 use native.Mathlib.Omega.{arith}
 use borrow.Author.Tests.{eq-eqb, ne_eqb}
 use denote.Bor.{Bor}
@@ -16,9 +16,9 @@ use Rattle.geo.proofs.Stores.{sets_append}
 use Rattle.file.specs.Command.{enc}
 use Rattle.file.proofs.Stores.{length_enc}
 use Rattle.laps.specs.File.{body}
-use Rattle.svg_text.specs.Path.{Drawn, move, line, curve, broken, read, space, letter_m, command, bad, then_rest, others}
+use Rattle.svg_text.specs.Path.{Drawn, move, line, curve, broken, read, space, letter_c, letter_l, letter_m, command, bad, then_rest, others}
 use Rattle.svg_text.specs.Drawing.{drawn}
-use Rattle.svg_text.specs.Spelling.{Spelled, spelledM, spelledL, spelled_c, spell_command, meaning}
+use Rattle.svg_text.specs.Spelling.{Number, spell, Spelled, spelledM, spelledL, spelled_c, spell_pair, spell_command, meaning}
 use Rattle.svg_text.proofs.Spelled.{no_reading, no_text, value_of, rest_of, followed, command_means}
 use Rattle.svg_text.proofs.Steps.{command_takes, others-none, others-some}
 use Rattle.svg_items.specs.Readings.{mapped}
@@ -47,6 +47,37 @@ first_read t u c first rest e j =
     let y : u ≡ f.here = rest_of j.named f.c u f.here w in
     let z : f.later ≡ rest = let a = f.all in cc in
     record { is = j.is ∙ ap drawn x; then_names = ap others y ∙ f.then_was ∙ ap gives z }
+
+-- ---- what is behind a command is a tail of the text
+pub record Tail (u t : List ℕ) : Type 0 where
+  pub front : List ℕ
+  pub split : t ≡ front ++ u
+
+-- a tail's tail
+tail_of : (u v t : List ℕ) → Tail v t → Tail u v → Tail u t
+tail_of u v t e f = record { front = e.front ++ f.front; split = e.split ∙ ap (λ (w : List ℕ). e.front ++ w) f.split ∙ sym (append_assoc e.front f.front u) }
+
+tail_behind : (p v u : List ℕ) → Tail u v → Tail u (p ++ v)
+tail_behind p v u f = tail_of u v (p ++ v) (record { front = p; split = refl }) f
+
+pair_tail : (x y : Number) (v u : List ℕ) → Tail u v → Tail u (spell_pair x y v)
+unfolding spell_pair
+pair_tail x y v u f =
+    tail_behind (space ∷ []) (spell x ++ (space ∷ (spell y ++ v))) u
+    (tail_behind (spell x) (space ∷ (spell y ++ v)) u
+    (tail_behind (space ∷ []) (spell y ++ v) u
+    (tail_behind (spell y) v u f)))
+
+command_tail : (k : Spelled) (u : List ℕ) → Tail u (spell_command k u)
+unfolding spell_command
+command_tail (spelledM x y) u = tail_behind (letter_m ∷ []) (spell_pair x y u) u (pair_tail x y u u (record { front = []; split = refl }))
+command_tail (spelledL x y) u = tail_behind (letter_l ∷ []) (spell_pair x y u) u (pair_tail x y u u (record { front = []; split = refl }))
+command_tail (spelled_c p q r s x y) u =
+    tail_behind (letter_c ∷ []) (spell_pair p q (spell_pair r s (spell_pair x y u))) u
+    (pair_tail p q (spell_pair r s (spell_pair x y u)) u (pair_tail r s (spell_pair x y u) u (pair_tail x y u u (record { front = []; split = refl }))))
+
+read_tail : (t : List ℕ) (c : Drawn) (u : List ℕ) → command t ≡ read c u → Tail u t
+read_tail t c u e = let m = command_means t c u e in subst (Tail u) m.text (command_tail m.spelling u)
 
 -- ---- which letter opens a lap
 abbrev is_move : Drawn → Bool
@@ -112,6 +143,7 @@ pub record Lapping (s out₀ out : List ℕ) (to : ℕ) (t : List ℕ) (commands
   pub first : Drawn
   pub rest : List Drawn
   pub names : named_from t ≡ gives (first ∷ rest)
+  pub tail : Tail t s
   pub same : length out ≡ length out₀
   pub work : sets out (to + 73 * commands) (body (map inked (first ∷ until_move rest))) ≡ sets out₀ to (body (map inked (first₀ ∷ until_move rest₀)))
   pub count : commands + length (map inked (first ∷ until_move rest)) ≡ length (map inked (first₀ ∷ until_move rest₀))
@@ -128,6 +160,7 @@ lapping_starts s out to f =
       first = f.first;
       rest = f.rest;
       names = f.names;
+      tail = record { front = []; split = refl };
       same = refl;
       work = rw e;
       count = omega arith;
@@ -151,6 +184,9 @@ module _ {s out₀ out : List ℕ} {to : ℕ} {t : List ℕ} {commands : ℕ} (k
     reads_first : FirstRead u c k.first k.rest
     reads_first = first_read t u c k.first k.rest k.names there
 
+    tail_read : Tail u s
+    tail_read = tail_of u t s k.tail (read_tail t there.named u there.reads)
+
     pub further : length u < length t
     further = command_takes t there.named u there.reads
 
@@ -159,10 +195,10 @@ module _ {s out₀ out : List ℕ} {to : ℕ} {t : List ℕ} {commands : ℕ} (k
       written = w ∙ ap (λ (x : Command). sets out (to + 73 * commands) (enc x)) reads_first.is
 
       -- the command was the lap's last
-      closed : map inked (k.first ∷ until_move k.rest) ≡ inked k.first ∷ [] → (b : Bor (List ℕ)) → named_from b.now ≡ gives (from_move k.rest)
+      closed : map inked (k.first ∷ until_move k.rest) ≡ inked k.first ∷ [] → (b : Bor (List ℕ)) → named_from b.now ≡ gives (from_move k.rest) → Tail b.now s
           → LapPut s out₀ out₁ to (record { commands = commands + 1; rest = b })
       unfolding body
-      closed e b g =
+      closed e b g j =
           let m = length-map (until_move k.rest₀) inked in
           let l = ap length e in
           let q = k.count in
@@ -173,6 +209,8 @@ module _ {s out₀ out : List ℕ} {to : ℕ} {t : List ℕ} {commands : ℕ} (k
             count = omega (arith, m, l, q);
             bytes = written ∙ ap (sets out (to + 73 * commands)) (sym (ap body e ∙ append-nil (inked k.first))) ∙ k.work;
             goes = g ∙ ap gives k.goes;
+            front = j.front;
+            tail = j.split;
           }
 
       pub text-ends : length u ≡ 0 → (b : Bor (List ℕ)) → b.now ≡ u → LapPut s out₀ out₁ to (record { commands = commands + 1; rest = b })
@@ -180,7 +218,7 @@ module _ {s out₀ out : List ℕ} {to : ℕ} {t : List ℕ} {commands : ℕ} (k
           let n = nothing-behind u h in
           let none : gives [] ≡ gives k.rest = sym others-none ∙ sym (ap others n) ∙ reads_first.then_names in
           let z : [] ≡ k.rest = cc in
-          closed (rw (sym z) last) b (rw (r, n, sym z) nothing)
+          closed (rw (sym z) last) b (rw (r, n, sym z) nothing) (subst (λ (w : List ℕ). Tail w s) (sym r) tail_read)
         where
           last : map inked (k.first ∷ until_move []) ≡ inked k.first ∷ []
           last = unfold until_move in refl
@@ -192,6 +230,9 @@ module _ {s out₀ out : List ℕ} {to : ℕ} {t : List ℕ} {commands : ℕ} (k
         then_comes : Coming v k.rest
         then_comes = coming v k.rest (due (get_or u 0 0) v k.rest (sym (ap others (behind-byte u more ∙ ap (λ (w : List ℕ). get_or u 0 0 ∷ w) (sym vs))) ∙ reads_first.then_names))
 
+        tail_on : Tail v s
+        tail_on = tail_of v u s tail_read (record { front = get_or u 0 0 ∷ []; split = behind-byte u more ∙ ap (λ (w : List ℕ). get_or u 0 0 ∷ w) (sym vs) })
+
         pub read-on : 0 < length v
         read-on = then_comes.some
 
@@ -200,7 +241,7 @@ module _ {s out₀ out : List ℕ} {to : ℕ} {t : List ℕ} {commands : ℕ} (k
             let d = then_comes in
             let m : is_move d.second ≡ true = sym d.letter ∙ eq-eqb (get_or v 0 0) 77 e in
             let q = lap-ends k.first d.second d.later m in
-            closed (rw d.are q.0) b (rw r d.names ∙ ap gives (sym (ap from_move d.are ∙ q.1)))
+            closed (rw d.are q.0) b (rw r d.names ∙ ap gives (sym (ap from_move d.are ∙ q.1))) (subst (λ (w : List ℕ). Tail w s) (sym r) tail_on)
 
         pub lapping_goes-on : (get_or v 0 0 ≡ 77 → ⊥) → Lapping s out₀ out₁ to v (commands + 1)
         unfolding body
@@ -221,6 +262,7 @@ module _ {s out₀ out : List ℕ} {to : ℕ} {t : List ℕ} {commands : ℕ} (k
               first = d.second;
               rest = d.later;
               names = d.names;
+              tail = tail_on;
               same = ap length written ∙ length-sets out b (inked k.first) ∙ k.same;
               work =
                   ap (λ (o : List ℕ). sets o (to + 73 * (commands + 1)) (body (map inked (d.second ∷ until_move d.later)))) written

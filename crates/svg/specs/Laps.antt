@@ -27,7 +27,7 @@ pub record LapFits (s : List ℕ) (to size : ℕ) : Type 0 where
   pub names : named_from s ≡ gives (first ∷ rest)
   pub room : to + 73 * (1 + length (until_move rest)) ≤ size
 
--- the lap at the front of s is written, and the text behind it starts with the next M, or is empty
+-- the lap at the front of s is written, and the text behind it, a tail of s, starts with the next M, or is empty
 pub record LapPut (s out out' : List ℕ) (to : ℕ) (r : LapRead) : Type 0 where
   pub first : Drawn
   pub rest : List Drawn
@@ -35,6 +35,8 @@ pub record LapPut (s out out' : List ℕ) (to : ℕ) (r : LapRead) : Type 0 wher
   pub count : r.commands ≡ length (first ∷ until_move rest)
   pub bytes : out' ≡ sets out to (body (map inked (first ∷ until_move rest)))
   pub goes : named_from r.rest.now ≡ gives (from_move rest)
+  pub front : List ℕ
+  pub tail : s ≡ front ++ r.rest.now
 
 -- a text of so many laps that passes every row
 pub record CourseFits (s : List ℕ) (laps size : ℕ) : Type 0 where

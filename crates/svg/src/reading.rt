@@ -46,6 +46,7 @@ fn put_lap<'a>(s: &'a [u8], out: &mut [u8], to: usize) -> LapRead<'a>
 {
     let mut rest = s;
     let mut commands = 0;
+    // The text says where it ends and no count does, and what is behind a command decides whether another follows.
     loop {
         // the first walk has read this command
         let Some((c, behind)) = read_stroke(rest) else {
@@ -80,6 +81,7 @@ fn put_laps(s: &[u8], laps: usize, out: &mut [u8]) -> usize
     put_head(out, laps);
     let mut rest = s;
     let mut to = 8 + 8 * laps;
+    // a `fold` would carry the rest, the place and the output
     for j in 0..laps {
         let lap = put_lap(rest, out, to);
         put_entry(out, j, to, lap.commands);

@@ -37,6 +37,7 @@ pub fn walk_text(s: &[u8]) -> Result<Tally, Refusal>
         return Err(Refusal::BadText);
     }
     let mut rest = s;
+    // It ends where the text does, or at the first fault: a `fold` would carry three values and the rest, and leave early all the same.
     loop {
         let Some((c, behind)) = read_stroke(rest) else {
             return Err(Refusal::BadText); // so a trailing space is refused
