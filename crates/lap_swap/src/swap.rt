@@ -87,6 +87,7 @@ pub fn next_of<'a>(file: LapFile<'a>, k: usize) -> Option<Body<'a>>
     ensures lacks { is_some result ≡ next_lacks k (laps_of file.entry.bytes.now) }
     ensures lap { commands_of result ≡ next_lap k (laps_of file.entry.bytes.now) }
     ensures few { IfSome result (λ lap. lap.count ≤ 800) }
+    ensures bytes { IfSome result (λ lap. lap.bytes.now ≡ file.entry.bytes.now) }
 {
     if file.lap_count() <= k {
         return None;

@@ -91,6 +91,7 @@ impl<'a> LapFile<'a> {
     // The lap at an index, as its entry of the table tells it.
     pub fn lap(self, j: usize) -> Body<'a>
         requires { j < lap_count self.bytes.now }
+        ensures bytes { result.bytes.now ≡ self.entry.bytes.now }
         ensures lap { commands_at result.bytes.now result.at result.count ≡ get_or (laps_of self.entry.bytes.now) j [] }
         ensures some { (1 ≤ result.count) × (result.count ≤ 800) }
     {
