@@ -52,8 +52,7 @@ impl<'a> Headed<'a> {
     fn has_mark(self) -> bool
         ensures { result ≡ has_mark self.entry.bytes.now }
     {
-        let s = self.bytes;
-        s[0] == 0x4c && s[1] == 0x41 && s[2] == 0x50 && s[3] == 0x53
+        self.bytes.starts_with(b"LAPS")
     }
 
     // Whether the mark and the table are right. The mark is compared first.
@@ -267,13 +266,7 @@ pub fn lap_passes<T: Test>(must: bool, lap: Body) -> bool
 fn all_pass<T: Test>(file: LapFile) -> bool
     ensures { result ≡ laps_ok T.asks true (laps_of file.entry.bytes.now) }
 {
-    let l = file.lap_count();
-    for j in 0..l {
-        if !lap_passes::<T>(j == 0, file.lap(j)) {
-            return false;
-        }
-    }
-    true
+    (0..file.lap_count()).all(|j| lap_passes::<T>(j == 0, file.lap(j)))
 }
 
 // The first of the rows 4 and 5 that a file falls under. A file that passes both, as nearly every one does, is read once.
@@ -328,10 +321,7 @@ pub fn put_head(out: &mut [u8], l: usize)
     requires { 8 ≤ length out.old }
     ensures { out.new ≡ sets out.old 0 (mark ++ u32_bytes l) }
 {
-    out[0] = 0x4c;
-    out[1] = 0x41;
-    out[2] = 0x50;
-    out[3] = 0x53;
+    out[..4].copy_from_slice(b"LAPS");
     put_u32(out, 4, l as u64);
 }
 
