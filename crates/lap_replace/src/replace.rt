@@ -21,6 +21,7 @@ use ranges::ranges::FitRule;
 const BODY_BYTES: usize = 58400;
 
 // Fits the laps that are fitted again into a buffer of its own; then writes the fitted file with them.
+// Number and commands are no pair, nor are rule and output: `put_part` takes one of each alone.
 fn replace_laps(files: Files, k: usize, commands: Commands, rule: FitRule, out: &mut [u8]) -> usize
     requires { (1 ≤ k) × (k ≤ lap_count files.recorded.bytes.now) × (most_with (lent_new rule.rule.tolerance (laps_of files.recorded.bytes.now) k commands.kinds.now commands.nums.now) k files.recorded.bytes.now files.fitted.bytes.now ≤ 800) × (file_size (lap_count files.fitted.bytes.now) (most_with (lent_new rule.rule.tolerance (laps_of files.recorded.bytes.now) k commands.kinds.now commands.nums.now) k files.recorded.bytes.now files.fitted.bytes.now) ≤ length out.old) }
     ensures { (result ≡ length (encode (replaced_laps rule.rule k commands.entry.kinds.now commands.entry.nums.now (laps_of files.entry.recorded.bytes.now) (laps_of files.entry.fitted.bytes.now)))) × (out.new ≡ encode (replaced_laps rule.rule k commands.entry.kinds.now commands.entry.nums.now (laps_of files.entry.recorded.bytes.now) (laps_of files.entry.fitted.bytes.now)) ++ drop (length (encode (replaced_laps rule.rule k commands.entry.kinds.now commands.entry.nums.now (laps_of files.entry.recorded.bytes.now) (laps_of files.entry.fitted.bytes.now)))) out.old) }
