@@ -30,7 +30,7 @@ pub struct Session {
 }
 
 // What an asking gives: the lap, the tolerance and the session's edit number, and how many commands the fit of the lap has, and that of
-// the next lap, 0 where that is not fitted again.
+// the next lap, 0 where that is not fitted again, as C's ticket has it.
 #[derive(Clone, Copy)]
 pub struct Ticket {
     pub lap: usize,
@@ -52,7 +52,8 @@ impl Session {
     }
 }
 
-// The first row that an asking falls under, or what is found of it.
+// The first row that an asking falls under, or what is found of it. Its last row asks for room for the fits alone, and that of
+// `check_replacement` for the whole file.
 fn check_asking<'a>(given: Replacement<'a>, room: usize) -> Result<Found<'a>, Refusal>
     ensures row { refused_by result ≡ refusal (ask_rows given.entry.files.recorded.now given.entry.files.fitted.now given.entry.lap (lent_new given.entry.tolerance (laps_of given.entry.files.recorded.now) given.entry.lap given.entry.kinds.now given.entry.nums.now) given.entry.tolerance room) }
     ensures same { IfOk result (λ found. (found.files.recorded.bytes.now ≡ given.entry.files.recorded.now) × (found.files.fitted.bytes.now ≡ given.entry.files.fitted.now) × (found.commands.kinds.now ≡ given.entry.kinds.now) × (found.commands.nums.now ≡ given.entry.nums.now)) }
@@ -112,6 +113,7 @@ pub fn ask_lap(
 }
 
 // Whether the lap behind lap k is fitted again; a lap number outside the file has none behind it.
+// The number stays beside the file, here and below, since a ticket may have any.
 #[tactic(auto, unfolding(crate::specs::Session::refits_next))]
 fn refits_next(file: LapFile, k: usize) -> bool
     ensures { result ≡ refits_next k (laps_of file.entry.bytes.now) }
@@ -119,7 +121,7 @@ fn refits_next(file: LapFile, k: usize) -> bool
     k != 0 && next_of(file, k).is_some()
 }
 
-// Whether n and m add up to `all`. They may be any numbers, so they are not added.
+// Whether n and m add up to `all`. They may be any numbers, so they are not added, here and below, and are no `Part` yet.
 fn add_up(all: usize, n: usize, m: usize) -> bool
     ensures { result ≡ eqb (n + m) all }
 {

@@ -54,7 +54,8 @@ fn choose<'a>(k: usize, new: Body<'a>, next: Option<Body<'a>>, j: usize, lap: Bo
 
 // Writes the fitted file, the mark first, with a new lap k and, where there is one, a new lap behind it. Returns how many bytes it has.
 // A lap's number stays beside its file, here and below: `next_of`, `put_part` and `with_others` take numbers that a file does not have, so a type
-// of those that it has would ask more of their callers.
+// of those that it has would ask more of their callers. Nor has `1 ≤ k` a type: each public function that asks for it hands the number to `next_of`
+// as well, which takes 0 too. The loop is a `for`, since it writes: a `fold` would carry the output and the place.
 fn put_file(fitted: LapFile, k: usize, new: Body, next: Option<Body>, out: &mut [u8]) -> usize
     requires { (1 ≤ k) × (command_count (swap_both (is_some next) k (commands_at new.bytes.now new.at new.count) (commands_of next) (laps_of fitted.bytes.now)) ≤ 800) × (file_size (lap_count fitted.bytes.now) (command_count (swap_both (is_some next) k (commands_at new.bytes.now new.at new.count) (commands_of next) (laps_of fitted.bytes.now))) ≤ length out.old) }
     ensures { (result ≡ length (encode (swap_both (is_some next.entry) k (commands_at new.entry.bytes.now new.entry.at new.entry.count) (commands_of next.entry) (laps_of fitted.entry.bytes.now)))) × (out.new ≡ encode (swap_both (is_some next.entry) k (commands_at new.entry.bytes.now new.entry.at new.entry.count) (commands_of next.entry) (laps_of fitted.entry.bytes.now)) ++ drop (length (encode (swap_both (is_some next.entry) k (commands_at new.entry.bytes.now new.entry.at new.entry.count) (commands_of next.entry) (laps_of fitted.entry.bytes.now)))) out.old) }
@@ -83,10 +84,12 @@ fn start_of(file: LapFile, k: usize) -> Point3D
 }
 
 // The lap behind lap k of a recorded file, where it is fitted again.
+// By `if`, as a `then_some` would hide the two cases that its contract tells apart.
 pub fn next_of<'a>(file: LapFile<'a>, k: usize) -> Option<Body<'a>>
     ensures lacks { is_some result ≡ next_lacks k (laps_of file.entry.bytes.now) }
     ensures lap { commands_of result ≡ next_lap k (laps_of file.entry.bytes.now) }
     ensures few { IfSome result (λ lap. lap.count ≤ 800) }
+    ensures bytes { IfSome result (λ lap. lap.bytes.now ≡ file.entry.bytes.now) }
 {
     if file.lap_count() <= k {
         return None;
@@ -98,7 +101,7 @@ pub fn next_of<'a>(file: LapFile<'a>, k: usize) -> Option<Body<'a>>
 // Writes the fit of a recorded lap with its start, if there is one, from `to` on, by way of arrays of its own, and returns how many commands
 // it has. Where there is none, no array is filled.
 // The next lap comes without its start, and that it has few commands is a clause, here and below: whether there is one is asked where no start is
-// known.
+// known. Rule and output are no pair: one rule is for both fits, and each goes to a place of its own.
 fn fit_next(next: Option<Body>, start: Point3D, rule: FitRule, out: &mut [u8], to: usize) -> usize
     requires { IfSome next (λ lap. lap.count ≤ 800) × (most_lap rule.rule.tolerance start (commands_of next) ≤ 800) × (to + 73 * length (fit_lap rule.rule start (commands_of next)) ≤ length out.old) }
     ensures { PutLap (fit_lap rule.rule start (commands_of next.entry)) out.old out.new to result }
@@ -144,7 +147,8 @@ impl<'a> Part<'a> {
     }
 }
 
-// How many commands the fit of the new commands has, and that of the next lap, 0 where it is not fitted again.
+// How many commands the fit of the new commands has, and that of the next lap, 0 where it is not fitted again: as in `Part`, and in C's ticket,
+// the two are added as they stand.
 #[derive(Clone, Copy)]
 pub struct Refit {
     pub count: usize,
@@ -173,6 +177,8 @@ pub fn fit_both(
 }
 
 // Writes the fitted file with a part's first lap as lap k and, where the next lap is fitted again, its second as that one.
+// Both files are parameters, here and in `with_others`: one is read only for whether the next lap is fitted again, and the functions below take
+// the other alone, so a type of both would be taken apart at once.
 pub fn put_part(recorded: LapFile, fitted: LapFile, k: usize, part: Part, out: &mut [u8]) -> usize
     requires { (1 ≤ k) × (command_count (stored_laps k (laps_of recorded.bytes.now) part.bytes.now part.count part.next (laps_of fitted.bytes.now)) ≤ 800) × (file_size (lap_count fitted.bytes.now) (command_count (stored_laps k (laps_of recorded.bytes.now) part.bytes.now part.count part.next (laps_of fitted.bytes.now))) ≤ length out.old) }
     ensures { (result ≡ length (encode (stored_laps k (laps_of recorded.entry.bytes.now) part.entry.bytes.now part.entry.count part.entry.next (laps_of fitted.entry.bytes.now)))) × (out.new ≡ encode (stored_laps k (laps_of recorded.entry.bytes.now) part.entry.bytes.now part.entry.count part.entry.next (laps_of fitted.entry.bytes.now)) ++ drop (length (encode (stored_laps k (laps_of recorded.entry.bytes.now) part.entry.bytes.now part.entry.count part.entry.next (laps_of fitted.entry.bytes.now)))) out.old) }
@@ -196,6 +202,7 @@ fn other(k: usize, both: bool, j: usize, n: usize) -> usize
 }
 
 // The commands in all laps but lap k and, where both are fitted again, lap k + 1.
+// A `for`, as a `sum` would ask at each of its steps that the laps so far have few commands, which is known of all laps.
 fn others_of(fitted: LapFile, k: usize, both: bool) -> usize
     requires { 1 ≤ k }
     ensures { (result ≡ command_count (swap_both both k [] [] (laps_of fitted.entry.bytes.now))) × (result ≤ 800) }
@@ -217,6 +224,7 @@ pub fn with_others(s: LapFile, f: LapFile, k: usize, own: usize) -> usize
 }
 
 // What a lap, if there is one, could become at most.
+// A `match`, as in `fit_next`: the closure of a `map_or` would take start and tolerance along.
 fn most_next(next: Option<Body>, start: Point3D, tolerance: f64) -> usize
     requires { IfSome next (λ lap. lap.count ≤ 800) }
     ensures { result ≡ cap (most_lap tolerance start (commands_of next.entry)) }
@@ -227,7 +235,7 @@ fn most_next(next: Option<Body>, start: Point3D, tolerance: f64) -> usize
     }
 }
 
-// What the new commands, and the next lap where that is fitted again, could become at most, 801 for all above 800.
+// What the new commands, and the next lap where that is fitted again, could become at most, 801 for all above 800: it is added and compared.
 pub fn most_new(s: LapFile, k: usize, commands: Commands, tolerance: f64) -> usize
     requires { (1 ≤ k) × (k ≤ lap_count s.bytes.now) }
     ensures { result ≡ cap (most_both tolerance (laps_of s.entry.bytes.now) k (lent_course commands.entry.kinds.now commands.entry.nums.now)) }

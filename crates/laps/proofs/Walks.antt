@@ -3,13 +3,15 @@ use Prim.Native.Nat.{ℕ, zero, suc, ◌+◌, ◌-◌, ◌*◌, ◌≤◌, ◌<�
 use mathlib.Core.Path.{◌≡◌, refl, sym, ap, ◌∙◌}
 use mathlib.Core.Bool.{Bool, true, false, cond, not}
 use mathlib.Core.List.{List, [], ◌∷◌}
+use mathlib.Core.Logic.{⊎_elim}
 use native.Mathlib.Omega.{arith}
 use borrow.Author.Tests.{eq-eqb, ne_eqb, lt-ltb, le-ltb, ltb-false}
 use lib.ListN.{length, get_or, take, drop}
 use lib.Seq.{drop-cons}
 use lib.Dec.{eqb, ltb}
 use Rattle.std.proofs.lemmas.List.{drop_all}
-use Rattle.floats.proofs.Order.{or_false}
+use Rattle.std.specs.List.{list_all, range_with_len}
+use Rattle.floats.proofs.Order.{either, or_false}
 use Rattle.file.specs.Command.{commands_at}
 use Rattle.laps.specs.File.{Lap, lap_count, offset_at, count_at, has_mark, walk, table_ok, lacks, lap_ok, lap_tested, laps_ok, short, big}
 
@@ -65,6 +67,13 @@ module _ (test : Bool → List ℕ → Bool) (ls : List Lap) (j : ℕ) (t : Bool
 pub laps-end : (test : Bool → List ℕ → Bool) (must : Bool) (ls : List Lap) (j : ℕ) (t : Bool) → length ls ≤ j → laps_ok test must (drop j ls) ≡ t → true ≡ t
 unfolding laps_ok
 laps-end test must ls j t h v = (let e : drop j ls ≡ [] = drop_all j ls h in sym (rw e)) ∙ v
+
+-- each lap's test by its index
+pub all_laps : (test : Bool → List ℕ → Bool) (ls : List Lap) (n j : ℕ) → n ≡ length ls - j → list_all (λ i. lap_tested test (eqb i 0) (get_or ls i [])) (range_with_len j n) ≡ laps_ok test (eqb j 0) (drop j ls)
+all_laps test ls zero j e = laps-end test (eqb j 0) ls j _ (omega arith) refl
+all_laps test ls (suc n) j e =
+    ⊎_elim (λ h. rw h (all_laps test ls n (j + 1) (omega arith) ∙ laps_go test ls j _ (omega arith) _ refl refl h)) (λ h. rw h (laps_stop test ls j _ (omega arith) _ refl refl h))
+    (either (lap_tested test (eqb j 0) (get_or ls j [])))
 
 -- ---- the table
 pub walk_step : (s : List ℕ) (j at total l : ℕ) → j < l

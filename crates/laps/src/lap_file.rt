@@ -20,7 +20,7 @@ pub const MOST_COMMANDS: usize = geo::domain::MOST_COMMANDS;
 
 pub const MOST_BYTES: usize = 65536;
 
-// The kind of a Bezier: a number, since it is compared with the byte that a file has, of whatever kind.
+// The kind of a Bezier. The kinds are numbers, here and below, since they are compared with the byte that a file has, of whatever kind.
 pub const BEZIER: u8 = 3;
 
 // Bytes that are long enough for a mark and a lap count.
@@ -52,11 +52,11 @@ impl<'a> Headed<'a> {
     fn has_mark(self) -> bool
         ensures { result ≡ has_mark self.entry.bytes.now }
     {
-        let s = self.bytes;
-        s[0] == 0x4c && s[1] == 0x41 && s[2] == 0x50 && s[3] == 0x53
+        self.bytes.starts_with(b"LAPS")
     }
 
     // Whether the mark and the table are right. The mark is compared first.
+    // At most 64 laps is a clause, here and in the crates above, and no fact of `LapFile`: what takes a right table has asked for no limit.
     pub fn has_table(self) -> bool
         requires { lap_count self.bytes.now ≤ 64 }
         ensures { result ≡ table_ok self.entry.bytes.now }
@@ -91,6 +91,7 @@ impl<'a> LapFile<'a> {
     // The lap at an index, as its entry of the table tells it.
     pub fn lap(self, j: usize) -> Body<'a>
         requires { j < lap_count self.bytes.now }
+        ensures bytes { result.bytes.now ≡ self.entry.bytes.now }
         ensures lap { commands_at result.bytes.now result.at result.count ≡ get_or (laps_of self.entry.bytes.now) j [] }
         ensures some { (1 ≤ result.count) × (result.count ≤ 800) }
     {
@@ -103,6 +104,7 @@ impl<'a> LapFile<'a> {
 }
 
 // The offset in entry j of the table.
+// An entry is bytes and an index, here and below: of a type for it, each entry would be made for its two numbers alone.
 #[tactic(auto, unfolding(crate::specs::File::offset_at))]
 pub fn offset_at(s: &[u8], j: usize) -> usize
     requires { 16 + 8 * j ≤ length s.now }
@@ -129,6 +131,7 @@ pub fn too_short(s: &[u8]) -> bool
 }
 
 // Whether the l entries of the table lead from body to body to the file's end.
+// A `for`: a `try_fold` would carry a place and a count as one value.
 fn walks(s: &[u8], l: usize) -> bool
     requires { (8 + 8 * l ≤ length s.now) × (l ≤ 64) }
     ensures { result ≡ walk s.now 0 (8 + 8 * l) 0 l }
@@ -241,6 +244,7 @@ pub fn lacks_move(lap: Body) -> bool
 }
 
 // What is asked of each command of a body, of which the first is to be a Move or none is.
+// A `for` that carries which is the first: in an `all`, each command would compare its index.
 pub fn commands_pass<T: Test>(opening: bool, body: Body) -> bool
     ensures { result ≡ lap_ok T.asks opening (commands_at body.entry.bytes.now body.entry.at body.entry.count) }
 {
@@ -266,13 +270,7 @@ pub fn lap_passes<T: Test>(must: bool, lap: Body) -> bool
 fn all_pass<T: Test>(file: LapFile) -> bool
     ensures { result ≡ laps_ok T.asks true (laps_of file.entry.bytes.now) }
 {
-    let l = file.lap_count();
-    for j in 0..l {
-        if !lap_passes::<T>(j == 0, file.lap(j)) {
-            return false;
-        }
-    }
-    true
+    (0..file.lap_count()).all(|j| lap_passes::<T>(j == 0, file.lap(j)))
 }
 
 // The first of the rows 4 and 5 that a file falls under. A file that passes both, as nearly every one does, is read once.
@@ -327,10 +325,7 @@ pub fn put_head(out: &mut [u8], l: usize)
     requires { 8 ≤ length out.old }
     ensures { out.new ≡ sets out.old 0 (mark ++ u32_bytes l) }
 {
-    out[0] = 0x4c;
-    out[1] = 0x41;
-    out[2] = 0x50;
-    out[3] = 0x53;
+    out[..4].copy_from_slice(b"LAPS");
     put_u32(out, 4, l as u64);
 }
 

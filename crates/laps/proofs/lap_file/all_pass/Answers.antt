@@ -1,21 +1,18 @@
--- `laps::lap_file::all_pass` meets its contract: the laps that are left decide the whole answer. Assumes nothing.
-use Rattle.std.proofs.Common.{not}
-use mathlib.Core.Path.{ap, ◌∙◌}
+-- `laps::lap_file::all_pass` meets its contract: each lap is tested by its index. Assumes nothing.
+use Rattle.std.proofs.Common.{rules, refl, ◌∙◌, ◌-◌}
+use mathlib.Core.List.{[]}
 use lib.Dec.{eqb}
-use borrow.Author.Tests.{not-true, not-false}
+use lib.ListN.{get_or}
 use native.Mathlib.Omega.{arith}
+use borrow.Author.Tests.{tests}
+use Rattle.std.proofs.lemmas.Iterator.{YieldsList-from_range}
+use Rattle.std.proofs.lemmas.Iterator.Search.{all_from_yields_List}
 use Rattle.laps.specs.File.{laps_of, lap_tested}
 use Rattle.laps.proofs.Turns.{length_laps_of}
-use Rattle.laps.proofs.Walks.{laps_go, laps_stop, laps-end}
+use Rattle.laps.proofs.Walks.{all_laps}
 use Rattle.laps.proofs.lap_file.all_pass.Goals as goal
 
-pub returns-then-not-lap_passes : goal.returns-then-not-lap_passes
-returns-then-not-lap_passes g c = let s = c.args.file.bytes.now in let n = length_laps_of s in
-    laps_stop g.T.Test.asks (laps_of s) c.loop-j.j _ (omega arith) _ (c.lap_passes.ensures ∙ ap (lap_tested g.T.Test.asks (eqb c.loop-j.j 0)) c.lap.ensures.lap) c.loop-j.invariant (not-true _ (ap not c.if-not-lap_passes.true))
-
-pub loop-j-preserved : goal.loop-j-preserved
-loop-j-preserved g c = let s = c.args.file.bytes.now in let n = length_laps_of s in
-    laps_go g.T.Test.asks (laps_of s) c.loop-j.j _ (omega arith) _ (c.lap_passes.ensures ∙ ap (lap_tested g.T.Test.asks (eqb c.loop-j.j 0)) c.lap.ensures.lap) c.loop-j.invariant (not-false _ (ap not c.if-not-lap_passes.false))
-
 pub returns : goal.returns
-returns g c = let s = c.args.file.bytes.now in let n = length_laps_of s in laps-end g.T.Test.asks (eqb c.loop-j.j 0) (laps_of s) c.loop-j.j _ (omega arith) c.loop-j.invariant
+returns g c = let s = c.args.file.bytes.now in let n = length_laps_of s in let l = c.lap_count.result in
+    all_from_yields_List (λ j. lap_tested g.T.Test.asks (eqb j 0) (get_or (laps_of s) j [])) _ _ _ c.all.ensures.ran (YieldsList-from_range 0 l (l - 0) refl refl) (λ x b q k. search (rules, tests))
+    ∙ all_laps g.T.Test.asks (laps_of s) _ 0 (omega arith)
