@@ -15,7 +15,7 @@ use file::words::{float_of, is_nan, word_at};
 pub fn has_pattern(x: f64, p: u64) -> bool
     ensures { result ≡ has_pattern x p }
 {
-    if x != x {
+    if x.is_nan() {
         return is_nan(p);
     }
     f64::to_bits(x) == p
