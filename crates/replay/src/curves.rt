@@ -6,7 +6,7 @@ use crate::calls::Answer;
 use geo::lent::{pair_at, point_at, put_pair, put_point};
 use geo::types::{CubicBezier, Point};
 
-// A truth as a count.
+// A truth as a count. Where no output is borrowed a `match` hands the refusal on too, as in the calls beside it.
 pub fn truth(b: bool) -> Answer {
     Some(Ok(usize::from(b)))
 }
