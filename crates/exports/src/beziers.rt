@@ -41,7 +41,7 @@ pub extern "C" fn pz_get_bezier_point_at(
     }
 }
 
-// Writes the eight numbers of a curve from `at` on.
+// Writes the eight numbers of a curve from `at` on. `replay` has the same without a contract: a crate for both would be longer.
 fn put_curve(out: &mut [f64], at: usize, q: CubicBezier<Point>)
     requires { at + 7 < length out.old }
     ensures { out.new ≡ sets out.old at (eight q) }
@@ -241,7 +241,7 @@ pub extern "C" fn pz_linearize_bezier_adaptive(
     )
 }
 
-// The given tolerance, or the source's own.
+// The given tolerance, or the source's own. `replay` has the same of a record's number.
 #[tactic(auto, unfolding(crate::specs::Plain::tolerance_by))]
 fn tolerance_by(given: bool, t: f64) -> Option<f64>
     ensures { result ≡ tolerance_by given t }

@@ -6,7 +6,7 @@ ghost use Rattle.exports.specs.Plain.{point3, ListedCommands};
 use crate::counts::hand_on;
 use geo::types::Point3D;
 
-// Draws the Arc command of this kind and these nine numbers, from its start (x, y, z) on, by Lines.
+// Draws the Arc command of this kind and these nine numbers, from its start (x, y, z) on, by Lines. The kind is a byte, as C gives it.
 #[unsafe(no_mangle)]
 pub extern "C" fn pz_flatten_arc(
     kind: u8,

@@ -1,11 +1,14 @@
 -- Bytes stored one behind the other: numbers, points, commands. Assumes nothing.
-use Prim.Native.Nat.{ℕ, suc, ◌+◌, ◌/◌, ◌%◌}
+use Prim.Native.Nat.{ℕ, suc, ◌+◌, ◌-◌, ◌/◌, ◌%◌, ◌≤◌}
 use mathlib.Core.Path.{◌≡◌, refl, sym, ap, ◌∙◌}
-use mathlib.Core.List.{List, ◌++◌}
+use mathlib.Core.List.{List, ◌++◌, append_assoc}
 use native.Mathlib.Omega.{arith}
-use lib.ListN.{length, set}
-use lib.Seq.{sets}
+use borrow.Rule.Slice.PartMut.{put_mid}
+use lib.ListN.{length, set, take}
+use lib.Seq.{sets, drop-drop}
 use lib.Ieee.{Float, binary64, to_bits}
+use Rattle.std.proofs.lemmas.List.Edits.{sets-eq}
+use Rattle.std.specs.Int.{w64, to_le_bytes}
 use Rattle.geo.specs.declared.types.Point3D.{Point3D}
 use Rattle.geo.specs.declared.types.Command.{Command}
 use Rattle.geo.specs.declared.types.Command.TheVariants.{Move, Line, Arc, Bezier}
@@ -43,7 +46,13 @@ length_enc (Bezier p q r) = refl
 pub behind : {A : Type 0} (xs ys l l₁ l₂ : List A) (b n : ℕ) → length xs ≡ n → l₁ ≡ sets l b xs → l₂ ≡ sets l₁ (b + n) ys → l₂ ≡ sets l b (xs ++ ys)
 behind xs ys l l₁ l₂ b n h e₁ e₂ = e₂ ∙ rw (e₁, ← h) (sym (sets_append xs ys l b))
 
--- the digits of the four low bytes of n
+-- bytes copied to a part of a list
+pub put_bytes : (l ys : List ℕ) (b n : ℕ) → length ys ≡ n → b + n ≤ length l → put_mid b (b + n - b) l ys ≡ sets l b ys
+put_bytes l ys b n m h =
+    let v : b + n - b ≡ n = omega arith in
+    rw v (sym (sets-eq ys l b (omega (arith, h, m)) ∙ ap (λ r. take b l ++ ys ++ r) (rw m (sym (drop-drop n b l))) ∙ append_assoc (take b l) _ _))
+
+-- the digits of the four low bytes of n, and of the four above them
 pub digit-0 : (n : ℕ) → n % 4294967296 % 256 ≡ n % 256
 digit-0 n = omega arith
 
@@ -56,6 +65,15 @@ digit-2 n = omega arith
 pub digit-3 : (n : ℕ) → n % 4294967296 / 16777216 % 256 ≡ n / 16777216 % 256
 digit-3 n = omega arith
 
+digit-5 : (n : ℕ) → n / 1099511627776 % 256 ≡ n / 4294967296 / 256 % 256
+digit-5 n = omega arith
+
+digit-6 : (n : ℕ) → n / 281474976710656 % 256 ≡ n / 4294967296 / 65536 % 256
+digit-6 n = omega arith
+
+digit-7 : (n : ℕ) → n / 72057594037927936 % 256 ≡ n / 4294967296 / 16777216 % 256
+digit-7 n = omega arith
+
 pub four : (l : List ℕ) (b n w x y z : ℕ) → w ≡ n % 256 → x ≡ n / 256 % 256 → y ≡ n / 65536 % 256 → z ≡ n / 16777216 % 256
     → set (set (set (set l b w) (b + 1) x) (b + 2) y) (b + 3) z ≡ sets l b (u32_bytes n)
 unfolding u32_bytes
@@ -64,11 +82,13 @@ four l b n w x y z p q r s =
     let f : b + 2 ≡ suc (suc b) = omega arith in
     let g : b + 3 ≡ suc (suc (suc b)) = omega arith in rw (p, q, r, s, e, f, g)
 
-pub eight : (l l₁ l₂ : List ℕ) (b n : ℕ) (x : Float) → n ≡ to_bits binary64 x → l₁ ≡ sets l b (u32_bytes n) → l₂ ≡ sets l₁ (b + 4) (u32_bytes (n / 4294967296))
-    → l₂ ≡ sets l b (f64_bytes x)
+pub word_bytes : (n : ℕ) → to_le_bytes w64 n ≡ u32_bytes n ++ u32_bytes (n / 4294967296)
+unfolding u32_bytes
+word_bytes n = rw (digit-5 n, digit-6 n, digit-7 n)
+
+pub float_bytes : (x : Float) (n : ℕ) → n ≡ to_bits binary64 x → to_le_bytes w64 n ≡ f64_bytes x
 unfolding f64_bytes
-eight l l₁ l₂ b n x e e₁ e₂ =
-    behind (u32_bytes (to_bits binary64 x)) (u32_bytes (to_bits binary64 x / 4294967296)) l l₁ l₂ b 4 (length_u32 _) (e₁ ∙ rw e) (e₂ ∙ rw e)
+float_bytes x n e = word_bytes n ∙ rw e
 
 pub three : (l l₁ l₂ l₃ : List ℕ) (b : ℕ) (p : Point3D) → l₁ ≡ sets l b (f64_bytes p.x) → l₂ ≡ sets l₁ (b + 8) (f64_bytes p.y)
     → l₃ ≡ sets l₂ (b + 16) (f64_bytes p.z) → l₃ ≡ sets l b (flat f64_bytes (triple p))

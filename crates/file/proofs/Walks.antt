@@ -65,31 +65,34 @@ module _ (s : List ℕ) (at n : ℕ) (ks₀ : List ℕ) (ns₀ : List Float) whe
   )
 
 -- ---- writing
--- where writing stands before command i, which goes to t
-pub record Putting (ks : List ℕ) (ns : List Float) (n : ℕ) (out₀ out : List ℕ) (to t i : ℕ) : Type 0 where
-  pub place : t ≡ to + 73 * i
+-- where writing stands before command i
+pub record Putting (ks : List ℕ) (ns : List Float) (n : ℕ) (out₀ out : List ℕ) (to i : ℕ) : Type 0 where
   pub inside : i ≤ n
   pub long : length out ≡ length out₀
-  pub bytes : sets out t (flat enc (commands_from ks ns (n - i) i)) ≡ sets out₀ to (flat enc (commands_from ks ns n 0))
+  pub bytes : sets out (to + 73 * i) (flat enc (commands_from ks ns (n - i) i)) ≡ sets out₀ to (flat enc (commands_from ks ns n 0))
 
 module _ (ks : List ℕ) (ns : List Float) (n : ℕ) (out₀ : List ℕ) (to : ℕ) where
-  pub putting_start : Putting ks ns n out₀ out₀ to to 0
-  putting_start = let e : n - 0 ≡ n = omega arith in record { place = omega arith; inside = omega arith; long = refl; bytes = rw e }
+  pub putting_start : Putting ks ns n out₀ out₀ to 0
+  putting_start =
+      let e : n - 0 ≡ n = omega arith in
+      let f : to + 73 * 0 ≡ to = omega arith in
+      record { inside = omega arith; long = refl; bytes = rw (e, f) }
 
-  pub putting_step : (out out' : List ℕ) (t i : ℕ) (c : Command) → Putting ks ns n out₀ out to t i → i < n → c ≡ command_at ks ns i → out' ≡ sets out t (enc c)
-      → Putting ks ns n out₀ out' to (t + 73) (i + 1)
-  putting_step out out' t i c p h e o =
-      let q = p.place in
+  pub putting_step : (out out' : List ℕ) (i : ℕ) (c : Command) → Putting ks ns n out₀ out to i → i < n → c ≡ command_at ks ns i → out' ≡ sets out (to + 73 * i) (enc c)
+      → Putting ks ns n out₀ out' to (i + 1)
+  putting_step out out' i c p h e o =
+      let t = to + 73 * i in
+      let next : to + 73 * (i + 1) ≡ t + 73 = omega arith in
       let z : flat enc (commands_from ks ns (n - i) i) ≡ enc c ++ flat enc (commands_from ks ns (n - (i + 1)) (i + 1)) =
       unfold flat in unfold commands_from in let w : n - i ≡ suc (n - (i + 1)) = omega arith in rw (w, e) in
+      let left = flat enc (commands_from ks ns (n - (i + 1)) (i + 1)) in
       record {
-        place = omega arith;
         inside = omega arith;
         long = ap length o ∙ length-sets out t (enc c) ∙ p.long;
-        bytes = behind (enc c) (flat enc (commands_from ks ns (n - (i + 1)) (i + 1))) out out' _ t 73 (length_enc c) o refl ∙ sym (ap (sets out t) z) ∙ p.bytes;
+        bytes = behind (enc c) left out out' _ t 73 (length_enc c) o (ap (λ (k : ℕ). sets out' k left) next) ∙ sym (ap (sets out t) z) ∙ p.bytes;
       }
 
-  pub putting_done : (out : List ℕ) (t i : ℕ) → Putting ks ns n out₀ out to t i → n ≤ i → out ≡ sets out₀ to (flat enc (commands_from ks ns n 0))
-  putting_done out t i p h =
+  pub putting_done : (out : List ℕ) (i : ℕ) → Putting ks ns n out₀ out to i → n ≤ i → out ≡ sets out₀ to (flat enc (commands_from ks ns n 0))
+  putting_done out i p h =
       let z : flat enc (commands_from ks ns (n - i) i) ≡ [] = unfold flat in unfold commands_from in let w : n - i ≡ 0 = omega arith in rw w in
-      sym (ap (sets out t) z) ∙ p.bytes
+      sym (ap (sets out (to + 73 * i)) z) ∙ p.bytes

@@ -60,6 +60,7 @@ impl<'a> Encoded<'a> {
     // Reads the command to index i of kinds and numbers. A Move and a Line, which most are, go there straight, and not by way of
     // a command in memory.
     // The kind is matched as the byte that it is, since a file's kind may be any until it is checked.
+    // Kinds and numbers are two outputs, here and below: two exclusive borrows would be taken apart and put together at each command.
     fn read_to(self, kinds: &mut [u8], nums: &mut [f64], i: usize)
         requires { (i < length kinds.old) × (9 * i + 8 < length nums.old) }
         ensures kinds { kinds.new ≡ set kinds.old i (kind_of (decoded self.entry.bytes.now)) }
@@ -157,6 +158,7 @@ fn put_point(out: &mut [u8], at: usize, p: Point3D)
 }
 
 // Writes a kind, a byte in the file too, and three points from `at` on.
+// The points are no command: of a Move and a Line two are made up, and no struct of three points has a use elsewhere.
 fn put_points(out: &mut [u8], at: usize, kind: u8, p: Point3D, q: Point3D, r: Point3D)
     requires { at + 73 ≤ length out.old }
     ensures { out.new ≡ sets out.old at (laid kind p q r) }
@@ -205,9 +207,7 @@ pub fn write_commands(commands: Commands, out: &mut [u8], to: usize)
     requires { to + 73 * length commands.kinds.now ≤ length out.old }
     ensures { out.new ≡ sets out.old to (flat enc (commands_from commands.entry.kinds.now commands.entry.nums.now (length commands.entry.kinds.now) 0)) }
 {
-    let mut t = to;
     for i in 0..commands.kinds.len() {
-        write_command(out, t, commands.at(i));
-        t += COMMAND_BYTES;
+        write_command(out, to + COMMAND_BYTES * i, commands.at(i));
     }
 }

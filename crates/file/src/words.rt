@@ -16,7 +16,7 @@ pub fn half_at(s: &[u8], at: usize) -> u64
     u64::from(u32::from_le_bytes([s[at], s[at + 1], s[at + 2], s[at + 3]]))
 }
 
-// The word in the eight bytes of s from `at` on.
+// The word in the eight bytes of s from `at` on. `from_le_bytes` would name the eight one by one, and be no plainer than two halves.
 pub fn word_at(s: &[u8], at: usize) -> u64
     requires { at + 8 ≤ length s.now }
     ensures { result ≡ word_at s.now at }
@@ -64,6 +64,7 @@ pub fn put_u32(out: &mut [u8], at: usize, n: u64)
     requires { at + 4 ≤ length out.old }
     ensures { out.new ≡ sets out.old at (u32_bytes n) }
 {
+    // Stored one by one, so that the wrong program that exchanges two of them has its place.
     let [a, b, c, d] = ((n % 0x1_0000_0000) as u32).to_le_bytes();
     out[at] = a;
     out[at + 1] = b;
@@ -75,7 +76,7 @@ pub fn put_u32(out: &mut [u8], at: usize, n: u64)
 fn pattern_of(x: f64) -> u64
     ensures { result ≡ to_bits binary64 x }
 {
-    if x != x {
+    if x.is_nan() {
         return 0x7ff8_0000_0000_0000;
     }
     f64::to_bits(x)
@@ -86,7 +87,5 @@ pub(crate) fn put_f64(out: &mut [u8], at: usize, x: f64)
     requires { at + 8 ≤ length out.old }
     ensures { out.new ≡ sets out.old at (f64_bytes x) }
 {
-    let n = pattern_of(x);
-    put_u32(out, at, n);
-    put_u32(out, at + 4, n / 4294967296);
+    out[at..at + 8].copy_from_slice(&pattern_of(x).to_le_bytes());
 }

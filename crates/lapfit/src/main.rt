@@ -16,7 +16,7 @@ const INPUT: usize = 65545;
 // The first line, 800 rows and the sum.
 const OUTPUT: usize = 7225;
 
-// Writes what the program prints to the front of out, and answers how many bytes it has.
+// Writes what the program prints to the front of out, and answers how many bytes it has. Input and output are what `run` lends.
 fn print_input(input: &[u8], out: &mut [u8]) -> usize
     requires { length out.old ≡ most_text 800 }
     ensures count { result ≡ length (lapfit_text input.now) }

@@ -14,7 +14,7 @@ const INPUT: usize = 65537;
 // A file of 64 laps and 800 commands.
 const OUTPUT: usize = 58920;
 
-// Writes what the program prints to the front of out, and answers how many bytes it has.
+// Writes what the program prints to the front of out, and answers how many bytes it has. Input and output are what `run` lends.
 fn print_input(input: &[u8], out: &mut [u8]) -> usize
     requires { length out.old ≡ most_file }
     ensures count { result ≡ length (lapsvg_bytes input.now) }

@@ -15,7 +15,7 @@ use file::words::{float_of, is_nan, word_at};
 pub fn has_pattern(x: f64, p: u64) -> bool
     ensures { result ≡ has_pattern x p }
 {
-    if x != x {
+    if x.is_nan() {
         return is_nan(p);
     }
     f64::to_bits(x) == p
@@ -36,6 +36,8 @@ pub fn are_numbers_written(s: &[u8], out: &[f64]) -> bool
     requires { length s.now / 8 ≤ length out.now }
     ensures { result ≡ numbers_written s.now 0 (length s.now / 8) out.now }
 {
+    // A number has eight bytes in the one list and one place in the other, so it goes by index: in an `all` both bounds would be a closure's
+    // contract.
     for i in 0..s.len() / 8 {
         if !has_pattern(out[i], word_at(s, 8 * i)) {
             return false;
@@ -53,7 +55,8 @@ pub fn are_bytes_written(s: &[u8], bytes: &[u8]) -> bool
     bytes[..n] == s[..]
 }
 
-// Whether the known value still stands at each index from `from` on and below `to`.
+// Whether the known value still stands at each index from `from` on and below `to`. Both ends are given, as the definition has them, which
+// goes over the indices of the whole output: over a slice of it each index would be moved.
 pub fn are_left<T: PartialEq + Copy>(out: &[T], from: usize, to: usize, known: T) -> bool
     requires { to ≤ length out.now }
     ensures { (none : T) → result ≡ every_from (λ i. T.eq (get_or out.now i none) known) (to - from) from }

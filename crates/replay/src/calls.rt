@@ -27,6 +27,7 @@ pub fn call(
         count: h.first,
         closed: h.second != 0,
     };
+    // The numbers are the records': an enum would be made of the same 35 by a second `match`, for this one alone.
     match f {
         0 => crate::curves::get_midpoint_3d(numbers, out),
         1 => crate::curves::get_bezier_point_at(numbers, t, out),

@@ -5,7 +5,8 @@ use crate::curves::truth;
 use geo::lent::{point_at, put_pair};
 use geo::types::Point;
 
-// The parameters, here and below, are those of the recorded call, as C has them.
+// The parameters, here and below, are those of the recorded call. An `Err` is handed on by a `match`, here and below: of a `map` the closure
+// would borrow the outputs, and say no more.
 pub fn are_points_collinear_3d(points: &[f64], tolerance: f64) -> Answer {
     match circle::circle::are_points_collinear_3d(points, tolerance) {
         Ok(b) => truth(b),

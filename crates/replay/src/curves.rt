@@ -6,12 +6,13 @@ use crate::calls::Answer;
 use geo::lent::{pair_at, point_at, put_pair, put_point};
 use geo::types::{CubicBezier, Point};
 
-// A truth as a count.
+// A truth as a count. Where no output is borrowed a `match` hands the refusal on too, as in the calls beside it.
 pub fn truth(b: bool) -> Answer {
     Some(Ok(usize::from(b)))
 }
 
-// The parameters, here and below, are those of the recorded call, as C has them.
+// The parameters, here and below, are those of the recorded call. An `Err` is handed on by a `match`, here and below: of a `map` the closure
+// would borrow the outputs, and say no more.
 pub fn get_midpoint_3d(p: &[f64], out: &mut [f64]) -> Answer {
     if p.len() < 6 || out.len() < 3 {
         return None;
@@ -44,7 +45,7 @@ pub fn get_bezier_point_at(c: &[f64], t: f64, out: &mut [f64]) -> Answer {
     }
 }
 
-// A place is a slice and an index, as for `put_pair`.
+// A place is a slice and an index, as for `put_pair`. `exports` has the same four lines, with a contract: a crate for both would be longer.
 fn put_curve(out: &mut [f64], at: usize, q: CubicBezier<Point>)
     requires { at + 8 ≤ length out.old }
 {
@@ -140,7 +141,7 @@ pub fn linearize_bezier_adaptive(
     ))
 }
 
-// The given tolerance where `given` is 1, else the source's own.
+// The given tolerance where `given` is 1, else the source's own. `exports` has the same of C's flag, with a contract.
 fn tolerance_by(given: usize, t: f64) -> Option<f64> {
     if given == 1 { Some(t) } else { None }
 }

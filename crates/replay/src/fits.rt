@@ -13,6 +13,7 @@ fn is_list(expected: &[u8], list: &[u32]) -> bool {
     if expected.len() / 4 < list.len() {
         return false;
     }
+    // The record has four bytes where the list has one number, so it goes by index: in an `all` their bounds would be a closure's contract.
     for i in 0..list.len() {
         if half_at(expected, 4 * i) != u64::from(list[i]) {
             return false;
@@ -22,7 +23,7 @@ fn is_list(expected: &[u8], list: &[u32]) -> bool {
 }
 
 // The list of worst steps, which is lent here, has to be the record's.
-// The parameters, here and below, are those of the recorded call, as C has them, with what is expected among them.
+// The parameters, here and below, are those of the recorded call, with what is expected among them.
 fn fit_range(
     points: &[f64],
     tolerance: f64,
@@ -43,7 +44,8 @@ fn fit_range(
     }
 }
 
-// It is as long as the record's.
+// It is as long as the record's. The next public function makes the same list: a body for both would take the fit as an argument, and
+// its call would be as long.
 pub fn fit_points_recursive(
     points: &[f64],
     tolerance: f64,

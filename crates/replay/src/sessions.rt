@@ -28,7 +28,7 @@ fn told(ticket: Ticket, lap: usize, edits: u64, out: &mut [f64]) -> Answer {
     Some(Ok(ticket.count + COUNTS * ticket.next))
 }
 
-// The parameters, here and below, are those of the recorded call, as C has them.
+// The parameters, here and below, are those of the recorded call. An `Err` is handed on by a `match`, as in `curves`.
 pub fn ask(
     recorded: &[u8],
     fitted: &[u8],

@@ -3,6 +3,7 @@
 use crate::calls::Answer;
 use fewest::fewest::Task;
 
+// The parameters are those of the recorded call. A `map` in place of the `match` would have an option inside, for a record that does not fit.
 pub fn fewest_straights(
     points: &[f64],
     tolerance: f64,

@@ -9,7 +9,7 @@ use geo::refusal::Refusal;
 use geo::types::Point3D;
 use live::live::Live;
 
-// The slots of a state, from the front of the numbers.
+// The slots of a state, from the front of the numbers. A type of numbers that are enough would be made for one call, here and below.
 fn slots_of(numbers: &[f64]) -> [f64; Live::NUMBERS]
     requires { 195 ≤ length numbers.now }
 {
@@ -25,7 +25,8 @@ fn put_slots(points: &[f64; Live::NUMBERS], out: &mut [f64])
     out[..Live::NUMBERS].copy_from_slice(points);
 }
 
-// What the count tells of a state; of one whose count is out of bounds, nothing.
+// What the count tells of a state; of one whose count is out of bounds, nothing. The 0 is compared with the record's count, and an option
+// would be opened where each answer is made.
 fn told(state: Live, ends: usize) -> usize {
     if state.count > Live::SLOTS || ends > Live::MOST {
         return 0;

@@ -17,6 +17,7 @@ const SIZE: usize = 16;
 
 // How many of the records of s have another root.
 fn differences(s: &[u8]) -> u64 {
+    // A count by hand: in a `filter` over the indices the bounds of both words would be a closure's contract.
     let mut differ: u64 = 0;
     for i in 0..s.len() / SIZE {
         if !is_same(word_at(s, SIZE * i), word_at(s, SIZE * i + 8)) {

@@ -8,16 +8,13 @@ pub loop-i-init : goal.loop-i-init
 loop-i-init c = let a = c.args in putting_start a.commands.kinds.now a.commands.nums.now (length a.commands.kinds.now) a.out.now a.to
 
 pub write_command-requires : goal.write_command-requires
-write_command-requires c = let p = c.loop-i.invariant.place in let q = c.loop-i.invariant.long in omega arith
-
-pub overflow_add-t : goal.overflow_add-t
-overflow_add-t c = let p = c.loop-i.invariant.place in omega arith
+write_command-requires c = let q = c.loop-i.invariant.long in omega arith
 
 pub loop-i-preserved : goal.loop-i-preserved
-loop-i-preserved c = let a = c.args in let l = c.loop-i in putting_step a.commands.kinds.now a.commands.nums.now (length a.commands.kinds.now) a.out.now a.to l.out _ l.t l.i _ l.invariant c.loop-i-test.true c.at.ensures c.write_command.ensures
+loop-i-preserved c = let a = c.args in let l = c.loop-i in putting_step a.commands.kinds.now a.commands.nums.now (length a.commands.kinds.now) a.out.now a.to l.out _ l.i _ l.invariant c.loop-i-test.true c.at.ensures c.write_command.ensures
 
 pub shape_of-out : goal.shape_of-out
 shape_of-out c = c.loop-i.invariant.long
 
 pub returns : goal.returns
-returns c = let a = c.args in let l = c.loop-i in putting_done a.commands.kinds.now a.commands.nums.now (length a.commands.kinds.now) a.out.now a.to l.out l.t l.i l.invariant c.loop-i-test.false
+returns c = let a = c.args in let l = c.loop-i in putting_done a.commands.kinds.now a.commands.nums.now (length a.commands.kinds.now) a.out.now a.to l.out l.i l.invariant c.loop-i-test.false

@@ -5,7 +5,7 @@ use Rattle.file.proofs.Walks.{Putting}
 use Rattle.file.proofs.command.write_commands.Given as goal
 
 abbrev pub invariant-loop-i : goal.invariant-loop-i
-invariant-loop-i l = Putting l.commands.kinds.now l.commands.nums.now (length l.commands.kinds.now) l.initial.out l.out l.to l.t l.i
+invariant-loop-i l = Putting l.commands.kinds.now l.commands.nums.now (length l.commands.kinds.now) l.initial.out l.out l.to l.i
 
 abbrev pub decreases-loop-i : goal.decreases-loop-i
 decreases-loop-i l = length l.commands.kinds.now - l.i
