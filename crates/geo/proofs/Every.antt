@@ -6,6 +6,7 @@ use mathlib.Core.Bool.{Bool, true, false, not, ◌&&◌, and-true, and-false}
 use native.Mathlib.Omega.{arith}
 use native.Mathlib.Nat.{eq-or-lt_of_le}
 use borrow.Author.Tests.{not-true, not-false}
+use Rattle.std.specs.List.{list_all, range_with_len}
 use Rattle.floats.proofs.Order.{either, clash}
 use Rattle.geo.specs.Domain.{every_from}
 
@@ -67,3 +68,9 @@ pub every_all : (ok : ℕ → Bool) (n i : ℕ) → ((j : ℕ) → i ≤ j → j
 unfolding every_from
 every_all ok zero i h = refl
 every_all ok (suc n) i h = rw (h i (omega arith) (omega arith)) (every_all ok n (i + 1) (λ j a b. h j (omega arith) (omega arith)))
+
+-- ---- `all` along the indices of a range
+pub all_every : (ok : ℕ → Bool) (n i : ℕ) → list_all ok (range_with_len i n) ≡ every_from ok n i
+unfolding every_from
+all_every ok zero i = refl
+all_every ok (suc n) i = ⊎_elim (λ h. rw h (all_every ok n (i + 1))) (λ h. rw h refl) (either (ok i))
