@@ -1,9 +1,8 @@
 -- `lap_checks::checks::moves_placed` meets its contract: `all` along the kinds is the definition's walk. Assumes nothing.
 use Rattle.std.proofs.Common.{rules, refl, ◌∙◌, ◌≡◌}
-use Prim.Native.Nat.{ℕ}
 use mathlib.Core.Bool.{Bool, true, false, ◌&&◌, ◌||◌}
 use native.Mathlib.Omega.{arith}
-use borrow.Author.Tests.{tests, eq-eqb, ne_eqb}
+use borrow.Author.Tests.{tests}
 use lib.Dec.{eqb}
 use lib.ListN.{length, get_or}
 use Rattle.std.proofs.lemmas.Iterator.{YieldsList-from_range}
