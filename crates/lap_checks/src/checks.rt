@@ -29,13 +29,15 @@ pub struct Files<'a> {
 }
 
 // Rows 1 to 3 of two files, and of a new lap, whole commands and few or not.
+// What is told of the new lap comes as single truths, here and below: each row asks for one, and a commit finds its own by other tests.
 #[tactic(auto, unfolding(crate::specs::Checks::row1))]
-fn fails_1(s: &[u8], f: &[u8], whole: bool) -> bool
-    ensures { result ≡ row1 s.now f.now whole }
+fn fails_1(lent: LentFiles, whole: bool) -> bool
+    ensures { result ≡ row1 lent.entry.recorded.now lent.entry.fitted.now whole }
 {
-    too_short(s) || too_short(f) || !whole
+    too_short(lent.recorded) || too_short(lent.fitted) || !whole
 }
 
+// Two heads, here and below: a type of both would be made for these two rows alone, between the bytes and the files.
 #[tactic(auto, unfolding(crate::specs::Checks::row2))]
 fn fails_2(s: Headed, f: Headed, few: bool) -> bool
     ensures { result ≡ row2 s.entry.bytes.now f.entry.bytes.now few }
@@ -58,7 +60,7 @@ pub fn check_tables<'a>(lent: LentFiles<'a>, whole: bool, few: bool) -> Result<F
 {
     let s = lent.recorded;
     let f = lent.fitted;
-    if fails_1(s, f, whole) {
+    if fails_1(lent, whole) {
         return Err(Refusal::NotWhole);
     }
     let recorded = Headed { bytes: s };
@@ -75,7 +77,7 @@ pub fn check_tables<'a>(lent: LentFiles<'a>, whole: bool, few: bool) -> Result<F
     })
 }
 
-// Whether there are nine numbers for each lent command.
+// Whether there are nine numbers for each lent command. Until that is known, kinds and numbers are no `Commands`.
 fn is_whole(kinds: &[u8], nums: &[f64]) -> bool
     ensures { result ≡ lent_whole kinds.now nums.now }
 {
@@ -83,19 +85,13 @@ fn is_whole(kinds: &[u8], nums: &[f64]) -> bool
     size % 9 == 0 && size / 9 == kinds.len()
 }
 
-// Whether the kinds have one Move, the first; or none, where they need not have one.
+// Whether the kinds, bytes as C lends them, have one Move, which is 0, as the first; or none, where they need not have one.
 fn moves_placed(must: bool, kinds: &[u8]) -> bool
     requires { 1 ≤ length kinds.now }
     ensures { result ≡ move_placed must kinds.now }
 {
     let moved = must || kinds[0] == 0;
-    for i in 0..kinds.len() {
-        let first = i == 0 && moved;
-        if !is_placed(first, kinds[i]) {
-            return false;
-        }
-    }
-    true
+    (0..kinds.len()).all(|i| is_placed(i == 0 && moved, kinds[i]))
 }
 
 // Whether lent commands are a lap, which must have its Move or may lack it.
@@ -162,7 +158,7 @@ pub struct Replacement<'a> {
 }
 
 // What is found of a replacement, or of its asking, that passes the rows 1 to 7: what the laps that are fitted again could become at most, 801
-// for all above 800, and with them the commands in all other laps.
+// for all above 800, and with them the commands in all other laps. Both are numbers, since the rows of sizes add and compare them.
 #[derive(Clone, Copy)]
 pub struct Found<'a> {
     pub files: Files<'a>,

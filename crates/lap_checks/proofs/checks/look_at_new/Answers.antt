@@ -1,6 +1,7 @@
 -- `lap_checks::checks::look_at_new` meets its contract: rows 1 to 3, then rows 4 to 7, by what was found of the new commands; what passed them is what the counts ask. Assumes nothing.
 use Rattle.std.proofs.Common.{rules}
 use mathlib.Core.Path.{refl}
+use native.Mathlib.Omega.{arith}
 use Rattle.laps.specs.File.{laps_of}
 use Rattle.laps.proofs.Rows.{refused_on}
 use Rattle.lap_fit.proofs.Cap.{cap_small}
@@ -12,7 +13,7 @@ pub returns-in_err-files-clause-row : goal.returns-in_err-files-clause-row
 returns-in_err-files-clause-row c = let a = c.args.given in let s = a.files.recorded.now in let f = a.files.fitted.now in refused_on _ _ _ (search rules) (tables_refused s f a.lap (lent_new a.tolerance (laps_of s) a.lap a.kinds.now a.nums.now) a.tolerance _ (tables_of s f _ _ _ _ c.in_err-files.ensures.row c.is_whole-whole.ensures))
 
 pub invariant_of-commands : goal.invariant_of-commands
-invariant_of-commands c = let a = c.args.given in let s = a.files.recorded.now in let f = a.files.fitted.now in let p = tables_passed s f _ _ (tables_of s f _ _ _ 0 c.in_ok-files.ensures.row c.is_whole-whole.ensures) in record { whole = lent-nine a.kinds.now a.nums.now (past_1 s f _ p.0).2 }
+invariant_of-commands c = let a = c.args.given in let s = a.files.recorded.now in let f = a.files.fitted.now in let p = tables_passed s f _ _ (tables_of s f _ _ _ 0 c.in_ok-files.ensures.row c.is_whole-whole.ensures) in let w = lent-nine a.kinds.now a.nums.now (past_1 s f _ p.0).2 in record { whole = omega (arith, w) }
 
 pub returns-in_err-check_laps-clause-row : goal.returns-in_err-check_laps-clause-row
 returns-in_err-check_laps-clause-row c = let a = c.args.given in let s = a.files.recorded.now in let f = a.files.fitted.now in let e = c.in_ok-files.ensures.same in refused_on _ _ _ (search rules)
