@@ -193,7 +193,7 @@ fn fit_many(commands: Commands, start: Point3D, rule: FitRule, out: &mut [u8], t
 }
 
 // Writes the fit of lent commands, from their start, from `to` on, and returns how many commands it has. They could become `most` at most, by
-// which its arrays are chosen; each choice has them in a function of its own, so that none takes room for both.
+// which the arrays are chosen; each choice has them in a function of its own, to keep both out of one frame.
 pub fn fit_commands(
     commands: Commands,
     start: Point3D,
