@@ -172,15 +172,7 @@ pub fn fit_course(
     // The chain is lent as room to work in: what it holds at exit is left open.
     ensures { FitPlaced (fit_on rule.rule start (lent_course commands.entry.kinds.now commands.entry.nums.now)) 0 result out_kinds.old out_kinds.new out_nums.old out_nums.new }
 {
-    fit_course_with_steps(
-        commands,
-        start,
-        rule,
-        chain,
-        out_kinds,
-        out_nums,
-        &mut [],
-    )
+    fit_course_with_steps(commands, start, rule, chain, out_kinds, out_nums, &mut [])
 }
 
 // Why a course is refused, if it is. It and the calls below take their arguments as C lends them, one by one. An output's room is that of the smaller of its two slices.

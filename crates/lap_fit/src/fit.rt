@@ -144,14 +144,7 @@ fn fit_lent(
     // What the arrays hold at exit is left open.
     ensures { PutLap (fit_new rule.rule start commands.entry.kinds.now commands.entry.nums.now) out.old out.new to result }
 {
-    let n = fit_course(
-        commands,
-        start,
-        rule,
-        chain,
-        kinds,
-        nums,
-    );
+    let n = fit_course(commands, start, rule, chain, kinds, nums);
     let m = 9 * n;
     let fit = Commands {
         kinds: &kinds[..n],
