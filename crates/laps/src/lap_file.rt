@@ -23,7 +23,8 @@ pub const MOST_BYTES: usize = 65536;
 // The kind of a Bezier. The kinds are numbers, here and below, since they are compared with the byte that a file has, of whatever kind.
 pub const BEZIER: u8 = 3;
 
-// Bytes that are long enough for a mark and a lap count.
+// Bytes that are long enough for a mark and a lap count. file's `Encoded` has another length and other methods: of one type over the length
+// each method would name its own.
 #[derive(Clone, Copy)]
 pub struct Headed<'a> {
     pub bytes: &'a [u8],

@@ -39,7 +39,7 @@ fn more_digits(s: &[u8], v: u64, most: usize) -> Run<'_>
     }
 }
 
-// Ten to a power below three.
+// Ten to a power below three: a `match`, since the library's `pow` would multiply in a loop for these three.
 fn noughts(room: usize) -> u64
     requires { room ≤ 2 }
     ensures { result ≡ 10 ^ room }
