@@ -43,13 +43,13 @@
      pz_optimize_path_from_array     24576 +  96 * n   101376
      pz_fit_points_with_primitives    4864               4864
      pz_fit_points_recursive          4864               4864
-     pz_fit_arcs                     24832 +  96 * n   101632
-     pz_fit_file                    142080 +  96 * n   218880
-     pz_fit_hills                   142080 +  96 * n   218880
-     pz_replace_lap                 200448 +  96 * n   277248
-     pz_ask_lap                     142208 +  96 * n   219008
+     pz_fit_arcs                     24704 +  96 * n   101504
+     pz_fit_file                    142208 +  96 * n   219008
+     pz_fit_hills                   142208 +  96 * n   219008
+     pz_replace_lap                 219264 +  96 * n   296064
+     pz_ask_lap                     161024 +  96 * n   237824
      pz_commit_lap                     512                512
-     pz_fewest_straights              1280 + 112 * n    29952
+     pz_fewest_straights              1280 +  96 * n    25856
      pz_flatten_arc                   3200               3200
      pz_read_course                    384                384
      pz_live_feed                     1792               1792
