@@ -2,7 +2,7 @@
 
    LENT MEMORY. A list passes as a pointer and its length in elements (bytes for a file, numbers for points and commands,
    not points or commands). The functions keep no pointer after they return, allocate nothing and have no state of their
-   own, so two threads may call them at once on different memory; of other libraries they need memset and memcpy
+   own, so two threads may call them at once on different memory; of other libraries they need memset, memcpy and memmove
    alone. The archive (firmware/archive builds it, firmware/install puts it where a program looks for it) is for x86-64 and
    no other processor. The caller sees to it that
    - each pointer is valid for its length and aligned for its type (8 bytes for numbers and for size_t, 4 for
