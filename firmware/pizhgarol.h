@@ -2,7 +2,7 @@
 
    LENT MEMORY. A list passes as a pointer and its length in elements (bytes for a file, numbers for points and commands,
    not points or commands). The functions keep no pointer after they return, allocate nothing and have no state of their
-   own, so two threads may call them at once on different memory; of other libraries they need memset, memcpy and memmove
+   own, so two threads may call them at once on different memory; of other libraries they need memset and memcpy
    alone. The archive (firmware/archive builds it, firmware/install puts it where a program looks for it) is for x86-64 and
    no other processor. The caller sees to it that
    - each pointer is valid for its length and aligned for its type (8 bytes for numbers and for size_t, 4 for
@@ -49,7 +49,7 @@
      pz_replace_lap                 219264 +  96 * n   296064
      pz_ask_lap                     161024 +  96 * n   237824
      pz_commit_lap                     512                512
-     pz_fewest_straights              1280 +  96 * n    25856
+     pz_fewest_straights              1408 + 112 * n    30080
      pz_flatten_arc                   3200               3200
      pz_read_course                    384                384
      pz_live_feed                     1792               1792

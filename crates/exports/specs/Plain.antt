@@ -70,9 +70,14 @@ told of b (refused n) = b
 told of b (gives a) = of a
 
 -- the count that a result says, or what stood there
-unfoldable pub count_or : ℕ → Result ℕ Refusal → ℕ
+unfoldable pub count_or : {E : Type 0} → ℕ → Result ℕ E → ℕ
 count_or count (Ok n) = n
 count_or count (Err cause) = count
+
+-- the refusal's number that a result has, or 0
+abbrev pub number_in : Result ℕ ℕ → ℕ
+number_in (Ok n) = 0
+number_in (Err number) = number
 
 -- ---- the promises
 
@@ -86,7 +91,12 @@ pub record Told {A B : Type 0} (of : A → B) (o : Outcome A) (b b' : B) (r : �
   pub says : r ≡ number_of o
   pub leaves : b' ≡ told of b o
 
--- a count or a refusal, handed on to a lent number or back
+-- a count or a refusal's number, handed on to a lent number or back
+pub record HandedNumber (a : Result ℕ ℕ) (count count' : ℕ) (r : ℕ) : Type 0 where
+  pub says : r ≡ number_in a
+  pub leaves : count' ≡ count_or count a
+
+-- the same of a refusal with its cause
 pub record Handed (a : Result ℕ Refusal) (count count' : ℕ) (r : ℕ) : Type 0 where
   pub says : r ≡ refused_by a
   pub leaves : count' ≡ count_or count a

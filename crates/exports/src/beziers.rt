@@ -8,7 +8,7 @@ ghost use Rattle.subdivision.specs.Calls.{flat_call, adaptive_call, segment_call
 ghost use Rattle.fit_cubic.specs.Calls.{cubic_call};
 ghost use Rattle.exports.specs.Plain.{plane_point, point3, eight, sixteen, is_found, curve_numbers, tolerance_by, Gave, Told, Listed};
 
-use crate::counts::hand_on;
+use crate::counts::hand_cause;
 use geo::lent::put_pair;
 use geo::types::{CubicBezier, Point, Point3D};
 
@@ -152,7 +152,7 @@ pub extern "C" fn pz_linearize_bezier(
         y: p1y,
         z: p1z,
     };
-    hand_on(
+    hand_cause(
         bezier::bezier::linearize_bezier(p0, c1, c2, p1, num_steps, out),
         count,
     )
@@ -199,7 +199,7 @@ pub extern "C" fn pz_linearize_bezier_from_params(
         y: sy,
         z: sz,
     };
-    hand_on(
+    hand_cause(
         bezier::bezier::linearize_bezier_from_params(end, c1, c2, start, resolution, out),
         count,
     )
@@ -227,7 +227,7 @@ pub extern "C" fn pz_linearize_bezier_adaptive(
     let c1 = Point { x: c1x, y: c1y };
     let c2 = Point { x: c2x, y: c2y };
     let p1 = Point { x: p1x, y: p1y };
-    hand_on(
+    hand_cause(
         subdivision::subdivision::linearize_bezier_adaptive(
             p0,
             c1,
@@ -292,7 +292,7 @@ pub extern "C" fn pz_linearize_bezier_segment(
         z: p1z,
     };
     let t = tolerance_by(given, tolerance);
-    hand_on(
+    hand_cause(
         subdivision::subdivision::linearize_bezier_segment(p0, c1, c2, p1, t, out),
         count,
     )

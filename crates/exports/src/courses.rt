@@ -3,7 +3,7 @@ ghost use Rattle.std.specs.Prelude.{length};
 ghost use Rattle.course.specs.Course.{arcs_call, optimize_call};
 ghost use Rattle.exports.specs.Plain.{ListedCommands};
 
-use crate::counts::hand_on;
+use crate::counts::hand_cause;
 
 // Fits the chains of a course.
 #[unsafe(no_mangle)]
@@ -17,7 +17,7 @@ pub extern "C" fn pz_fit_arcs(
 ) -> u32
     ensures { ListedCommands (arcs_call kinds.now nums.now tolerance (length out_kinds.old) (length out_nums.old)) out_kinds.old out_kinds.new out_nums.old out_nums.new count.old count.new result }
 {
-    hand_on(
+    hand_cause(
         course::course::fit_arcs(kinds, nums, tolerance, out_kinds, out_nums),
         count,
     )
@@ -36,7 +36,7 @@ pub extern "C" fn pz_optimize_path_from_array(
 ) -> u32
     ensures { ListedCommands (optimize_call kinds.now nums.now tolerance use_fit_arcs (length out_kinds.old) (length out_nums.old)) out_kinds.old out_kinds.new out_nums.old out_nums.new count.old count.new result }
 {
-    hand_on(
+    hand_cause(
         course::course::optimize_path_from_array(
             kinds,
             nums,

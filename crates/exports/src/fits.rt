@@ -5,7 +5,7 @@ ghost use Rattle.deviations.specs.Calls.{line_call, arc_call};
 ghost use Rattle.fitting.specs.Calls.{fit_call, worst_call, primitives_call, primitives_worst, examined};
 ghost use Rattle.exports.specs.Plain.{plane_point, Told, ListedCommands};
 
-use crate::counts::hand_on;
+use crate::counts::hand_cause;
 use geo::types::Point;
 
 // The greatest distance of a point from the line through the points at start and end, and the first point that has it.
@@ -69,7 +69,7 @@ pub extern "C" fn pz_fit_points_recursive(
     ensures commands { ListedCommands (fit_call points.now tolerance start end (length kinds.old) (length nums.old) (length worst.old)) kinds.old kinds.new nums.old nums.new count.old count.new result }
     ensures worst { worst.new ≡ left (λ ws. ws) worst.old (worst_call points.now tolerance start end (length kinds.old) (length nums.old) (length worst.old)) }
 {
-    hand_on(
+    hand_cause(
         fitting::fitting::fit_points_recursive(points, tolerance, start, end, kinds, nums, worst),
         count,
     )

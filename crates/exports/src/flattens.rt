@@ -3,7 +3,7 @@ ghost use Rattle.std.specs.Prelude.{length};
 ghost use Rattle.flatten.specs.Calls.{flatten_call};
 ghost use Rattle.exports.specs.Plain.{point3, ListedCommands};
 
-use crate::counts::hand_on;
+use crate::counts::hand_cause;
 use geo::types::Point3D;
 
 // Draws the Arc command of this kind and these nine numbers, from its start (x, y, z) on, by Lines. The kind is a byte, as C gives it.
@@ -22,7 +22,7 @@ pub extern "C" fn pz_flatten_arc(
     ensures { ListedCommands (flatten_call kind command.now (point3 x y z) tolerance (length kinds.old) (length nums.old)) kinds.old kinds.new nums.old nums.new count.old count.new result }
 {
     let start = Point3D { x, y, z };
-    hand_on(
+    hand_cause(
         flatten::flatten::flatten_arc(kind, command, start, tolerance, kinds, nums),
         count,
     )

@@ -4,7 +4,7 @@ ghost use Rattle.lap_fit.specs.Fit.{fit_file, hill_file};
 ghost use Rattle.lap_replace.specs.Replace.{replace_lap};
 ghost use Rattle.exports.specs.Plain.{Listed};
 
-use crate::counts::hand_on;
+use crate::counts::hand_cause;
 
 // Fits each lap of a recorded file.
 #[unsafe(no_mangle)]
@@ -16,7 +16,7 @@ pub extern "C" fn pz_fit_file(
 ) -> u32
     ensures { Listed (λ (bytes : List ℕ). bytes) (fit_file recorded.now tolerance (length out.old)) out.old out.new count.old count.new result }
 {
-    hand_on(lap_fit::fit::fit_file(recorded, tolerance, out), count)
+    hand_cause(lap_fit::fit::fit_file(recorded, tolerance, out), count)
 }
 
 // Fits each lap of a recorded file for hills: straights alone, by the distance in x, y and z.
@@ -29,7 +29,7 @@ pub extern "C" fn pz_fit_hills(
 ) -> u32
     ensures { Listed (λ (bytes : List ℕ). bytes) (hill_file recorded.now tolerance (length out.old)) out.old out.new count.old count.new result }
 {
-    hand_on(lap_fit::fit::fit_hills(recorded, tolerance, out), count)
+    hand_cause(lap_fit::fit::fit_hills(recorded, tolerance, out), count)
 }
 
 // Replaces one lap of a fitted file.
@@ -46,7 +46,7 @@ pub extern "C" fn pz_replace_lap(
 ) -> u32
     ensures { Listed (λ (bytes : List ℕ). bytes) (replace_lap recorded.now fitted.now lap kinds.now nums.now tolerance (length out.old)) out.old out.new count.old count.new result }
 {
-    hand_on(
+    hand_cause(
         lap_replace::replace::replace_lap(recorded, fitted, lap, kinds, nums, tolerance, out),
         count,
     )

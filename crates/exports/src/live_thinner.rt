@@ -27,7 +27,7 @@ pub extern "C" fn pz_live_start(
             *closed = 0;
             0
         }
-        Err(cause) => u32::from(cause),
+        Err(refused) => u32::from(refused.cause),
     }
 }
 

@@ -4,7 +4,7 @@ ghost use Rattle.geo.specs.Lent.{pair, triple, flat};
 ghost use Rattle.simplify.specs.Simplify.{simplify_polyline, simplify_polyline3d, simplify_data};
 ghost use Rattle.exports.specs.Plain.{Listed, ListedCommands};
 
-use crate::counts::hand_on;
+use crate::counts::hand_cause;
 
 // Thins points in the plane.
 #[unsafe(no_mangle)]
@@ -16,7 +16,7 @@ pub extern "C" fn pz_simplify_polyline(
 ) -> u32
     ensures { Listed (flat pair) (simplify_polyline points.now tolerance (length out.old)) out.old out.new count.old count.new result }
 {
-    hand_on(
+    hand_cause(
         simplify::simplify::simplify_polyline(points, tolerance, out),
         count,
     )
@@ -32,7 +32,7 @@ pub extern "C" fn pz_simplify_polyline_3d(
 ) -> u32
     ensures { Listed (flat triple) (simplify_polyline3d points.now tolerance (length out.old)) out.old out.new count.old count.new result }
 {
-    hand_on(
+    hand_cause(
         simplify::simplify::simplify_polyline_3d(points, tolerance, out),
         count,
     )
@@ -50,7 +50,7 @@ pub extern "C" fn pz_simplify_data(
 ) -> u32
     ensures { ListedCommands (simplify_data kinds.now nums.now tolerance (length out_kinds.old) (length out_nums.old)) out_kinds.old out_kinds.new out_nums.old out_nums.new count.old count.new result }
 {
-    hand_on(
+    hand_cause(
         simplify::simplify::simplify_data(kinds, nums, tolerance, out_kinds, out_nums),
         count,
     )

@@ -9,7 +9,7 @@ use lib.Ieee.{Float}
 use Rattle.std.specs.Prelude.{Option, None, Some}
 use Rattle.geo.specs.declared.types.Point3D.{Point3D}
 use Rattle.farthest.specs.declared.farthest.Chord.{Chord}
-use Rattle.farthest.specs.Ends.{to_end}
+use Rattle.farthest.specs.Candidates.{to_end}
 use Rattle.farthest.specs.declared.farthest.Farthest.{Farthest}
 use Rattle.farthest.specs.Measure.{Measure, chord_of, to_line}
 use Rattle.farthest.specs.Farthest.{on_chord, farther, farthest_of, farthest_in}

@@ -1,13 +1,11 @@
--- How far a command lies from a chord: by its end, and Moves have a rule of their own. Definitions, and a law of each measure.
-use Rattle.std.specs.Prelude.{◌≡◌, refl, Option, None, Some, Bool, true, false, Float, if◌then◌else◌}
+-- How far a command lies from a chord: by its end, and Moves have a rule of their own. Definitions only.
+use Rattle.std.specs.Prelude.{Bool, true, false, Float, if◌then◌else◌}
 use Rattle.floats.specs.Ops.{+0}
-use Rattle.geo.specs.declared.types.Point.{Point}
-use Rattle.geo.specs.declared.types.Point3D.{Point3D}
 use Rattle.geo.specs.declared.types.Command.{Command}
 use Rattle.geo.specs.declared.types.Command.TheVariants.{Move, Line, Arc, Bezier}
 use Rattle.geo.specs.Lent.{end_of}
 use Rattle.farthest.specs.declared.farthest.Chord.{Chord}
-use Rattle.farthest.specs.Measure.{Measure, chord_of, to_line, line_sq, plane_sq, raised}
+use Rattle.farthest.specs.Measure.{Measure, chord_of, to_line}
 
 unfoldable pub is_move : Command → Bool
 is_move (Move p) = true
@@ -23,29 +21,3 @@ to_command chord c = if is_move c then +0 else to_line chord (end_of c)
 unfoldable pub command_sq : Measure Command
 unfolding chord_of to_command
 command_sq a b c = to_command (chord_of (end_of a) (end_of b)) c
-
--- ---- the same by the end of each item that is a candidate for a cut; what is none counts as on the chord
-abbrev pub to_end : Chord → Option Point3D → Float
-to_end chord None = +0
-to_end chord (Some p) = to_line chord p
-
--- a command's end, unless it is a Move
-unfoldable pub candidate_of : Command → Option Point3D
-unfolding is_move
-candidate_of c = if is_move c then None else Some (end_of c)
-
--- the measures of pairs, triples and commands are by their ends
-pub pairs_measured : (a b p : Point) → plane_sq a b p ≡ to_end (chord_of (raised a) (raised b)) (Some (raised p))
-unfolding plane_sq line_sq
-pairs_measured a b p = refl
-
-pub points_measured : (a b p : Point3D) → line_sq a b p ≡ to_end (chord_of a b) (Some p)
-unfolding line_sq
-points_measured a b p = refl
-
-pub commands_measured : (a b c : Command) → command_sq a b c ≡ to_end (chord_of (end_of a) (end_of b)) (candidate_of c)
-unfolding command_sq to_command candidate_of is_move
-commands_measured a b (Move p) = refl
-commands_measured a b (Line p) = refl
-commands_measured a b (Arc p o n) = refl
-commands_measured a b (Bezier p c d) = refl

@@ -3,7 +3,8 @@ ghost use Rattle.std.specs.Prelude.{◌≡◌, ◌+◌, ◌/◌, ◌^◌, ◌<�
 ghost use Rattle.geo.specs.declared.types.Point3D.{Point3D};
 ghost use Rattle.geo.specs.Lent.{pair_at, point_at, command_at, end_of};
 ghost use Rattle.farthest.specs.Measure.{Measure, chord_of, line_sq, plane_sq, raised};
-ghost use Rattle.farthest.specs.Ends.{is_move, command_sq, to_end, candidate_of, pairs_measured, points_measured, commands_measured};
+ghost use Rattle.farthest.specs.Candidates.{to_end, candidate_of, pairs_measured, points_measured, commands_measured};
+ghost use Rattle.farthest.specs.Ends.{is_move, command_sq};
 
 use geo::lent::pair_at;
 use geo::lists::{Commands, Stretch};
@@ -116,13 +117,21 @@ impl<'a> Ends for Commands<'a> {
         self.end_at(i)
     }
 
-    #[tactic(auto, unfolding(crate::specs::Ends::candidate_of))]
+    #[tactic(auto, unfolding(crate::specs::Candidates::candidate_of))]
     fn candidate(self, i: usize) -> Option<Point3D> {
         if is_move_at(self, i) {
             return None;
         }
         Some(self.end_at(i))
     }
+}
+
+// Whether a command is a Move.
+#[tactic(auto, unfolding(crate::specs::Ends::is_move))]
+pub fn is_move(c: Command) -> bool
+    ensures { result ≡ is_move c }
+{
+    matches!(c, Command::Move { end: _ })
 }
 
 // Whether the command at an index is a Move. Its kind alone is read: a search that reads whole commands takes a third longer. The index

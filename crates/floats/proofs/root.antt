@@ -9,3 +9,4 @@ pub mod Monotone
 pub mod Compared
 pub mod Reaches
 pub mod Operation
+pub mod Outside

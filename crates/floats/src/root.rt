@@ -1,4 +1,4 @@
-// The square root, rounded as IEEE 754 says: the processor's operation.
+// The square root, rounded as IEEE 754 says: the processor's operation, wherever there is a root.
 ghost use Rattle.std.specs.Prelude.{◌≡◌, T};
 ghost use Rattle.floats.specs.Ops.{◌≺◌};
 ghost use Rattle.floats.specs.Root.{root_of, plain, Rounded};
@@ -9,6 +9,13 @@ pub fn sqrt(x: f64) -> f64
     ensures value { result ≡ root_of x }
     ensures rounded { T (plain x) → Rounded x result }
 {
+    if x.is_nan() {
+        return x;
+    }
+    // The processor is not asked: it would set the sign of the NaN, and may trap.
+    if x < 0.0 {
+        return 0.0 / 0.0;
+    }
     x.sqrt()
 }
 

@@ -1,12 +1,13 @@
 // The fit of a lap file: each lap by one rule, under a new table.
-ghost use Rattle.std.specs.Prelude.{◌≡◌, List, ◌++◌, ℕ, ◌+◌, ◌*◌, ◌<◌, ◌≤◌, length, take, drop, IfOk};
+ghost use Rattle.std.specs.Prelude.{◌≡◌, List, ◌++◌, ℕ, ◌+◌, ◌*◌, ◌<◌, ◌≤◌, length, take, drop, replicate, IfOk};
+ghost use Rattle.floats.specs.Ops.{+0};
 ghost use Rattle.geo.specs.Domain.{most_commands};
 ghost use Rattle.geo.specs.Outcome.{refusal};
 ghost use Rattle.geo.specs.Refusal.{refused_by};
 ghost use Rattle.geo.specs.Wrote.{Wrote};
 ghost use Rattle.file.specs.Command.{commands_at, decoded};
 ghost use Rattle.chain.specs.Joins.{joined};
-ghost use Rattle.chain.specs.Chains.{cap};
+ghost use Rattle.chain.specs.Chains.{cap, chain_numbers};
 ghost use Rattle.course.specs.Course.{most_on, lent_course};
 ghost use Rattle.course.specs.Walks.{weight_of};
 ghost use Rattle.laps.specs.File.{lap_count, laps_of, encode, PutLap};
@@ -15,7 +16,7 @@ ghost use Rattle.geo.specs.Lent.{origin};
 ghost use Rattle.lap_fit.specs.Fit.{lap_end, fit_lap, fit_laps, most_lap, laps_most, fit_new, file_fit_rows, fit_file_by, fit_file, hill_file};
 
 use chain::chain::Walk;
-use course::course::{add_capped, fit_course, weight};
+use course::course::{add_capped, course_most, fit_course, weight};
 use file::command::{Body, COMMAND_BYTES, read_commands, write_commands};
 use geo::domain::is_tolerance;
 use geo::lists::Commands;
@@ -39,7 +40,9 @@ pub struct FitRoom {
 }
 
 impl FitRoom {
-    fn new() -> Self {
+    fn new() -> Self
+        ensures { (result.chain ≡ replicate chain_numbers +0) × (result.kinds ≡ replicate most_commands 0) × (result.nums ≡ replicate (9 * most_commands) +0) }
+    {
         Self {
             chain: [0.0; Walk::CHAIN],
             kinds: [0; Walk::MOST],
@@ -57,7 +60,11 @@ pub struct LapRoom {
 }
 
 impl LapRoom {
-    pub fn new() -> Self {
+    // All numbers 0.
+    pub fn new() -> Self
+        ensures own { (result.kinds ≡ replicate most_commands 0) × (result.nums ≡ replicate (9 * most_commands) +0) }
+        ensures fit { (result.fit.chain ≡ replicate chain_numbers +0) × (result.fit.kinds ≡ replicate most_commands 0) × (result.fit.nums ≡ replicate (9 * most_commands) +0) }
+    {
         Self {
             kinds: [0; Walk::MOST],
             nums: [0.0; Walk::NUMBERS],
@@ -185,20 +192,20 @@ fn fit_many(commands: Commands, start: Point3D, rule: FitRule, out: &mut [u8], t
     )
 }
 
-// Writes the fit of lent commands, from their start, from `to` on, and returns how many commands it has. They could become `most` at most, by
-// which the arrays are chosen; each choice has them in a function of its own, to keep both out of one frame.
+// Writes the fit of lent commands, from their start, from `to` on, and returns how many commands it has. By what they could become at most the
+// arrays are chosen.
+#[tactic(auto, using(chain::proofs::Count::cap_passed))]
 pub fn fit_commands(
     commands: Commands,
     start: Point3D,
     rule: FitRule,
-    most: usize,
     out: &mut [u8],
     to: usize,
 ) -> usize
-    requires { (most_on rule.rule.tolerance start (lent_course commands.kinds.now commands.nums.now) ≤ most) × (most ≤ 800) × (to + 73 * length (fit_new rule.rule start commands.kinds.now commands.nums.now) ≤ length out.old) }
+    requires { (most_on rule.rule.tolerance start (lent_course commands.kinds.now commands.nums.now) ≤ 800) × (to + 73 * length (fit_new rule.rule start commands.kinds.now commands.nums.now) ≤ length out.old) }
     ensures { PutLap (fit_new rule.rule start commands.entry.kinds.now commands.entry.nums.now) out.old out.new to result }
 {
-    if most <= FEW {
+    if course_most(commands, start, rule.rule.tolerance) <= FEW {
         return fit_few(commands, start, rule, out, to);
     }
     fit_many(commands, start, rule, out, to)

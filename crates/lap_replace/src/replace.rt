@@ -33,14 +33,7 @@ fn replace_laps<const BYTES: usize>(found: Found, k: usize, rule: FitRule, out: 
 {
     let files = found.files;
     let mut buffer = [0u8; BYTES];
-    let fit = fit_both(
-        files.recorded,
-        k,
-        found.commands,
-        rule,
-        found.own,
-        &mut buffer,
-    );
+    let fit = fit_both(files.recorded, k, found.commands, rule, &mut buffer);
     let part = Part {
         bytes: &buffer,
         count: fit.count,

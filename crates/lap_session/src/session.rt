@@ -95,14 +95,7 @@ pub fn ask_lap(
     let rule = FitRule {
         rule: Rule::of_laps(tolerance),
     };
-    let fit = fit_both(
-        found.files.recorded,
-        lap,
-        found.commands,
-        rule,
-        found.own,
-        buffer,
-    );
+    let fit = fit_both(found.files.recorded, lap, found.commands, rule, buffer);
     Ok(Ticket {
         lap,
         tolerance,

@@ -24,8 +24,11 @@ fn copy_lap(lap: Body, out: &mut [u8], to: usize)
     requires { to + 73 * lap.count ≤ length out.old }
     ensures { PutLap (commands_at lap.entry.bytes.now lap.entry.at lap.entry.count) out.old out.new to lap.entry.count }
 {
-    let w = COMMAND_BYTES * lap.count;
-    out[to..to + w].copy_from_slice(&lap.bytes[lap.at..lap.at + w]);
+    // Byte by byte, which the compiler makes a call of memcpy: of the library's `copy_from_slice`, of a length that is not known, it makes one of
+    // memmove, which a caller of the archive would have to bring.
+    for i in 0..COMMAND_BYTES * lap.count {
+        out[to + i] = lap.bytes[lap.at + i];
+    }
 }
 
 // Whether lap number j is the one behind lap k, where that is replaced too.
@@ -155,22 +158,21 @@ pub struct Refit {
     pub next: usize,
 }
 
-// Fits the new commands, and behind them the next lap where that is fitted again, to the front of a buffer. They could become `most` at most.
+// Fits the new commands, and behind them the next lap where that is fitted again, to the front of a buffer.
 // The new commands stay beside the number of the lap, here and below: a commit has the number, and no commands.
 pub fn fit_both(
     recorded: LapFile,
     k: usize,
     commands: Commands,
     rule: FitRule,
-    most: usize,
     buffer: &mut [u8],
 ) -> Refit
-    requires { (1 ≤ k) × (k ≤ lap_count recorded.bytes.now) × (most_both rule.rule.tolerance (laps_of recorded.bytes.now) k (lent_course commands.kinds.now commands.nums.now) ≤ most) × (most ≤ 800) × (73 * most_both rule.rule.tolerance (laps_of recorded.bytes.now) k (lent_course commands.kinds.now commands.nums.now) ≤ length buffer.old) }
+    requires { (1 ≤ k) × (k ≤ lap_count recorded.bytes.now) × (most_both rule.rule.tolerance (laps_of recorded.bytes.now) k (lent_course commands.kinds.now commands.nums.now) ≤ 800) × (73 * most_both rule.rule.tolerance (laps_of recorded.bytes.now) k (lent_course commands.kinds.now commands.nums.now) ≤ length buffer.old) }
     ensures { PutBoth (new_fit rule.rule (laps_of recorded.entry.bytes.now) k commands.entry.kinds.now commands.entry.nums.now) (next_fit rule.rule (laps_of recorded.entry.bytes.now) k commands.entry.kinds.now commands.entry.nums.now) buffer.old buffer.new result.count result.next }
 {
     let start = start_of(recorded, k);
     let lap = next_of(recorded, k);
-    let count = fit_commands(commands, start, rule, most, buffer, 0);
+    let count = fit_commands(commands, start, rule, buffer, 0);
     let end = course_end(commands, start);
     let next = fit_next(lap, end, rule, buffer, COMMAND_BYTES * count);
     Refit { count, next }

@@ -173,6 +173,7 @@ pub trait Test {
 }
 
 // Row 4: its kind, its unused numbers, and where a Move stands.
+#[derive(Clone, Copy)]
 pub struct Form;
 
 impl Test for Form {
@@ -185,6 +186,7 @@ impl Test for Form {
 }
 
 // Row 5: its numbers. Of a Move and of a Line, which most commands are, it asks for the end alone.
+#[derive(Clone, Copy)]
 pub struct Domain;
 
 impl Test for Domain {
@@ -200,6 +202,7 @@ impl Test for Domain {
 }
 
 // Rows 4 and 5.
+#[derive(Clone, Copy)]
 pub struct Both;
 
 impl Test for Both {
@@ -212,6 +215,7 @@ impl Test for Both {
 }
 
 // Row 4 of a fitted lap: the same as Form, and it has no Bezier.
+#[derive(Clone, Copy)]
 pub struct Fitted;
 
 impl Test for Fitted {
@@ -224,6 +228,7 @@ impl Test for Fitted {
 }
 
 // Row 5 of a fitted lap: "its numbers need only be finite" (document 02, §9).
+#[derive(Clone, Copy)]
 pub struct Finite;
 
 impl Test for Finite {

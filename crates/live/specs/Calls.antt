@@ -1,12 +1,13 @@
 -- The calls of the live thinner: what each refuses, in the order of the rows, what an accepted one makes of the state, and what it answers. Definitions only.
-use Rattle.std.specs.Prelude.{ℕ, ◌/◌, Bool, true, not, ◌&&◌, List, [], ◌∷◌, ◌++◌, ltb, Float, ◌≡◌, Option, Some, None, Result}
+use Rattle.std.specs.Prelude.{ℕ, ◌/◌, Bool, true, not, ◌&&◌, List, [], ◌∷◌, ◌++◌, ltb, Float, ◌≡◌, Option, Some, None, Result, Ok, Err}
 use Rattle.geo.specs.declared.types.Point3D.{Point3D}
 use Rattle.geo.specs.Domain.{coordinate, numbers_in, point3_in, tolerance, whole}
 use Rattle.geo.specs.Outcome.{Row, row, refusal, Outcome, unless, refused, gives}
 use Rattle.geo.specs.declared.refusal.Refusal.{Refusal}
-use Rattle.geo.specs.Refusal.{outcome}
+use Rattle.geo.specs.Refusal.{number, outcome}
 use Rattle.geo.specs.Wrote.{Wrote}
 use Rattle.live.specs.declared.live.Live.{Live}
+use Rattle.live.specs.declared.live.RefusedStart.{RefusedStart}
 use Rattle.live.specs.Thinner.{Next, slot_count, push, shut, retuned}
 use Rattle.geo.specs.Lent.{flat, triple}
 
@@ -48,6 +49,16 @@ live_call s e = unless (refusal (live_rows s e)) (next_of s e)
 -- a start has one row
 unfoldable pub start_rows : Float → List Row
 start_rows t = row 6 (not (tolerance t)) ∷ []
+
+-- what a start says: the thinner, or the number of the refusal
+abbrev pub start_outcome : Result Live RefusedStart → Outcome Live
+start_outcome (Ok s) = gives s
+start_outcome (Err e) = refused (number e.cause)
+
+-- the thinner that a start gives, refused or not
+abbrev pub start_state : Result Live RefusedStart → Live
+start_state (Ok s) = s
+start_state (Err e) = e.state
 
 -- ---- what the calls answer and leave: an end or the count of the ends, or a refusal, and the state, which a refusal leaves as it was
 unfoldable pub state_after : Live → Outcome Next → Live

@@ -4,11 +4,11 @@ ghost use Rattle.std.proofs.lemmas.List.Edits.{sets};
 ghost use Rattle.floats.specs.Ops.{◌≺◌};
 ghost use Rattle.geo.specs.Lent.{flat, triple};
 ghost use Rattle.geo.specs.Outcome.{refusal, unless};
-ghost use Rattle.geo.specs.Refusal.{refused_by, outcome};
+ghost use Rattle.geo.specs.Refusal.{refused_by};
 ghost use Rattle.deviations.specs.Line.{line_deviation};
 ghost use Rattle.farthest.specs.Measure.{line_sq};
 ghost use Rattle.live.specs.Thinner.{slot, started, behind, cutting, forgotten};
-ghost use Rattle.live.specs.Calls.{feed, retune, close, start_rows, state_rows, live_rows, live_call, Fed, Tuned};
+ghost use Rattle.live.specs.Calls.{feed, retune, close, start_rows, start_outcome, start_state, state_rows, live_rows, live_call, Fed, Tuned};
 ghost use Rattle.live.specs.Replay.{ends_in, Pushed, Replays};
 
 use farthest::farthest::{Ruler, farthest_between};
@@ -27,6 +27,13 @@ pub struct Live {
     pub points: [f64; Live::NUMBERS],
     pub count: usize,
     pub closed: bool,
+}
+
+// A start that is refused: the cause, and the thinner of that tolerance all the same, which each call refuses.
+#[derive(Clone, Copy)]
+pub struct RefusedStart {
+    pub cause: Refusal,
+    pub state: Live,
 }
 
 impl Live {
@@ -55,13 +62,18 @@ impl Live {
 
     // A thinner to which no point was fed.
     #[tactic(auto, unfolding(crate::specs::Calls::start_rows, geo::specs::Outcome::refusal, geo::specs::Outcome::unless))]
-    pub fn start(tolerance: f64) -> Result<Live, Refusal>
-        ensures { outcome result ≡ unless (refusal (start_rows tolerance)) (started tolerance) }
+    pub fn start(tolerance: f64) -> Result<Live, RefusedStart>
+        ensures says { start_outcome result ≡ unless (refusal (start_rows tolerance)) (started tolerance) }
+        ensures state { start_state result ≡ started tolerance }
     {
+        let state = Live::new(tolerance);
         if !is_tolerance(tolerance) {
-            return Err(Refusal::BadTolerance);
+            return Err(RefusedStart {
+                cause: Refusal::BadTolerance,
+                state,
+            });
         }
-        Ok(Live::new(tolerance))
+        Ok(state)
     }
 
     // The last point held, or the anchor where it is alone. That a point is held and that no more than the slots are in use is asked here and

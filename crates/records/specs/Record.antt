@@ -1,8 +1,6 @@
 -- A recorded call: its head, the sizes behind it, and what the call has to answer and to leave. Definitions only.
 use Rattle.std.specs.Prelude.{ℕ, ◌+◌, ◌*◌, ◌≤◌, ◌≡◌, Bool, ◌&&◌, List, eqb, length, Float, Result, Ok, Err}
 use Rattle.floats.specs.Limits.{untouched}
-use Rattle.geo.specs.declared.refusal.Refusal.{Refusal}
-use Rattle.geo.specs.Refusal.{number}
 use Rattle.file.specs.Bytes.{word_at}
 use Rattle.records.specs.Words.{numbers_written, bytes_written, numbers_left, bytes_left}
 use Rattle.records.specs.declared.layout.Head.{Head}
@@ -37,9 +35,9 @@ body_bytes h = lent_size h + 8 * h.written + h.stored
 
 -- ---- what a call answered and left
 -- the count, where the expected refusal is 0; else that refusal
-unfoldable pub is_answered : Head → Result ℕ Refusal → Bool
+unfoldable pub is_answered : Head → Result ℕ ℕ → Bool
 is_answered h (Ok n) = eqb h.refusal 0 && eqb n h.count
-is_answered h (Err cause) = eqb (number cause) h.refusal
+is_answered h (Err n) = eqb n h.refusal
 
 -- what is written stands at the front of both outputs; all behind is left
 unfoldable pub is_output : Head → List ℕ → List Float → List ℕ → Bool

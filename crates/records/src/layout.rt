@@ -7,7 +7,6 @@ ghost use Rattle.records.specs.Words.{numbers_written, bytes_written, numbers_le
 
 use crate::{are_bytes_written, are_left, are_numbers_written};
 use file::words::word_at;
-use geo::refusal::Refusal;
 
 // The bytes of a head.
 pub const HEAD_SIZE: usize = 112;
@@ -111,14 +110,15 @@ impl WholeHead {
     }
 }
 
-// Whether the answer is the expected refusal, or the expected count where that is 0.
+// Whether the answer is the expected refusal, or the expected count where that is 0. A refusal is any number: a record may expect one that
+// no call gives.
 #[tactic(auto, unfolding(crate::specs::Record::is_answered))]
-pub fn is_answered(h: Head, a: Result<usize, Refusal>) -> bool
+pub fn is_answered(h: Head, a: Result<usize, u32>) -> bool
     ensures { result ≡ is_answered h a }
 {
     match a {
         Ok(n) => h.refusal == 0 && n as u64 == h.count,
-        Err(cause) => u64::from(u32::from(cause)) == h.refusal,
+        Err(number) => u64::from(number) == h.refusal,
     }
 }
 

@@ -6,6 +6,9 @@ use file::words::float_of;
 use geo::refusal::Refusal;
 use records::layout::Head;
 
+// What no call answers: the refusal of a record that does not fit its call.
+pub const DAMAGED: u32 = 1000;
+
 // What a recorded call answers: its count, or why it is refused; nothing where the record does not fit the call.
 pub type Answer = Option<Result<usize, Refusal>>;
 

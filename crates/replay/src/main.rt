@@ -15,7 +15,7 @@ mod thinner;
 
 ghost use Rattle.std.specs.Prelude.{◌≡◌, ◌≤◌, length};
 
-use crate::calls::Answer;
+use crate::calls::{Answer, DAMAGED};
 use buffers::read_full;
 use records::layout::{
     BEFORE, BEFORE_BYTE, BODY_SIZE, BYTES, HEAD_SIZE, NUMBERS, ROOM, Record, WholeHead, head_of,
@@ -59,10 +59,12 @@ fn answer_of(record: Record, out: &mut [f64], bytes: &mut [u8]) -> Answer
 fn agrees_in(record: Record, out: &mut [f64], bytes: &mut [u8]) -> bool
     requires room_in_bounds { (record.whole.head.room ≤ length out.old) × (record.whole.head.space ≤ length bytes.old) }
 {
-    match answer_of(record, out, bytes) {
-        Some(a) => is_answered(record.whole.head, a) && record.is_output(out, bytes),
-        None => false,
-    }
+    let answer = match answer_of(record, out, bytes) {
+        Some(Ok(n)) => Ok(n),
+        Some(Err(cause)) => Err(u32::from(cause)),
+        None => Err(DAMAGED),
+    };
+    is_answered(record.whole.head, answer) && record.is_output(out, bytes)
 }
 
 fn agrees_in_large(record: Record) -> bool {

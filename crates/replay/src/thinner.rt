@@ -67,7 +67,7 @@ pub fn start(tolerance: f64, out: &mut [f64]) -> Answer {
             put_slots(&points, out);
             Some(Ok(told(state, 0)))
         }
-        Err(cause) => Some(Err(cause)),
+        Err(refused) => Some(Err(refused.cause)),
     }
 }
 

@@ -12,10 +12,11 @@ use lib.Ieee.Fits.{down_pos, sub-fits}
 use lib.Ieee.Scale.{finite}
 use Rattle.floats.specs.Ops.{◌⊕◌, ◌⊖◌, ◌⊗◌, ◌⊘◌, ◌≺◌, ◌≼◌, +0, one}
 use Rattle.floats.proofs.Order.{either, clash, lt_gap}
+use Rattle.geo.specs.declared.types.Point.{Point}
 use Rattle.geo.specs.declared.types.Point3D.{Point3D}
 use Rattle.segment.specs.declared.segment.Segment.{Segment}
-use Rattle.segment.specs.Segment.{Axis, sum_from, sum_over, dot_on, degenerate, parameter_of, off_foot, from_foot, segment_on}
-use Rattle.segment.specs.Axes.{EachOn}
+use Rattle.segment.specs.Segment.{Axis, plane, spatial, sum_from, sum_over, dot_on, degenerate, parameter_of, off_foot, from_foot, segment_on, segment_sq, space_sq}
+use Rattle.segment.specs.Axes.{EachOn, plane_point, space_point, plane_measured, space_measured}
 use Rattle.segment.specs.Saved.{from_end, besides, saved_on, is_inside, Laid}
 use Rattle.segment.proofs.Zeros.{none, round_none, Twin, twin, twin_square}
 use Rattle.segment.proofs.Division.{before-start, past_end, strictly_inside, foot_before, foot_past}
@@ -204,6 +205,13 @@ module _ {V : Type 0} {cs : List Axis} {make : (Axis → Float) → V} {a b : Po
       pub nowhere : {d : Float} → (s.level ≺ along) ≡ false → (along ≼ s.level) ≡ false → d ≡ from_foot cs a b p (parameter_of along s.square) → d ≡ segment_on cs a b p
       nowhere h k e =
           clamped _ (e ∙ rw (g, square-is) (sym (rw (rw square-is at n, rw (level-is, g) at h, rw (level-is, g) at k))))
+
+-- The distance with no division where the foot is clamped is the definition's, whatever is lent: in the plane, and in space.
+pub by_segment : (s : Segment Point) (p : Point3D) (d : Float) (a b : Point3D) → Laid plane plane_point a b s → d ≡ saved_on plane a b p → d ≡ segment_sq a b p
+by_segment s p d a b l e = e ∙ saved_is_clamped plane a b p l.held ∙ sym (plane_measured a b p)
+
+pub by_climb : (s : Segment Point3D) (p : Point3D) (d : Float) (a b : Point3D) → Laid spatial space_point a b s → d ≡ saved_on spatial a b p → d ≡ space_sq a b p
+by_climb s p d a b l e = e ∙ saved_is_clamped spatial a b p l.held ∙ sym (space_measured a b p)
 
 three_tests : (a b c : Bool) → (if a then false else if b then c else false) ≡ true → (a ≡ false) × (b ≡ true) × (c ≡ true)
 three_tests true b c h = clash h

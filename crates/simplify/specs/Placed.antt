@@ -1,4 +1,4 @@
--- Items written from the front of a list on, one after the other. Assumes nothing.
+-- The code's own way: items written from the front of a list on, one after the other. What a reader has to believe stands in Thin.antt. Laws; assumes nothing.
 use Prim.Native.Nat.{ℕ, suc, ◌+◌, ◌*◌, ◌/◌, ◌≤◌}
 use mathlib.Core.Path.{◌≡◌, refl, sym, ap, ◌∙◌}
 use mathlib.Core.List.{List, [], ◌∷◌, ◌++◌, map}

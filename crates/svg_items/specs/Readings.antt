@@ -1,4 +1,4 @@
--- What a reader of the code answers, as a reading of the text's definitions. Definitions only.
+-- The code's own way: what a reader answers, as a reading of the text's definitions. Definitions only.
 use Rattle.std.specs.Prelude.{ℕ, ◌+◌, ◌*◌, ◌^◌, ◌≤◌, ◌≡◌, List, Option, Some, None}
 use Rattle.std.specs.Borrow.{Bor}
 use Rattle.svg_items.specs.declared.figures.Run.{Run}

@@ -5,4 +5,4 @@ use Rattle.exports.proofs.Plain.{listed}
 use Rattle.exports.proofs.beziers.pz_linearize_bezier_from_params.Goals as goal
 
 pub returns : goal.returns
-returns c = listed (flat six) _ c.args.out.now _ _ c.args.count.now _ _ c.linearize_bezier_from_params.ensures c.hand_on.ensures
+returns c = listed (flat six) _ c.args.out.now _ _ c.args.count.now _ _ c.linearize_bezier_from_params.ensures c.hand_cause.ensures

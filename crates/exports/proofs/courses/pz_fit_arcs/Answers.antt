@@ -3,4 +3,4 @@ use Rattle.exports.proofs.Plain.{listed-commands}
 use Rattle.exports.proofs.courses.pz_fit_arcs.Goals as goal
 
 pub returns : goal.returns
-returns c = listed-commands _ c.args.out_kinds.now _ c.args.out_nums.now _ _ c.args.count.now _ _ c.fit_arcs.ensures c.hand_on.ensures
+returns c = listed-commands _ c.args.out_kinds.now _ c.args.out_nums.now _ _ c.args.count.now _ _ c.fit_arcs.ensures c.hand_cause.ensures

@@ -5,4 +5,4 @@ use Rattle.exports.proofs.Plain.{listed}
 use Rattle.exports.proofs.lap_files.pz_fit_file.Goals as goal
 
 pub returns : goal.returns
-returns c = listed (λ (bytes : List ℕ). bytes) _ c.args.out.now _ _ c.args.count.now _ _ c.fit_file.ensures c.hand_on.ensures
+returns c = listed (λ (bytes : List ℕ). bytes) _ c.args.out.now _ _ c.args.count.now _ _ c.fit_file.ensures c.hand_cause.ensures

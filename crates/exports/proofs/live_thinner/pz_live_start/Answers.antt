@@ -5,8 +5,8 @@ use Rattle.exports.proofs.live_thinner.pz_live_start.Goals as goal
 
 pub returns-in-Ok : goal.returns-in-Ok
 unfolding start_call
-returns-in-Ok c = begun _ _ _ _ _ _ c.in-Ok.ensures
+returns-in-Ok c = begun _ _ _ _ _ _ c.in-Ok.ensures.says
 
 pub returns-in-Err : goal.returns-in-Err
 unfolding start_call
-returns-in-Err c = not_begun _ _ _ _ _ _ _ c.in-Err.ensures c.from.ensures
+returns-in-Err c = not_begun _ _ _ _ _ _ _ c.in-Err.ensures.says c.from.ensures

@@ -4,4 +4,4 @@ use Rattle.exports.proofs.Plain.{listed}
 use Rattle.exports.proofs.simplifies.pz_simplify_polyline.Goals as goal
 
 pub returns : goal.returns
-returns c = listed (flat pair) _ c.args.out.now _ _ c.args.count.now _ _ c.simplify_polyline.ensures c.hand_on.ensures
+returns c = listed (flat pair) _ c.args.out.now _ _ c.args.count.now _ _ c.simplify_polyline.ensures c.hand_cause.ensures

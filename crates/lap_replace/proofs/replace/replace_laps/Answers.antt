@@ -6,7 +6,7 @@ use Rattle.lap_replace.proofs.Most.{own_in, most_in}
 use Rattle.lap_replace.proofs.replace.replace_laps.Goals as goal
 
 pub fit_both-fit-requires : goal.fit_both-fit-requires
-fit_both-fit-requires g c = let a = c.args in let p = c.requires in let o = own_in a.rule.rule a.rule.positive a.found.files.recorded.bytes.now a.found.files.fitted.bytes.now a.k a.found.commands.kinds.now a.found.commands.nums.now in (p.0, p.1, omega (arith, p.4), omega (arith, o, p.2, p.4), omega (arith, p.4, p.5))
+fit_both-fit-requires g c = let a = c.args in let p = c.requires in let o = own_in a.rule.rule a.rule.positive a.found.files.recorded.bytes.now a.found.files.fitted.bytes.now a.k a.found.commands.kinds.now a.found.commands.nums.now in (p.0, p.1, omega (arith, o, p.2), omega (arith, p.4, p.5))
 
 pub invariant_of-part : goal.invariant_of-part
 invariant_of-part g c = let a = c.args in let p = c.requires in let o = own_in a.rule.rule a.rule.positive a.found.files.recorded.bytes.now a.found.files.fitted.bytes.now a.k a.found.commands.kinds.now a.found.commands.nums.now in let b = both-few a.rule.rule (laps_of a.found.files.recorded.bytes.now) a.k a.found.commands.kinds.now a.found.commands.nums.now a.rule.positive in let put = c.fit_both-fit.ensures in let n = put.count in let m = put.behind in

@@ -20,7 +20,7 @@ invariant_of-rule c = let a = c.args in let p = ask_passed a.recorded.now a.fitt
 pub fit_both-fit-requires : goal.fit_both-fit-requires
 fit_both-fit-requires c = let a = c.args in let e = c.in_ok-found.ensures.same in let p = ask_passed a.recorded.now a.fitted.now a.lap (lent_new a.tolerance (laps_of a.recorded.now) a.lap a.kinds.now a.nums.now) a.tolerance _ c.in_ok-found.ensures.row in
     let o = most_told (lent_new a.tolerance (laps_of a.recorded.now) a.lap a.kinds.now a.nums.now) a.lap a.recorded.now a.fitted.now _ c.in_ok-found.ensures.own p.1 in
-    rw (c.of_laps.ensures, e.0, e.2, e.3) ((past_7 a.lap a.recorded.now p.0.p7).0, (past_7 a.lap a.recorded.now p.0.p7).1, omega (arith, o.0), o.1, p.2)
+    rw (c.of_laps.ensures, e.0, e.2, e.3) ((past_7 a.lap a.recorded.now p.0.p7).0, (past_7 a.lap a.recorded.now p.0.p7).1, omega (arith, o.0, o.1), p.2)
 
 pub returns : goal.returns
 unfolding ask_lap
