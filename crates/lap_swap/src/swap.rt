@@ -24,8 +24,8 @@ fn copy_lap(lap: Body, out: &mut [u8], to: usize)
     requires { to + 73 * lap.count ≤ length out.old }
     ensures { PutLap (commands_at lap.entry.bytes.now lap.entry.at lap.entry.count) out.old out.new to lap.entry.count }
 {
-    // Byte by byte, which the compiler makes a call of memcpy: of the library's `copy_from_slice`, of a length that is not known, it makes one of
-    // memmove, which a caller of the archive would have to bring.
+    // Byte by byte: of the library's `copy_from_slice`, of a length that is not known, the compiler makes a call of memmove, which a caller of the
+    // archive would have to bring.
     for i in 0..COMMAND_BYTES * lap.count {
         out[to + i] = lap.bytes[lap.at + i];
     }
